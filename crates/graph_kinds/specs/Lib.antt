@@ -1,0 +1,6 @@
+pub mod Stream
+pub mod Graph
+pub mod Path
+pub mod Levels
+pub mod Answer
+pub mod History

@@ -1,0 +1,73 @@
+-- Paths, and the least cost of them.
+use Rattle.std.specs.Prelude.{◌≡◌, ℕ, zero, suc, ◌+◌, ◌≤◌, ◌==◌, Bool, true, false, cond, List, [], ◌∷◌, ◌++◌, Option, Some, None, is_some, map, filter, flat_map, find, min, unwrap_or}
+use Rattle.std.specs.FinSet as set
+use Rattle.graph_kinds.specs.Graph.{Graph, has, weight_of, neighbours, key_count}
+
+-- a path from a to b: a list of keys from a to b whose neighbouring keys are pairs of the graph
+abbrev pub IsPath : Graph → ℕ → ℕ → List ℕ → Type 0
+IsPath g a b [] = ⊥
+IsPath g a b (x ∷ []) = (x ≡ a) × (x ≡ b) × (has g x ≡ true)
+IsPath g a b (x ∷ y ∷ p) = (x ≡ a) × (is_some (weight_of g x y) ≡ true) × IsPath g y b (y ∷ p)
+
+-- the cost of a path: the sum of the weights of its neighbouring pairs
+abbrev pub cost_of : Graph → List ℕ → ℕ
+cost_of g [] = 0
+cost_of g (x ∷ []) = 0
+cost_of g (x ∷ y ∷ p) = unwrap_or (weight_of g x y) 0 + cost_of g (y ∷ p)
+
+-- c is the least cost of a path from a to b
+pub record IsLeastCost (g : Graph) (a b c : ℕ) : Type 0 where
+  pub path : List ℕ
+  pub is_path : IsPath g a b path
+  pub cost : cost_of g path ≡ c
+  pub least : (p : List ℕ) → IsPath g a b p → c ≤ cost_of g p
+
+-- all paths of n pairs that start with a
+abbrev pub paths_of : Graph → ℕ → ℕ → List (List ℕ)
+paths_of g zero a = (a ∷ []) ∷ []
+paths_of g (suc n) a = flat_map (λ y. map (λ p. a ∷ p) (paths_of g n y)) (neighbours g a)
+
+-- all paths of fewer than n pairs that start with a
+abbrev pub short_paths : Graph → ℕ → ℕ → List (List ℕ)
+short_paths g zero a = []
+short_paths g (suc n) a = short_paths g n a ++ paths_of g n a
+
+-- the last key of a path is b
+abbrev pub ends_with : ℕ → List ℕ → Bool
+ends_with b [] = false
+ends_with b (x ∷ []) = x == b
+ends_with b (x ∷ y ∷ p) = ends_with b (y ∷ p)
+
+-- the least number of a list, if it has one
+abbrev pub least : List ℕ → Option ℕ
+least [] = None
+least (x ∷ xs) = Some (min x (unwrap_or (least xs) x))
+
+-- the least cost of all paths from a to b with fewer pairs than the graph has keys: a path with more
+-- pairs meets a key twice, and costs more than the path without that round
+abbrev pub least_cost : Graph → ℕ → ℕ → Option ℕ
+least_cost g a b = least (map (cost_of g) (filter (ends_with b) (short_paths g (key_count g) a)))
+
+-- the way over x is one of the cheapest ways to y
+abbrev pub reaches_by : Option ℕ → Option ℕ → Option ℕ → Bool
+reaches_by (Some c) (Some w) (Some d) = c + w == d
+reaches_by _ _ _ = false
+
+abbrev pub is_before : Graph → ℕ → ℕ → ℕ → Bool
+is_before g a y x = reaches_by (least_cost g a x) (weight_of g x y) (least_cost g a y)
+
+-- the least key that stands before y on a cheapest path from a
+abbrev pub key_before : Graph → ℕ → ℕ → Option ℕ
+key_before g a y = find (is_before g a y) (set.items g.keys)
+
+abbrev pub behind_before : (ℕ → List ℕ) → ℕ → Option ℕ → List ℕ
+behind_before back y None = y ∷ []
+behind_before back y (Some x) = back x ++ y ∷ []
+
+-- the cheapest path from a to y, found backwards: the key before y, the key before that one, until a; in n turns at most
+abbrev pub cheapest_back : Graph → ℕ → ℕ → ℕ → List ℕ
+cheapest_back g a zero y = y ∷ []
+cheapest_back g a (suc n) y = cond (y == a) (y ∷ []) (behind_before (cheapest_back g a n) y (key_before g a y))
+
+abbrev pub cheapest_path : Graph → ℕ → ℕ → List ℕ
+cheapest_path g a b = cheapest_back g a (key_count g) b

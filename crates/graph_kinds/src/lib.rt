@@ -1,0 +1,20 @@
+//! What every layer shares: calls, answers, sources and sinks, and the definitions of the graph.
+#![tactic(auto)]
+
+mod answer;
+mod call;
+mod entry;
+mod mem_sink;
+mod mem_source;
+mod outcome;
+mod sink;
+mod source;
+
+pub use answer::{Answer, Keys, Memory};
+pub use call::{Call, Row};
+pub use entry::{Class, Entry};
+pub use mem_sink::MemSink;
+pub use mem_source::MemSource;
+pub use outcome::Outcome;
+pub use sink::{Sink, WriteAnswer};
+pub use source::{ReadAnswer, Source};
