@@ -1,0 +1,98 @@
+-- Where the words of one table stand. The meeting word comes first, at place 0: it is loaded by tokens that
+-- split or join, and never changes. Then come the number of caller numbers drawn, the epoch, the free list,
+-- an announcement for each caller, a head for each bucket, and four words for each node.
+use Rattle.std.specs.Prelude.{ℕ, ◌+◌, ◌*◌, ◌<◌, ◌≤◌}
+
+-- how many callers, nodes and buckets a table has
+pub record Sizes : Type 0 where
+  pub callers : ℕ
+  pub nodes : ℕ
+  pub buckets : ℕ
+
+-- sizes within the limits
+pub record IsLayout (sizes : Sizes) : Type 0 where
+  pub some_callers : 1 ≤ sizes.callers
+  pub few_callers : sizes.callers ≤ 16
+  pub some_nodes : 1 ≤ sizes.nodes
+  pub few_nodes : sizes.nodes ≤ 65536
+  pub some_buckets : 1 ≤ sizes.buckets
+  pub few_buckets : sizes.buckets ≤ 65536
+
+-- how many words the table has
+abbrev pub word_count : Sizes → ℕ
+word_count sizes = 4 + sizes.callers + sizes.buckets + 4 * sizes.nodes
+
+-- the number of caller numbers drawn
+abbrev pub number_at : Sizes → ℕ
+number_at sizes = 1
+
+-- the epoch
+abbrev pub epoch_at : Sizes → ℕ
+epoch_at sizes = 2
+
+-- the link to the first free node
+abbrev pub free_at : Sizes → ℕ
+free_at sizes = 3
+
+-- the announcement of a caller
+abbrev pub announce_at : Sizes → ℕ → ℕ
+announce_at sizes caller = 4 + caller
+
+-- the link to the first vertex of a bucket
+abbrev pub bucket_at : Sizes → ℕ → ℕ
+bucket_at sizes bucket = 4 + sizes.callers + bucket
+
+-- the key of a node
+abbrev pub key_at : Sizes → ℕ → ℕ
+key_at sizes index = 4 + sizes.callers + sizes.buckets + 4 * index
+
+-- the link of a node to the next
+abbrev pub link_at : Sizes → ℕ → ℕ
+link_at sizes index = 4 + sizes.callers + sizes.buckets + 4 * index + 1
+
+-- the second word of a node: a vertex's link to its first edge, or an edge's target
+abbrev pub second_at : Sizes → ℕ → ℕ
+second_at sizes index = 4 + sizes.callers + sizes.buckets + 4 * index + 2
+
+-- the third word of a node: a vertex's counter of edge changes, or an edge's weight
+abbrev pub third_at : Sizes → ℕ → ℕ
+third_at sizes index = 4 + sizes.callers + sizes.buckets + 4 * index + 3
+
+-- the words of a table by their names
+pub data Place : Type 0 where
+  Meeting : Place
+  Number : Place
+  Epoch : Place
+  Free : Place
+  Announce : ℕ → Place
+  Bucket : ℕ → Place
+  Key : ℕ → Place
+  Link : ℕ → Place
+  Second : ℕ → Place
+  Third : ℕ → Place
+
+-- a name that a table of these sizes has
+abbrev pub IsPlace : Sizes → Place → Type 0
+IsPlace sizes Meeting = Unit {0}
+IsPlace sizes Number = Unit {0}
+IsPlace sizes Epoch = Unit {0}
+IsPlace sizes Free = Unit {0}
+IsPlace sizes (Announce caller) = caller < sizes.callers
+IsPlace sizes (Bucket bucket) = bucket < sizes.buckets
+IsPlace sizes (Key index) = index < sizes.nodes
+IsPlace sizes (Link index) = index < sizes.nodes
+IsPlace sizes (Second index) = index < sizes.nodes
+IsPlace sizes (Third index) = index < sizes.nodes
+
+-- where the word of a name stands
+abbrev pub place_of : Sizes → Place → ℕ
+place_of sizes Meeting = 0
+place_of sizes Number = number_at sizes
+place_of sizes Epoch = epoch_at sizes
+place_of sizes Free = free_at sizes
+place_of sizes (Announce caller) = announce_at sizes caller
+place_of sizes (Bucket bucket) = bucket_at sizes bucket
+place_of sizes (Key index) = key_at sizes index
+place_of sizes (Link index) = link_at sizes index
+place_of sizes (Second index) = second_at sizes index
+place_of sizes (Third index) = third_at sizes index
