@@ -24,6 +24,10 @@ graph_code =
 abbrev pub empty_graph : Graph
 empty_graph = record { keys = set.empty; pairs = map.empty }
 
+-- the keys, by rising key
+abbrev pub sorted_keys : Graph → List ℕ
+sorted_keys g = map.keys g.keys
+
 -- whether k is a key
 abbrev pub has : Graph → ℕ → Bool
 has g k = set.contains g.keys k

@@ -33,6 +33,10 @@ item_by p = record { caller = p.0.caller; call = p.0.call; reply = Some p.1 }
 abbrev pub answered : List Row → List Answer → List Item
 answered rows replies = map item_by (zip rows replies)
 
+-- the calls of rows, in order
+abbrev pub calls_of : List Row → List Call
+calls_of rows = map (λ (r : Row). r.call) rows
+
 -- a history holds the rows with these answers, one item each and no other, those of each caller in the order of the rows
 pub record IsInterleaving (rows : List Row) (replies : List Answer) (h : List Item) : Type 0 where
   pub one_each : length replies ≡ length rows

@@ -4,6 +4,7 @@
 mod answer;
 mod call;
 mod entry;
+mod laws;
 mod mem_sink;
 mod mem_source;
 mod outcome;
@@ -13,6 +14,9 @@ mod source;
 pub use answer::{Answer, Keys, Memory};
 pub use call::{Call, Row};
 pub use entry::{Class, Entry};
+pub use laws::{
+    calls_add_at_most_one, calls_keep_graphs, graphs_are_extensional, replays_are_legal,
+};
 pub use mem_sink::MemSink;
 pub use mem_source::MemSource;
 pub use outcome::Outcome;

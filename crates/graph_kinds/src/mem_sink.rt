@@ -79,3 +79,28 @@ impl Sink for MemSink {
         WriteAnswer::Took(n as u32)
     }
 }
+
+#[cfg(test)]
+mod tests {
+    use super::*;
+    use std::test::Fail;
+
+    #[test]
+    fn writes_go_in_pieces_and_fail_where_listed_or_full(rt: HostRuntime) -> Result<(), Fail> {
+        let alloc = rt.alloc();
+        let mut sink = MemSink::new(alloc, 5, 2, [3].to_vec(alloc)?)?;
+        let answers = [
+            (b"abc".as_slice(), WriteAnswer::Took(2)),
+            (b"c".as_slice(), WriteAnswer::Took(1)),
+            (b"de".as_slice(), WriteAnswer::Failed),
+            (b"de".as_slice(), WriteAnswer::Took(2)),
+            (b"f".as_slice(), WriteAnswer::Failed),
+        ];
+        for (from, answer) in answers {
+            assert_eq!(rt; sink.write(from), answer);
+        }
+        assert_eq!(rt; sink.bytes(), b"abcde".as_slice());
+        assert_eq!(rt; sink.faults(), 2);
+        Ok(())
+    }
+}

@@ -75,3 +75,32 @@ impl Source for MemSource {
         ReadAnswer::Got(n as u32)
     }
 }
+
+#[cfg(test)]
+mod tests {
+    use super::*;
+    use std::test::Fail;
+
+    #[test]
+    fn reads_come_in_pieces_and_fail_where_listed(rt: HostRuntime) -> Result<(), Fail> {
+        let alloc = rt.alloc();
+        let failing = [2, 5].to_vec(alloc)?;
+        let mut source = MemSource::new(b"abcde".to_vec(alloc)?, 2, failing);
+        let answers = [
+            (ReadAnswer::Got(2), b"ab".as_slice()),
+            (ReadAnswer::Failed, b"".as_slice()),
+            (ReadAnswer::Got(2), b"cd".as_slice()),
+            (ReadAnswer::Got(1), b"e".as_slice()),
+            (ReadAnswer::Failed, b"".as_slice()),
+            (ReadAnswer::End, b"".as_slice()),
+            (ReadAnswer::End, b"".as_slice()),
+        ];
+        for (answer, bytes) in answers {
+            let mut into = [0; 4];
+            assert_eq!(rt; source.read(&mut into), answer);
+            assert!(rt; into.starts_with(bytes));
+        }
+        assert_eq!(rt; source.faults(), 2);
+        Ok(())
+    }
+}
