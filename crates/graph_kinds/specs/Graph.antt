@@ -1,5 +1,6 @@
 -- The graph: a finite set of keys, and a finite map from pairs of these keys to weights of at least 1.
 use Rattle.std.specs.Prelude.{◌≡◌, ℕ, ◌≤◌, ◌==◌, Bool, true, List, Option, Some, None, cond, filter_map}
+use Rattle.std.specs.Prelude.{map as list_map}
 use Rattle.std.specs.declared.cmp.Ordering.{Ordering}
 use Rattle.std.specs.Ordering.{nat_cmp, then_cmp, on}
 use Rattle.std.specs.Coded.{Coded, code_by, coded×, coded_ℕ}
@@ -24,9 +25,9 @@ graph_code =
 abbrev pub empty_graph : Graph
 empty_graph = record { keys = set.empty; pairs = map.empty }
 
--- the keys, by rising key
+-- the keys, by rising key: as an ordered map has them
 abbrev pub sorted_keys : Graph → List ℕ
-sorted_keys g = map.keys g.keys
+sorted_keys g = map.keys (map.from_entries {X = Unit {0}} {R = nat_cmp} (list_map (λ k. (k, tt)) (set.items g.keys)))
 
 -- whether k is a key
 abbrev pub has : Graph → ℕ → Bool
