@@ -21,7 +21,8 @@ pub pack-parts : (word : ℕ) → pack (index_of word) (mark_of word) (tag_of wo
 pack-parts word = omega arith
 
 -- two words with the same parts are one
-pub same_parts : (word other : ℕ) → index_of word ≡ index_of other → mark_of word ≡ mark_of other → tag_of word ≡ tag_of other → word ≡ other
+pub same_parts : (word other : ℕ)
+    → index_of word ≡ index_of other → mark_of word ≡ mark_of other → tag_of word ≡ tag_of other → word ≡ other
 same_parts word other index mark tag = omega arith
 
 -- the index of a word, below its limit
@@ -65,7 +66,8 @@ pub with_mark-twice : (word : ℕ) → with_mark (with_mark word) ≡ with_mark 
 with_mark-twice word = omega arith
 
 -- marking a packed word
-pub with_mark-pack : (index mark tag : ℕ) → index < 2 ^ 24 → mark < 2 → with_mark (pack index mark tag) ≡ pack index 1 tag
+pub with_mark-pack : (index mark tag : ℕ)
+    → index < 2 ^ 24 → mark < 2 → with_mark (pack index mark tag) ≡ pack index 1 tag
 with_mark-pack index mark tag small bit = omega arith
 
 -- a word of 64 bits keeps 64 bits
@@ -83,10 +85,14 @@ or_bit (suc (suc a)) h = absurd (omega arith)
 or_one : (a : ℕ) → bit_or a 1 ≡ a / 2 * 2 + 1
 or_one a =
     let e : a / 2 * 2 + a % 2 ≡ a = omega arith in
-    ap (λ (x : ℕ). bit_or x 1) (sym e) ∙ (or_block 1 (a / 2) 0 (a % 2) 1 (omega arith) (lit< tt) ∙ omega (arith, or_zero (a / 2), or_bit (a % 2) (omega arith)))
+    let block = or_block 1 (a / 2) 0 (a % 2) 1 (omega arith) (lit< tt) in
+    ap (λ (x : ℕ). bit_or x 1) (sym e) ∙ (block ∙ omega (arith, or_zero (a / 2), or_bit (a % 2) (omega arith)))
 
 -- to set the mark's bit is to mark
 pub bit_or-mark : (word : ℕ) → bit_or word 16777216 ≡ with_mark word
 bit_or-mark word =
     let e : word / 16777216 * 16777216 + word % 16777216 ≡ word = omega arith in
-    ap (λ (x : ℕ). bit_or x 16777216) (sym e) ∙ (or_block 24 (word / 16777216) 1 (word % 16777216) 0 (omega arith) (lit< tt) ∙ omega (arith, or_one (word / 16777216), or_zero (word % 16777216)))
+    let block = or_block 24 (word / 16777216) 1 (word % 16777216) 0 (omega arith) (lit< tt) in
+    let high = or_one (word / 16777216) in
+    let low = or_zero (word % 16777216) in
+    ap (λ (x : ℕ). bit_or x 16777216) (sym e) ∙ (block ∙ omega arith)

@@ -1,10 +1,12 @@
 -- Laws of the places: no two words meet, all lie within the table, and there are no others.
 use Rattle.std.proofs.Common.{◌≡◌, ℕ, zero, suc, ◌+◌, ◌-◌, ◌/◌, ◌%◌, ◌<◌, ◌≤◌, refl, ap, arith, ⊎_elim}
 use Rattle.std.proofs.lemmas.Bool.{cases_lt, cases_eq}
-use Rattle.packed_link.specs.Layout.{Sizes, Place, Meeting, Number, Epoch, Free, Announce, Bucket, Key, Link, Second, Third, IsPlace, place_of, word_count}
+use Rattle.packed_link.specs.Layout.{Sizes, Place, IsPlace, place_of, word_count}
+use Rattle.packed_link.specs.Layout.{Meeting, Number, Epoch, Free, Announce, Bucket, Key, Link, Second, Third}
 
 -- two names of one word are one name
-pub place_of-injective : (sizes : Sizes) (p q : Place) → IsPlace sizes p → IsPlace sizes q → place_of sizes p ≡ place_of sizes q → p ≡ q
+pub place_of-injective : (sizes : Sizes) (p q : Place)
+    → IsPlace sizes p → IsPlace sizes q → place_of sizes p ≡ place_of sizes q → p ≡ q
 place_of-injective sizes Meeting Meeting hp hq same = refl
 place_of-injective sizes Number Number hp hq same = refl
 place_of-injective sizes Epoch Epoch hp hq same = refl
@@ -47,8 +49,10 @@ named_word sizes i low high =
 -- a place behind the counters
 named_list : (sizes : Sizes) (i : ℕ) → 4 ≤ i → i < word_count sizes → Named sizes i
 named_list sizes i low high =
-    ⊎_elim (λ (announcement : i < 4 + sizes.callers). (Announce (i - 4), omega arith, omega arith)) (λ (behind : 4 + sizes.callers ≤ i).
-    ⊎_elim (λ (bucket : i < 4 + sizes.callers + sizes.buckets). (Bucket (i - 4 - sizes.callers), omega arith, omega arith))
+    ⊎_elim (λ (announcement : i < 4 + sizes.callers). (Announce (i - 4), omega arith, omega arith))
+    (λ (behind : 4 + sizes.callers ≤ i).
+    ⊎_elim (λ (bucket : i < 4 + sizes.callers + sizes.buckets).
+    (Bucket (i - 4 - sizes.callers), omega arith, omega arith))
     (λ (node : 4 + sizes.callers + sizes.buckets ≤ i). named_word sizes i node high)
     (cases_lt i (4 + sizes.callers + sizes.buckets))) (cases_lt i (4 + sizes.callers))
 

@@ -1,0 +1,78 @@
+-- Freezing goes from the head on, one word after another, and at the end nothing on the chain can change.
+use Rattle.std.proofs.Common.{◌≡◌, ◌≢◌, ℕ, sym, ap, ◌∙◌, subst, arith}
+use Rattle.packed_link.specs.Link.{nowhere}
+use Rattle.core_chain.specs.Chain.{Chain, Position, Head, Node, IsOn, IsChain, Precedes, rank_of}
+use Rattle.core_chain.specs.Steps.{SetsMark, Freezes, Untouched, IsFrozenTo}
+use Rattle.core_chain.specs.Steps.{Step, insert, mark, unlink, freeze_head, freeze}
+use Rattle.core_chain.proofs.Orders.{if_same, by_rank, LeadsTo, rank_of-changed}
+use Rattle.core_chain.proofs.Marks.{IsOn-back, Keeps-marked, next-marked}
+
+-- only the head doesn't stand behind the head
+frozen_head : (d : Chain) → d.mark Head ≡ 1 → (q : Position) → (Precedes d Head q → ⊥) → d.mark q ≡ 1
+frozen_head d marked Head h = marked
+frozen_head d marked (Node x) h = absurd (h (omega arith))
+
+-- the frozen head is a frozen part
+pub IsFrozenTo-head : (c d : Chain) → SetsMark c d Head → IsFrozenTo d Head
+IsFrozenTo-head c d step = record { present = tt; marks = λ q on not_behind. frozen_head d step.marked q not_behind }
+
+-- the node to which a frozen part leads is on the chain
+led_on : (c : Chain) (p : Position) (x : ℕ) → IsChain c → IsFrozenTo c p → x ≢ nowhere → c.next p ≡ x → LeadsTo c p x
+led_on c p x chain frozen named led =
+    subst (LeadsTo c p) led (chain.leads p frozen.present (λ none. named (sym led ∙ none)))
+
+module _ (c d : Chain) (p : Position) (x : ℕ) (chain : IsChain c) (step : Freezes c d p x) where
+  there : LeadsTo c p x
+  there = led_on c p x chain step.frozen step.named step.led
+
+  -- what stands no further than the node is the node, or was frozen before
+  marks : (q : Position) → IsOn c q → (Precedes c (Node x) q → ⊥) → d.mark q ≡ 1
+  marks q on not_behind =
+      let after = there.1 in
+      let led : rank_of c (Node (c.next p)) ≡ rank_of c (Node x) = ap (λ (y : ℕ). rank_of c (Node y)) step.led in
+      by_rank c q (Node x) (λ e. ap d.mark (chain.alone q (Node x) on there.0 e) ∙ step.sets.marked)
+      (λ low. (Keeps-marked c d (Node x) chain step.sets).marks q
+      (step.frozen.marks q on (λ f. absurd (chain.gap p q step.frozen.present on f (omega arith)))))
+      (λ high. absurd (not_behind high))
+
+  -- the frozen part reaches to the node
+  pub IsFrozenTo-node : IsFrozenTo d (Node x)
+  IsFrozenTo-node = record {
+    present = step.sets.nodes x ∙ there.0;
+    marks = λ q on not_behind.
+        let rank_q = rank_of-changed c d (Node x) step.sets.words q in
+        let rank_x = rank_of-changed c d (Node x) step.sets.words (Node x) in
+        marks q (IsOn-back c d step.sets.nodes q on) (λ h. not_behind (omega arith));
+  }
+
+-- where the frozen part ends the chain, each word is marked
+pub mark-at_end : (c : Chain) (p : Position)
+    → IsChain c → IsFrozenTo c p → c.next p ≡ nowhere → (q : Position) → IsOn c q → c.mark q ≡ 1
+mark-at_end c p chain frozen none q on = frozen.marks q on (λ after. chain.last p q frozen.present on after none)
+
+-- marking a marked word changes nothing
+marked_before : (c d : Chain) (p : Position) → SetsMark c d p → c.mark p ≡ 1 → Untouched c d
+marked_before c d p step old = record {
+  nodes = step.nodes;
+  key = λ x on. step.words.key x;
+  next = λ q on. next-marked c d p step q;
+  mark = λ q on.
+      if_same q p (λ at. ap d.mark at ∙ (step.marked ∙ (sym old ∙ ap c.mark (sym at)))) (λ ne. step.words.mark q ne);
+}
+
+-- no step changes a chain that is frozen to its end
+pub Untouched-frozen : (c d : Chain) (p : Position)
+    → IsChain c → IsFrozenTo c p → c.next p ≡ nowhere → Step c d → Untouched c d
+Untouched-frozen c d p chain frozen none (insert at node step) =
+    let a = mark-at_end c p chain frozen none at step.can.passes.present in
+    let b = step.can.unmarked in absurd (omega arith)
+Untouched-frozen c d p chain frozen none (mark node step) =
+    marked_before c d (Node node) step.sets (mark-at_end c p chain frozen none (Node node) step.present)
+Untouched-frozen c d p chain frozen none (unlink at node step) =
+    let a = mark-at_end c p chain frozen none at step.can.present in
+    let b = step.can.unmarked in absurd (omega arith)
+Untouched-frozen c d p chain frozen none (freeze_head step) =
+    marked_before c d Head step (mark-at_end c p chain frozen none Head tt)
+Untouched-frozen c d p chain frozen none (freeze end node step) =
+    let on = (led_on c end node chain step.frozen step.named step.led).0 in
+    marked_before c d (Node node) step.sets (mark-at_end c p chain frozen none (Node node) on)

@@ -1,0 +1,9 @@
+pub mod Freezes
+pub mod Inserts
+pub mod Kept
+pub mod Marks
+pub mod Meets
+pub mod Orders
+pub mod Tables
+pub mod Unlinks
+pub mod Walks

@@ -1,0 +1,252 @@
+-- A chain is what one meets from its head.
+use Rattle.std.proofs.Common.{◌≡◌, ◌≢◌, ◌⊎◌, ◌↔◌, ℕ, zero, suc, ◌+◌, ◌<◌, ◌≤◌, List, [], ◌∷◌, get_or}
+use Rattle.std.proofs.Common.{refl, sym, ap, ◌∙◌, subst, arith, ⊎_elim, inl, inr}
+use Rattle.std.specs.Prelude.{AllPairs, Contains}
+use Rattle.std.proofs.lemmas.List.Elements.{Contains-get_or}
+use Rattle.packed_link.specs.Link.{nowhere}
+use Rattle.core_chain.specs.Chain.{Chain, Position, Head, Node, IsOn, IsChain, Precedes, rank_of}
+use Rattle.core_chain.specs.Met.{Meets, Rises, IsMet}
+use Rattle.core_chain.proofs.Orders.{if_equal, by_rank, LeadsTo, NotPast, IsChain-by}
+
+-- nothing is in no list
+Contains-none : (x : ℕ) → Contains [] x → ⊥
+Contains-none x at = let low = at.1 in omega arith
+
+-- the first element
+Contains-here : (x y : ℕ) (xs : List ℕ) → y ≡ x → Contains (y ∷ xs) x
+Contains-here x y xs same = (0, omega arith, same)
+
+-- a later element
+Contains-later : (x y : ℕ) (xs : List ℕ) → Contains xs x → Contains (y ∷ xs) x
+Contains-later x y xs at = (suc at.0, omega (arith, at.1), at.2)
+
+-- an element is the first or a later one
+Contains-cases : (x y : ℕ) (xs : List ℕ) → Contains (y ∷ xs) x → (y ≡ x) ⊎ Contains xs x
+Contains-cases x y xs (zero, low, at) = inl at
+Contains-cases x y xs (suc k, low, at) = inr (k, omega arith, at)
+
+-- what holds of an element, where it is the first and where it is a later one
+by_place : {P : Type 0} (x y : ℕ) (xs : List ℕ) → Contains (y ∷ xs) x → (y ≡ x → P) → (Contains xs x → P) → P
+by_place x y xs at first later = ⊎_elim first later (Contains-cases x y xs at)
+
+-- each of the nodes stands behind the word
+Rises-behind : (c : Chain) (p : Position) (xs : List ℕ) (x : ℕ) → Rises c p xs → Contains xs x → Precedes c p (Node x)
+Rises-behind c p [] x rising at = absurd (Contains-none x at)
+Rises-behind c p (y ∷ ys) x rising at =
+    let first = rising.0 in
+    by_place x y ys at (λ e. let a : c.key y ≡ c.key x = ap c.key e in omega arith)
+    (λ later. let a = Rises-behind c (Node y) ys x rising.1 later in omega arith)
+
+-- the first of the rising nodes has the least key
+first_least : (c : Chain) (p : Position) (y : ℕ) (ys : List ℕ) (x : ℕ)
+    → Rises c p (y ∷ ys) → Contains ys x → c.key y < c.key x
+first_least c p y ys x rising later = let a = Rises-behind c (Node y) ys x rising.1 later in omega arith
+
+-- rising nodes are met once each
+Rises-once : (c : Chain) (p : Position) (xs : List ℕ) → Rises c p xs → AllPairs ◌≢◌ xs
+Rises-once c p [] rising i j d low high = absurd (omega arith)
+Rises-once c p (y ∷ ys) rising i zero d low high = absurd (omega arith)
+Rises-once c p (y ∷ ys) rising zero (suc j) d low high = λ e.
+    let a = first_least c p y ys (get_or ys j d) rising (Contains-get_or ys j d (omega arith)) in
+    let b : c.key y ≡ c.key (get_or ys j d) = ap c.key e in omega arith
+Rises-once c p (y ∷ ys) rising (suc i) (suc j) d low high =
+    Rises-once c (Node y) ys rising.1 i j d (omega arith) (omega arith)
+
+-- the nodes are those on the chain that stand behind the word
+abbrev pub AreBehind : Chain → Position → List ℕ → Type 0
+AreBehind c p xs = (x : ℕ) → LeadsTo c p x ↔ Contains xs x
+
+-- what is met from a word of a chain rises, is on it, and is all that stands behind the word
+pub met_behind : (c : Chain) (p : Position) (xs : List ℕ)
+    → IsChain c → IsOn c p → Meets c p xs → Rises c p xs × AreBehind c p xs
+met_behind c p [] chain on none =
+    (tt, λ x. (λ h. absurd (chain.last p (Node x) on h.0 h.1 none), λ at. absurd (Contains-none x at)))
+met_behind c p (y ∷ ys) chain on met =
+    let some : c.next p ≢ nowhere = λ e. met.1 (sym met.0 ∙ e) in
+    let first : LeadsTo c p y = subst (LeadsTo c p) met.0 (chain.leads p on some) in
+    let after = first.1 in
+    let rest = met_behind c (Node y) ys chain first.0 met.2 in
+    let led : c.key (c.next p) ≡ c.key y = ap c.key met.0 in (
+      (first.1, rest.0),
+      λ x. (
+        λ h.
+            let a = h.1 in
+            let b = chain.gap p (Node x) on h.0 h.1 in
+            by_rank c (Node y) (Node x)
+            (λ e. let at : Node y ≡ Node x = chain.alone (Node y) (Node x) first.0 h.0 e in Contains-here x y ys (cc))
+            (λ low. Contains-later x y ys ((rest.1 x).0 (h.0, low)))
+            (λ high. absurd (b (omega arith))),
+        λ at. by_place x y ys at (λ e. subst (LeadsTo c p) e first)
+            (λ later. let g = (rest.1 x).1 later in let g1 = g.1 in (g.0, omega arith)),
+      ),
+    )
+
+-- the nodes that one meets from the head of a chain are those on it
+pub IsMet-from_Meets : (c : Chain) (xs : List ℕ) → IsChain c → Meets c Head xs → IsMet c xs
+IsMet-from_Meets c xs chain met =
+    let all = met_behind c Head xs chain tt met in
+    record {
+      met = met;
+      rising = all.0;
+      once = Rises-once c Head xs all.0;
+      exactly = λ x. (λ on. (all.1 x).0 (on, omega arith), λ at. ((all.1 x).1 at).0);
+    }
+
+-- one meets one list only
+pub Meets-unique : (c : Chain) (p : Position) (xs ys : List ℕ) → Meets c p xs → Meets c p ys → xs ≡ ys
+Meets-unique c p [] [] one other = refl
+Meets-unique c p [] (y ∷ ys) none other = absurd (other.1 (sym other.0 ∙ none))
+Meets-unique c p (x ∷ xs) [] one none = absurd (one.1 (sym one.0 ∙ none))
+Meets-unique c p (x ∷ xs) (y ∷ ys) one other =
+    let same : x ≡ y = sym one.0 ∙ other.0 in
+    let rest : Meets c (Node x) ys = subst (λ (z : ℕ). Meets c (Node z) ys) (sym same) other.2 in
+    let tail = Meets-unique c (Node x) xs ys one.2 rest in
+    cc
+
+-- a bound on the values at the places below a number: their sum
+most : (ℕ → ℕ) → ℕ → ℕ
+most f zero = 0
+most f (suc n) = f n + most f n
+
+most-bound : (f : ℕ → ℕ) (n x : ℕ) → x < n → f x ≤ most f n
+unfolding most
+most-bound f zero x low = absurd (omega arith)
+most-bound f (suc n) x low =
+    if_equal x n (λ e. let a : f x ≡ f n = ap f e in omega arith)
+    (λ ne. let a = most-bound f n x (omega arith) in omega arith)
+
+-- the keys on a chain have a bound
+abbrev KeysUpto : Chain → ℕ → Type 0
+KeysUpto c bound = (x : ℕ) → IsOn c (Node x) → c.key x ≤ bound
+
+-- a word stands at most one place behind the greatest key
+rank_of-bound : (c : Chain) (bound : ℕ) → KeysUpto c bound → (p : Position) → IsOn c p → rank_of c p ≤ bound + 1
+rank_of-bound c bound keys Head on = omega arith
+rank_of-bound c bound keys (Node x) on = omega (arith, keys x on)
+
+-- from a word of a chain with bounded keys one meets some list
+met_within : (c : Chain) (bound steps : ℕ) (p : Position) → IsChain c → KeysUpto c bound → IsOn c p
+    → bound + 2 ≤ steps + rank_of c p → (xs : List ℕ) × Meets c p xs
+met_within c bound zero p chain keys on enough = absurd (omega (arith, rank_of-bound c bound keys p on))
+met_within c bound (suc steps) p chain keys on enough =
+    if_equal (c.next p) nowhere (λ none. ([], none)) (λ some.
+    let to = chain.leads p on some in
+    let after = to.1 in
+    let rest = met_within c bound steps (Node (c.next p)) chain keys to.0 (omega arith) in
+    (c.next p ∷ rest.0, (refl, some, rest.1)))
+
+-- a chain of finitely many nodes is met
+pub IsMet-from_chain : (c : Chain) (size : ℕ)
+    → IsChain c → ((x : ℕ) → IsOn c (Node x) → x < size) → (xs : List ℕ) × IsMet c xs
+IsMet-from_chain c size chain within =
+    let bound : ℕ = most c.key size in
+    let keys : KeysUpto c bound = λ x on. most-bound c.key size x (within x on) in
+    let found = met_within c bound (bound + 2) Head chain keys tt (omega arith) in
+    (found.0, IsMet-from_Meets c found.0 chain found.1)
+
+-- a node that is met names a node
+Meets-named : (c : Chain) (p : Position) (xs : List ℕ) (x : ℕ) → Meets c p xs → Contains xs x → x ≢ nowhere
+Meets-named c p [] x met at = absurd (Contains-none x at)
+Meets-named c p (y ∷ ys) x met at =
+    by_place x y ys at (λ e. λ none. met.1 (e ∙ none)) (λ later. Meets-named c (Node y) ys x met.2 later)
+
+-- a word leads to one of the nodes, behind itself
+abbrev LedAmong : Chain → Position → List ℕ → ℕ → Type 0
+LedAmong c p xs x = Contains xs x × Precedes c p (Node x)
+
+-- the first of them
+first_led : (c : Chain) (p : Position) (xs : List ℕ)
+    → Meets c p xs → Rises c p xs → c.next p ≢ nowhere → LedAmong c p xs (c.next p)
+first_led c p [] met rising some = absurd (some met)
+first_led c p (y ∷ ys) met rising some = subst (LedAmong c p (y ∷ ys)) (sym met.0) (Contains-here y y ys refl, rising.0)
+
+led : (c : Chain) (p : Position) (xs : List ℕ) (x : ℕ)
+    → Meets c p xs → Rises c p xs → Contains xs x → c.next (Node x) ≢ nowhere → LedAmong c (Node x) xs (c.next (Node x))
+led c p [] x met rising at some = absurd (Contains-none x at)
+led c p (y ∷ ys) x met rising at some =
+    by_place x y ys at (λ e.
+    let P : ℕ → Type 0 = λ z. c.next (Node z) ≢ nowhere → LedAmong c (Node z) (y ∷ ys) (c.next (Node z)) in
+    let here : P y = λ some_y.
+    let h = first_led c (Node y) ys met.2 rising.1 some_y in (Contains-later (c.next (Node y)) y ys h.0, h.1) in
+    subst P e here some) (λ later.
+    let h = led c (Node y) ys x met.2 rising.1 later some in (Contains-later (c.next (Node x)) y ys h.0, h.1))
+
+-- a word leads no further than to any of the nodes behind it
+first_gap : (c : Chain) (p : Position) (xs : List ℕ) (x : ℕ)
+    → Meets c p xs → Rises c p xs → Contains xs x → NotPast c (Node x) (c.next p)
+first_gap c p [] x met rising at = absurd (Contains-none x at)
+first_gap c p (y ∷ ys) x met rising at = subst (NotPast c (Node x)) (sym met.0) (
+  met.1,
+  by_place x y ys at (λ e. let a : c.key y ≡ c.key x = ap c.key e in λ f. omega arith)
+      (λ later. let a = first_least c p y ys x rising later in λ f. omega arith),
+)
+
+met_gap : (c : Chain) (p : Position) (xs : List ℕ) (x y : ℕ) → Meets c p xs → Rises c p xs
+    → Contains xs x → Contains xs y → Precedes c (Node x) (Node y) → NotPast c (Node y) (c.next (Node x))
+met_gap c p [] x y met rising at to before = absurd (Contains-none x at)
+met_gap c p (z ∷ zs) x y met rising at to before =
+    by_place x z zs at (λ e.
+    let a : c.key z ≡ c.key x = ap c.key e in
+    let P : ℕ → Type 0 = λ w. NotPast c (Node y) (c.next (Node w)) in
+    let later = by_place y z zs to (λ e'. let b : c.key z ≡ c.key y = ap c.key e' in absurd (omega arith)) (λ h. h) in
+    subst P e (first_gap c (Node z) zs y met.2 rising.1 later)) (λ at'.
+    let a = first_least c p z zs x rising at' in
+    let later = by_place y z zs to (λ e'. let b : c.key z ≡ c.key y = ap c.key e' in absurd (omega arith)) (λ h. h) in
+    met_gap c (Node z) zs x y met.2 rising.1 at' later before)
+
+-- two of the rising nodes with one key are one
+met_alone : (c : Chain) (p : Position) (xs : List ℕ) (x y : ℕ)
+    → Rises c p xs → Contains xs x → Contains xs y → c.key x ≡ c.key y → x ≡ y
+met_alone c p [] x y rising at to same = absurd (Contains-none x at)
+met_alone c p (z ∷ zs) x y rising at to same =
+    by_place x z zs at (λ e.
+    let a : c.key z ≡ c.key x = ap c.key e in
+    by_place y z zs to (λ e'. sym e ∙ e')
+    (λ later. let b = first_least c p z zs y rising later in absurd (omega arith))) (λ at'.
+    let a = first_least c p z zs x rising at' in
+    by_place y z zs to (λ e'. let b : c.key z ≡ c.key y = ap c.key e' in absurd (omega arith))
+    (λ later. met_alone c (Node z) zs x y rising.1 at' later same))
+
+module _ (c : Chain) (xs : List ℕ) (met : IsMet c xs) where
+  met_leads : (p : Position) → IsOn c p → c.next p ≢ nowhere → LeadsTo c p (c.next p)
+  met_leads Head on some =
+      let h = first_led c Head xs met.met met.rising some in ((met.exactly (c.next Head)).1 h.0, h.1)
+  met_leads (Node x) on some =
+      let h = led c Head xs x met.met met.rising ((met.exactly x).0 on) some in
+      ((met.exactly (c.next (Node x))).1 h.0, h.1)
+
+  met_upto : (p q : Position) → IsOn c p → IsOn c q → Precedes c p q → NotPast c q (c.next p)
+  met_upto p Head on_p on_q before = absurd (omega arith)
+  met_upto Head (Node y) on_p on_q before = first_gap c Head xs y met.met met.rising ((met.exactly y).0 on_q)
+  met_upto (Node x) (Node y) on_p on_q before =
+      met_gap c Head xs x y met.met met.rising ((met.exactly x).0 on_p) ((met.exactly y).0 on_q) before
+
+  met_apart : (p q : Position) → IsOn c p → IsOn c q → rank_of c p ≡ rank_of c q → p ≡ q
+  met_apart Head Head on_p on_q same = refl
+  met_apart Head (Node y) on_p on_q same = absurd (omega arith)
+  met_apart (Node x) Head on_p on_q same = absurd (omega arith)
+  met_apart (Node x) (Node y) on_p on_q same =
+      ap Node (met_alone c Head xs x y met.rising ((met.exactly x).0 on_p) ((met.exactly y).0 on_q) (omega arith))
+
+  -- what is met from the head, in rising order, is a chain
+  pub IsChain-from_IsMet : IsChain c
+  IsChain-from_IsMet =
+      IsChain-by c (λ x on. Meets-named c Head xs x met.met ((met.exactly x).0 on)) met_leads met_upto met_apart
+
+-- the word from which one meets a list, or a node of it, leads to each node of it
+abbrev IsLeader : Chain → Position → List ℕ → ℕ → Position → Type 0
+IsLeader c p xs x q = ((q ≡ p) ⊎ ((y : ℕ) × Contains xs y × (q ≡ Node y))) × (c.next q ≡ x)
+
+pub leader : (c : Chain) (p : Position) (xs : List ℕ) (x : ℕ)
+    → Meets c p xs → Contains xs x → (q : Position) × IsLeader c p xs x q
+leader c p [] x met at = absurd (Contains-none x at)
+leader c p (y ∷ ys) x met at =
+    by_place x y ys at (λ e. (p, (inl refl, met.0 ∙ e))) (λ later.
+    let h = leader c (Node y) ys x met.2 later in (
+      h.0,
+      (
+        inr (⊎_elim (λ (e : h.0 ≡ Node y). (y, Contains-here y y ys refl, e))
+            (λ (f : (z : ℕ) × Contains ys z × (h.0 ≡ Node z)). (f.0, Contains-later f.0 y ys f.1, f.2)) h.1.0),
+        h.1.1,
+      ),
+    ))

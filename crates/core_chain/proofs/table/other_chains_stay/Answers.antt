@@ -1,0 +1,6 @@
+-- A write elsewhere.
+use Rattle.core_chain.proofs.Tables.{Untouched-in}
+use Rattle.core_chain.proofs.table.other_chains_stay.Goals as goal
+
+pub returns : goal.returns
+returns c = Untouched-in

@@ -1,0 +1,43 @@
+-- One marked sorted chain at one moment, as plain data (Harris 2001, Michael 2002). A chain starts at a head
+-- word, each node's link leads to the next, and the last leads to none. A marked node is still on the chain
+-- until it is unlinked.
+use Rattle.std.specs.Prelude.{◌≡◌, ◌≢◌, ℕ, ◌+◌, ◌<◌, Bool, IsTrue}
+use Rattle.packed_link.specs.Link.{nowhere}
+
+-- a word that leads on: the head of the chain, or the link of a node
+pub data Position : Type 0 where
+  Head : Position
+  Node : ℕ → Position
+
+-- a chain: which nodes are on it, the key of each node, and for each word the node that it leads to, or
+-- `nowhere`, and its mark, 0 or 1
+pub record Chain : Type 0 where
+  pub on : ℕ → Bool
+  pub key : ℕ → ℕ
+  pub next : Position → ℕ
+  pub mark : Position → ℕ
+
+-- a word of the chain: its head, or the link of a node on it
+abbrev pub IsOn : Chain → Position → Type 0
+IsOn chain Head = Unit {0}
+IsOn chain (Node x) = IsTrue (chain.on x)
+
+-- where a word stands in the order of the keys, in which the head comes first
+abbrev pub rank_of : Chain → Position → ℕ
+rank_of chain Head = 0
+rank_of chain (Node x) = chain.key x + 1
+
+-- the first word stands before the second in that order
+abbrev pub Precedes : Chain → Position → Position → Type 0
+Precedes chain p q = rank_of chain p < rank_of chain q
+
+-- what makes it a chain, said of each word on it alone: it leads to none or to a later node on the chain,
+-- nothing on the chain stands between, and no two words stand at one place of the order
+pub record IsChain (chain : Chain) : Type 0 where
+  pub named : (x : ℕ) → IsOn chain (Node x) → x ≢ nowhere
+  pub leads : (p : Position) → IsOn chain p → chain.next p ≢ nowhere
+      → IsOn chain (Node (chain.next p)) × Precedes chain p (Node (chain.next p))
+  pub last : (p q : Position) → IsOn chain p → IsOn chain q → Precedes chain p q → chain.next p ≢ nowhere
+  pub gap : (p q : Position) → IsOn chain p → IsOn chain q → Precedes chain p q
+      → Precedes chain q (Node (chain.next p)) → ⊥
+  pub alone : (p q : Position) → IsOn chain p → IsOn chain q → rank_of chain p ≡ rank_of chain q → p ≡ q

@@ -1,0 +1,21 @@
+-- A chain as a walker sees it: the nodes that one meets from the head by following the links.
+use Rattle.std.specs.Prelude.{◌≡◌, ◌≢◌, ◌↔◌, ℕ, List, [], ◌∷◌, AllPairs, Contains}
+use Rattle.packed_link.specs.Link.{nowhere}
+use Rattle.core_chain.specs.Chain.{Chain, Position, Head, Node, IsOn, Precedes}
+
+-- following the links from a word on, one meets these nodes, in this order, and then none
+abbrev pub Meets : Chain → Position → List ℕ → Type 0
+Meets chain p [] = chain.next p ≡ nowhere
+Meets chain p (x ∷ xs) = (chain.next p ≡ x) × (x ≢ nowhere) × Meets chain (Node x) xs
+
+-- each of the nodes stands before the next, and the word before the first
+abbrev pub Rises : Chain → Position → List ℕ → Type 0
+Rises chain p [] = Unit {0}
+Rises chain p (x ∷ xs) = Precedes chain p (Node x) × Rises chain (Node x) xs
+
+-- the nodes that one meets from the head are exactly those on the chain, each once, in rising order
+pub record IsMet (chain : Chain) (nodes : List ℕ) : Type 0 where
+  pub met : Meets chain Head nodes
+  pub rising : Rises chain Head nodes
+  pub once : AllPairs ◌≢◌ nodes
+  pub exactly : (x : ℕ) → IsOn chain (Node x) ↔ Contains nodes x

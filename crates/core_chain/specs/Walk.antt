@@ -1,0 +1,30 @@
+-- What a walker has in hand at a word of a chain: the place of a key, and the rest of the chain.
+use Rattle.std.specs.Prelude.{◌≢◌, ℕ, ◌<◌, ◌&&◌, nat_lt}
+use Rattle.packed_link.specs.Link.{nowhere}
+use Rattle.core_chain.specs.Chain.{Chain, Position, Head, Node, IsOn, rank_of}
+
+-- a word stands before a key: the head before every key, a node's link before those greater than its own
+abbrev pub IsBelow : Chain → Position → ℕ → Type 0
+IsBelow chain Head key = Unit {0}
+IsBelow chain (Node x) key = chain.key x < key
+
+-- a word on the chain leads past a key: it stands before the key, and leads to a node of a greater key or to
+-- none
+pub record Passes (chain : Chain) (at : Position) (key : ℕ) : Type 0 where
+  pub present : IsOn chain at
+  pub above : IsBelow chain at key
+  pub below : chain.next at ≢ nowhere → key < chain.key (chain.next at)
+
+-- the word that a word of the rest is on the whole chain: the rest has the given word as its head
+abbrev pub word_behind : Position → Position → Position
+word_behind p Head = p
+word_behind p (Node x) = Node x
+
+-- the rest of a chain, behind a word
+abbrev pub rest_behind : Chain → Position → Chain
+rest_behind chain p = record {
+  on = λ x. chain.on x && nat_lt (rank_of chain p) (rank_of chain (Node x));
+  key = chain.key;
+  next = λ q. chain.next (word_behind p q);
+  mark = λ q. chain.mark (word_behind p q);
+}

@@ -1,0 +1,38 @@
+//! What a walk along a chain may conclude of the chain at that moment.
+//!
+//! A walk that stands at a word with a smaller key, which leads to a greater key or to none, knows that the key
+//! between is absent: keys rise strictly, so nothing stands in the gap (Harris 2001).
+ghost use Rattle.std.specs.Prelude.{◌≡◌, ◌≢◌, ◌↔◌, ℕ, ◌<◌, Contains, List};
+ghost use Rattle.packed_link.specs.Link.{nowhere};
+ghost use Rattle.core_chain.specs.Chain.{Chain, IsChain, IsOn, Node, Position};
+ghost use Rattle.core_chain.specs.Met.{Meets};
+ghost use Rattle.core_chain.specs.Walk.{IsBelow, Passes, rest_behind};
+
+/// The law of absence: where a word leads past a key, no node of the key is on the chain.
+pub fn a_key_that_is_passed_is_absent()
+    ensures { (chain : Chain) (at : Position) (key x : ℕ)
+        → IsChain chain → Passes chain at key → IsOn chain (Node x) → chain.key x ≢ key }
+{}
+
+/// The law of what stands behind a word: following the links from it, one meets exactly the nodes on the chain
+/// that have a greater key. And each key is met once.
+pub fn nodes_behind_have_greater_keys()
+    ensures behind { (chain : Chain) (p : Position) (nodes : List ℕ) (x : ℕ)
+        → IsChain chain → IsOn chain p → Meets chain p nodes
+        → Contains nodes x ↔ (IsOn chain (Node x) × IsBelow chain p (chain.key x)) }
+    ensures once { (chain : Chain) (x y : ℕ)
+        → IsChain chain → IsOn chain (Node x) → IsOn chain (Node y) → chain.key x ≡ chain.key y → x ≡ y }
+{}
+
+/// The law of predecessors: exactly one word of a chain leads to each node on it.
+pub fn one_word_leads_to_a_node()
+    ensures at_most_one { (chain : Chain) (p q : Position) → IsChain chain → IsOn chain p → IsOn chain q
+        → chain.next p ≢ nowhere → chain.next p ≡ chain.next q → p ≡ q }
+    ensures some { (chain : Chain) (size x : ℕ) → IsChain chain → ((y : ℕ) → IsOn chain (Node y) → y < size)
+        → IsOn chain (Node x) → (p : Position) × IsOn chain p × (chain.next p ≡ x) }
+{}
+
+/// The law of the rest: what stands behind a word of a chain is a chain again, with that word as its head.
+pub fn the_rest_behind_a_word_is_a_chain()
+    ensures { (chain : Chain) (p : Position) → IsChain chain → IsOn chain p → IsChain (rest_behind chain p) }
+{}
