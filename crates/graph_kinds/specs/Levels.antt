@@ -1,5 +1,5 @@
 -- Breadth-first levels, and the path of first parents.
-use Rattle.std.specs.Prelude.{ℕ, zero, suc, ◌+◌, ◌==◌, Bool, not, cond, List, [], ◌∷◌, ◌++◌, Option, Some, None, is_some, filter, flat_map, find, length, unwrap_or}
+use Rattle.std.specs.Prelude.{ℕ, zero, suc, ◌+◌, ◌==◌, Bool, not, cond, List, [], ◌∷◌, ◌++◌, Option, Some, None, is_some, filter, flat_map, find, length, unwrap_or, slice_index_or}
 use Rattle.std.specs.List.{list_any}
 use Rattle.graph_kinds.specs.Graph.{Graph, weight_of, neighbours, key_count}
 
@@ -26,6 +26,10 @@ levels_from g (suc n) known (x ∷ xs) = (x ∷ xs) ∷ levels_from g n (known +
 -- the levels from a: each holds a key at least, so there are no more of them than keys
 abbrev pub levels_of : Graph → ℕ → List (List ℕ)
 levels_of g a = levels_from g (key_count g) [] (a ∷ [])
+
+-- level i, counted from 0; it is empty behind the last one
+abbrev pub level_at : List (List ℕ) → ℕ → List ℕ
+level_at levels i = slice_index_or levels i []
 
 -- for each level the number of keys up to its end
 abbrev pub level_ends : ℕ → List (List ℕ) → List ℕ

@@ -8,6 +8,7 @@ mod laws;
 mod mem_sink;
 mod mem_source;
 mod outcome;
+mod path_laws;
 mod sink;
 mod source;
 
@@ -20,5 +21,6 @@ pub use laws::{
 pub use mem_sink::MemSink;
 pub use mem_source::MemSource;
 pub use outcome::Outcome;
+pub use path_laws::levels_are_distances;
 pub use sink::{Sink, WriteAnswer};
 pub use source::{ReadAnswer, Source};

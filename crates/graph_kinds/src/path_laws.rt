@@ -1,0 +1,24 @@
+//! Laws on levels, least costs and paths: each is a function that does nothing, and its contract is the law.
+//!
+//! The rules of `specs/Levels.antt` and `specs/Path.antt` fix an order and ties. The laws say what they come to:
+//! distances, and paths than which none is shorter or cheaper.
+
+ghost use Rattle.std.specs.Prelude.{◌≡◌, ◌≢◌, ℕ, ◌<◌, ◌↔◌, true, List, [], ◌∷◌, length, AllPairs};
+ghost use Rattle.std.specs.List.{concat};
+ghost use Rattle.graph_kinds.specs.Graph.{Graph, IsGraph, has};
+ghost use Rattle.graph_kinds.specs.Path.{IsPath, IsDistance};
+ghost use Rattle.graph_kinds.specs.Levels.{stands_in, levels_of, level_at};
+
+/// Level i holds exactly the keys at distance i. The levels hold each key to which a path leads, and hold it
+/// once; no level is empty, and level 0 is the key that they start from.
+pub fn levels_are_distances()
+    ensures level { (g : Graph) (a x i : ℕ) → IsGraph g → has g a ≡ true
+        → ((stands_in (level_at (levels_of g a) i) x ≡ true) ↔ IsDistance g a x i) }
+    ensures within { (g : Graph) (a x i : ℕ) → IsGraph g → has g a ≡ true
+        → IsDistance g a x i → i < length (levels_of g a) }
+    ensures all { (g : Graph) (a x : ℕ) → IsGraph g → has g a ≡ true
+        → ((stands_in (concat (levels_of g a)) x ≡ true) ↔ ((p : List ℕ) × IsPath g a x p)) }
+    ensures once { (g : Graph) (a : ℕ) → AllPairs (λ x y. x ≢ y) (concat (levels_of g a)) }
+    ensures filled { (g : Graph) (a i : ℕ) → i < length (levels_of g a) → level_at (levels_of g a) i ≢ [] }
+    ensures start { (g : Graph) (a : ℕ) → has g a ≡ true → level_at (levels_of g a) 0 ≡ a ∷ [] }
+{}
