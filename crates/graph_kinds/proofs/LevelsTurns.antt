@@ -32,7 +32,7 @@ first_turn g a = record {
 }
 
 -- what stands in the level behind one
-after_in : (g : Graph) (known level : List ℕ) (x : ℕ) → In x (level_after g known level) → (In x known → ⊥) × ((y : ℕ) × In y level × (is_some (weight_of g y x) ≡ true))
+pub after_in : (g : Graph) (known level : List ℕ) (x : ℕ) → In x (level_after g known level) → (In x known → ⊥) × ((y : ℕ) × In y level × (is_some (weight_of g y x) ≡ true))
 after_in g known level x h =
     let all = flat_map (neighbours g) level in
     let f = filter_in (λ (y : ℕ). not (stands_in known y)) x all (firsts_in x _ h) in

@@ -3,11 +3,11 @@
 //! The rules of `specs/Levels.antt` and `specs/Path.antt` fix an order and ties. The laws say what they come to:
 //! distances, and paths than which none is shorter or cheaper.
 
-ghost use Rattle.std.specs.Prelude.{◌≡◌, ◌≢◌, ℕ, ◌<◌, ◌↔◌, true, List, [], ◌∷◌, length, AllPairs};
+ghost use Rattle.std.specs.Prelude.{◌≡◌, ◌≢◌, ℕ, ◌<◌, ◌≤◌, ◌↔◌, true, List, [], ◌∷◌, length, AllPairs, Some, None};
 ghost use Rattle.std.specs.List.{concat};
 ghost use Rattle.graph_kinds.specs.Graph.{Graph, IsGraph, has};
 ghost use Rattle.graph_kinds.specs.Path.{IsPath, IsDistance};
-ghost use Rattle.graph_kinds.specs.Levels.{stands_in, levels_of, level_at};
+ghost use Rattle.graph_kinds.specs.Levels.{stands_in, levels_of, level_at, reach_path, GoesByParents};
 
 /// Level i holds exactly the keys at distance i. The levels hold each key to which a path leads, and hold it
 /// once; no level is empty, and level 0 is the key that they start from.
@@ -21,4 +21,17 @@ pub fn levels_are_distances()
     ensures once { (g : Graph) (a : ℕ) → AllPairs (λ x y. x ≢ y) (concat (levels_of g a)) }
     ensures filled { (g : Graph) (a i : ℕ) → i < length (levels_of g a) → level_at (levels_of g a) i ≢ [] }
     ensures start { (g : Graph) (a : ℕ) → has g a ≡ true → level_at (levels_of g a) 0 ≡ a ∷ [] }
+{}
+
+/// The path of reach is a path, none has fewer pairs, and it goes by parents; there is none exactly where no
+/// path leads there.
+pub fn reach_is_shortest()
+    ensures path { (g : Graph) (a b : ℕ) (p : List ℕ) → IsGraph g → has g a ≡ true
+        → reach_path g a b ≡ Some p → IsPath g a b p }
+    ensures shortest { (g : Graph) (a b : ℕ) (p : List ℕ) → IsGraph g → has g a ≡ true
+        → reach_path g a b ≡ Some p → (q : List ℕ) → IsPath g a b q → length p ≤ length q }
+    ensures parents { (g : Graph) (a b : ℕ) (p : List ℕ) → IsGraph g → has g a ≡ true
+        → reach_path g a b ≡ Some p → GoesByParents g (levels_of g a) p }
+    ensures none { (g : Graph) (a b : ℕ) → IsGraph g → has g a ≡ true
+        → ((reach_path g a b ≡ None) ↔ ((p : List ℕ) → ¬ (IsPath g a b p))) }
 {}
