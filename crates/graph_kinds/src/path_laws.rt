@@ -6,7 +6,7 @@
 ghost use Rattle.std.specs.Prelude.{◌≡◌, ◌≢◌, ℕ, ◌<◌, ◌≤◌, ◌↔◌, true, List, [], ◌∷◌, length, AllPairs, Some, None};
 ghost use Rattle.std.specs.List.{concat};
 ghost use Rattle.graph_kinds.specs.Graph.{Graph, IsGraph, has};
-ghost use Rattle.graph_kinds.specs.Path.{IsPath, IsDistance};
+ghost use Rattle.graph_kinds.specs.Path.{IsPath, IsDistance, IsLeastCost, least_cost};
 ghost use Rattle.graph_kinds.specs.Levels.{stands_in, levels_of, level_at, reach_path, GoesByParents};
 
 /// Level i holds exactly the keys at distance i. The levels hold each key to which a path leads, and hold it
@@ -34,4 +34,12 @@ pub fn reach_is_shortest()
         → reach_path g a b ≡ Some p → GoesByParents g (levels_of g a) p }
     ensures none { (g : Graph) (a b : ℕ) → IsGraph g → has g a ≡ true
         → ((reach_path g a b ≡ None) ↔ ((p : List ℕ) → ¬ (IsPath g a b p))) }
+{}
+
+/// The least cost is the least cost of all paths, and there is none exactly where no path leads there.
+pub fn least_costs_are_least()
+    ensures least { (g : Graph) (a b c : ℕ) → IsGraph g → has g a ≡ true
+        → ((least_cost g a b ≡ Some c) ↔ IsLeastCost g a b c) }
+    ensures none { (g : Graph) (a b : ℕ) → IsGraph g → has g a ≡ true
+        → ((least_cost g a b ≡ None) ↔ ((p : List ℕ) → ¬ (IsPath g a b p))) }
 {}
