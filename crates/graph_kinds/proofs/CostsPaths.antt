@@ -97,7 +97,7 @@ part_from g y b x (z ∷ []) h o (inr k) = absurd k
 part_from g y b x (z ∷ u ∷ q) h o (inl e) = record { path = z ∷ u ∷ q; is_path = (e, h.1, h.2); once = o; cheap = omega arith }
 part_from g y b x (z ∷ u ∷ q) h o (inr k) = cheaper g x b (cost_of g (u ∷ q)) (cost_of g (z ∷ u ∷ q)) (omega arith) (part_from g u b x (u ∷ q) h.2 o.1 k)
 
-path_head : (g : Graph) (y b : ℕ) (q : List ℕ) → IsPath g y b q → (rest : List ℕ) × (q ≡ y ∷ rest)
+pub path_head : (g : Graph) (y b : ℕ) (q : List ℕ) → IsPath g y b q → (rest : List ℕ) × (q ≡ y ∷ rest)
 path_head g y b [] h = absurd h
 path_head g y b (z ∷ []) h = ([], ap (λ (u : ℕ). u ∷ []) h.0)
 path_head g y b (z ∷ u ∷ q) h = (u ∷ q, ap (λ (v : ℕ). v ∷ u ∷ q) h.0)

@@ -6,7 +6,7 @@
 ghost use Rattle.std.specs.Prelude.{◌≡◌, ◌≢◌, ℕ, ◌<◌, ◌≤◌, ◌↔◌, true, List, [], ◌∷◌, length, AllPairs, Some, None};
 ghost use Rattle.std.specs.List.{concat};
 ghost use Rattle.graph_kinds.specs.Graph.{Graph, IsGraph, has};
-ghost use Rattle.graph_kinds.specs.Path.{IsPath, IsDistance, IsLeastCost, least_cost};
+ghost use Rattle.graph_kinds.specs.Path.{IsPath, IsDistance, IsLeastCost, cost_of, least_cost, cheapest_path, GoesByLeastKeys};
 ghost use Rattle.graph_kinds.specs.Levels.{stands_in, levels_of, level_at, reach_path, GoesByParents};
 
 /// Level i holds exactly the keys at distance i. The levels hold each key to which a path leads, and hold it
@@ -42,4 +42,15 @@ pub fn least_costs_are_least()
         → ((least_cost g a b ≡ Some c) ↔ IsLeastCost g a b c) }
     ensures none { (g : Graph) (a b : ℕ) → IsGraph g → has g a ≡ true
         → ((least_cost g a b ≡ None) ↔ ((p : List ℕ) → ¬ (IsPath g a b p))) }
+{}
+
+/// The path found backwards is a path, it costs the least cost, and each of its keys but the first comes
+/// behind the least key over which a cheapest way leads to it.
+pub fn cheapest_is_a_path()
+    ensures path { (g : Graph) (a b c : ℕ) → IsGraph g → has g a ≡ true
+        → least_cost g a b ≡ Some c → IsPath g a b (cheapest_path g a b) }
+    ensures cost { (g : Graph) (a b c : ℕ) → IsGraph g → has g a ≡ true
+        → least_cost g a b ≡ Some c → cost_of g (cheapest_path g a b) ≡ c }
+    ensures keys { (g : Graph) (a b c : ℕ) → IsGraph g → has g a ≡ true
+        → least_cost g a b ≡ Some c → GoesByLeastKeys g a (cheapest_path g a b) }
 {}
