@@ -1,6 +1,6 @@
 -- The path found backwards is a path of the least cost, and goes by the least keys.
 use Rattle.std.proofs.Common.{◌≡◌, ◌≢◌, ℕ, zero, suc, ◌+◌, ◌<◌, ◌≤◌, ◌==◌, true, false, cond, inl, inr, List, [], ◌∷◌, ◌++◌, length, filter, unwrap_or, Option, Some, None, is_some, refl, sym, ap, ◌∙◌, subst, arith}
-use Rattle.std.proofs.lemmas.Bool.{true≢false, eq-eqb, eqb-true, eqb-false, or_cases}
+use Rattle.std.proofs.lemmas.Bool.{true≢false, eq-eqb, eqb-true, eqb-false, or_cases, cond-true}
 use Rattle.std.specs.FinSet as set
 use Rattle.std.specs.Ordering.{nat_cmp, eq_by_cmp}
 use Rattle.std.specs.List.{list_any}
@@ -214,3 +214,10 @@ cost_law g a b c is there e = (cheapest g is a there b c e).cost
 
 pub keys_law : (g : Graph) (a b c : ℕ) → IsGraph g → has g a ≡ true → least_cost g a b ≡ Some c → GoesByLeastKeys g a (cheapest_path g a b)
 keys_law g a b c is there e = (cheapest g is a there b c e).keys
+
+pub itself_law : (g : Graph) (a : ℕ) → cheapest_path g a a ≡ a ∷ []
+itself_law g a = from (key_count g)
+  where
+    from : (n : ℕ) → cheapest_back g a n a ≡ a ∷ []
+    from zero = refl
+    from (suc n) = cond-true (a == a) _ _ (eq-eqb a a refl)

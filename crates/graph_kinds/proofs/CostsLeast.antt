@@ -45,7 +45,7 @@ module _ (g : Graph) (a b : ℕ) (is : IsGraph g) (there : has g a ≡ true) whe
   path_cost : (p : List ℕ) → IsPath g a b p → (c : ℕ) × In c (map (cost_of g) (filter (ends_with b) (short_paths g (key_count g) a))) × (c ≤ cost_of g p)
   path_cost p h =
       let r : IsRoute g a b (cost_of g p) = cut g a b p h in
-      let listed = short_listed g a b (key_count g) r.path r.is_path (route_short g a b (cost_of g p) is there r) in
+      let listed = short_listed g a b (key_count g) r.path r.is_path (route_short g a b (cost_of g p) is r) in
       (cost_of g r.path, in_map (cost_of g) r.path _ (in_filter (ends_with b) r.path (short_paths g (key_count g) a) listed (path_ends g a b r.path r.is_path)), r.cheap)
 
   pub some_least : (c : ℕ) → least_cost g a b ≡ Some c → IsLeastCost g a b c
@@ -79,3 +79,6 @@ least_law g a b c is there = (some_least g a b is there c, least_some g a b is t
 
 pub no_cost_law : (g : Graph) (a b : ℕ) → IsGraph g → has g a ≡ true → (least_cost g a b ≡ None) ↔ ((p : List ℕ) → ¬ (IsPath g a b p))
 no_cost_law g a b is there = (none_empty g a b is there, empty_none g a b is there)
+
+pub itself_law : (g : Graph) (a : ℕ) → IsGraph g → has g a ≡ true → least_cost g a a ≡ Some 0
+itself_law g a is there = least_some g a a is there 0 (record { path = a ∷ []; is_path = (refl, refl, there); cost = refl; least = λ p h. omega arith })

@@ -1,10 +1,10 @@
 -- The listed paths are the paths of fewer pairs than the graph has keys, and each path costs no less than one of them.
-use Rattle.std.proofs.Common.{◌≡◌, ℕ, zero, suc, ◌+◌, ◌≤◌, true, inl, inr, List, [], ◌∷◌, length, map, unwrap_or, is_some, refl, sym, ap, ◌∙◌, subst, arith}
+use Rattle.std.proofs.Common.{◌≡◌, ℕ, zero, suc, ◌+◌, ◌≤◌, true, inl, inr, List, [], ◌∷◌, length, map, unwrap_or, is_some, refl, sym, ap, subst, arith}
 use Rattle.std.proofs.lemmas.Bool.{eq-eqb, eqb-true, cases_lt}
 use Rattle.graph_kinds.specs.Graph.{Graph, IsGraph, has, weight_of, neighbours, key_count}
 use Rattle.graph_kinds.specs.Path.{IsPath, cost_of, paths_of, short_paths, ends_with}
 use Rattle.graph_kinds.proofs.PathsLists.{In, Once, in_left, in_right, in_either, in_map, map_in, in_flat, flat_in, in_or_not, few}
-use Rattle.graph_kinds.proofs.PathsWalks.{in_neighbours, neighbours_in, key_behind}
+use Rattle.graph_kinds.proofs.PathsWalks.{in_neighbours, neighbours_in, key_behind, path_keys}
 
 -- ---- paths and their lists
 
@@ -72,13 +72,6 @@ short_path g a b (suc n) p is there h e = elim (in_either p (short_paths g n a) 
 
 -- ---- paths that meet no key twice
 
-pub path_keys : (g : Graph) (a b : ℕ) (p : List ℕ) → IsGraph g → has g a ≡ true → IsPath g a b p → (x : ℕ) → In x p → has g x ≡ true
-path_keys g a b [] is there h x k = absurd k
-path_keys g a b (y ∷ []) is there h x (inl e) = subst (λ (z : ℕ). has g z ≡ true) e h.2
-path_keys g a b (y ∷ []) is there h x (inr k) = absurd k
-path_keys g a b (y ∷ z ∷ p) is there h x (inl e) = subst (λ (u : ℕ). has g u ≡ true) (sym h.0 ∙ e) there
-path_keys g a b (y ∷ z ∷ p) is there h x (inr k) = path_keys g z b (z ∷ p) is (key_behind g is y z h.1) h.2 x k
-
 -- a path from x to b that meets no key twice and costs no more than c
 pub record IsRoute (g : Graph) (x b c : ℕ) : Type 0 where
   pub path : List ℕ
@@ -121,5 +114,5 @@ cut g a b [] h = absurd h
 cut g a b (x ∷ []) h = record { path = x ∷ []; is_path = h; once = (λ k. k, tt); cheap = omega arith }
 cut g a b (x ∷ y ∷ p) h = route_on g a x y b (cost_of g (y ∷ p)) h.0 h.1 (cut g y b (y ∷ p) h.2)
 
-pub route_short : (g : Graph) (a b c : ℕ) → IsGraph g → has g a ≡ true → (r : IsRoute g a b c) → length r.path ≤ key_count g
-route_short g a b c is there r = few g.keys r.path r.once (path_keys g a b r.path is there r.is_path)
+pub route_short : (g : Graph) (a b c : ℕ) → IsGraph g → (r : IsRoute g a b c) → length r.path ≤ key_count g
+route_short g a b c is r = few g.keys r.path r.once (path_keys g a b r.path is r.is_path)

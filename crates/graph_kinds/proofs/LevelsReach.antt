@@ -164,3 +164,18 @@ no_reach_law g a b is there = (
     none : ((p : List ℕ) → ¬ (IsPath g a b p)) → (o : Option (List ℕ)) → reach_path g a b ≡ o → reach_path g a b ≡ None
     none empty None e = e
     none empty (Some p) e = absurd (empty p (reach_path_law g a b p is there e))
+
+only_start : (g : Graph) (a : ℕ) (p : List ℕ) → IsPath g a a p → length p ≤ 1 → p ≡ a ∷ []
+only_start g a [] h short = absurd h
+only_start g a (x ∷ []) h short = ap (λ (z : ℕ). z ∷ []) h.0
+only_start g a (x ∷ y ∷ p) h short = absurd (omega arith)
+
+pub itself_law : (g : Graph) (a : ℕ) → IsGraph g → has g a ≡ true → reach_path g a a ≡ Some (a ∷ [])
+itself_law g a is there = from (reach_path g a a) refl
+  where
+    here : IsPath g a a (a ∷ [])
+    here = (refl, refl, there)
+
+    from : (o : Option (List ℕ)) → reach_path g a a ≡ o → reach_path g a a ≡ Some (a ∷ [])
+    from None e = absurd ((no_reach_law g a a is there).0 e (a ∷ []) here)
+    from (Some p) e = e ∙ ap (λ (q : List ℕ). Some q) (only_start g a p (reach_path_law g a a p is there e) (shortest_law g a a p is there e (a ∷ []) here))

@@ -77,6 +77,14 @@ pub walk_key : (g : Graph) (a : ℕ) → IsGraph g → has g a ≡ true → (n x
 walk_key g a is there zero x e = subst (λ (z : ℕ). has g z ≡ true) e there
 walk_key g a is there (suc n) x w = key_behind g is w.0 x w.2
 
+-- a path runs over keys of the graph
+pub path_keys : (g : Graph) (a b : ℕ) (p : List ℕ) → IsGraph g → IsPath g a b p → (x : ℕ) → In x p → has g x ≡ true
+path_keys g a b [] is h x k = absurd h
+path_keys g a b (y ∷ []) is h x (inl e) = subst (λ (z : ℕ). has g z ≡ true) e h.2
+path_keys g a b (y ∷ []) is h x (inr k) = absurd k
+path_keys g a b (y ∷ z ∷ p) is h x (inl e) = let w = weight_there (weight_of g y z) h.1 in subst (λ (u : ℕ). has g u ≡ true) e (is.from_key y z w.0 w.1)
+path_keys g a b (y ∷ z ∷ p) is h x (inr k) = path_keys g z b (z ∷ p) is h.2 x k
+
 -- a path with one more pair at its end
 pub path_on : (g : Graph) (a y x : ℕ) (q : List ℕ) → IsPath g a y q → is_some (weight_of g y x) ≡ true → has g x ≡ true → IsPath g a x (q ++ x ∷ [])
 path_on g a y x [] h pair there = absurd h

@@ -22,7 +22,8 @@ pub use mem_sink::MemSink;
 pub use mem_source::MemSource;
 pub use outcome::Outcome;
 pub use path_laws::{
-    cheapest_is_a_path, least_costs_are_least, levels_are_distances, reach_is_shortest,
+    cheapest_is_a_path, least_costs_are_least, levels_are_distances, neighbours_rise,
+    paths_run_over_keys, reach_is_shortest,
 };
 pub use sink::{Sink, WriteAnswer};
 pub use source::{ReadAnswer, Source};

@@ -4,10 +4,24 @@
 //! distances, and paths than which none is shorter or cheaper.
 
 ghost use Rattle.std.specs.Prelude.{◌≡◌, ◌≢◌, ℕ, ◌<◌, ◌≤◌, ◌↔◌, true, List, [], ◌∷◌, length, AllPairs, Some, None};
+ghost use Rattle.std.specs.Prelude.{is_some};
 ghost use Rattle.std.specs.List.{concat};
-ghost use Rattle.graph_kinds.specs.Graph.{Graph, IsGraph, has};
+ghost use Rattle.std.specs.List.Sorted.{IsStrictlyIncreasing};
+ghost use Rattle.graph_kinds.specs.Graph.{Graph, IsGraph, has, weight_of, neighbours};
 ghost use Rattle.graph_kinds.specs.Path.{IsPath, IsDistance, IsLeastCost, cost_of, least_cost, cheapest_path, GoesByLeastKeys};
 ghost use Rattle.graph_kinds.specs.Levels.{stands_in, levels_of, level_at, reach_path, GoesByParents};
+
+/// The out-neighbours of x are the keys to which a pair leads from x, by rising key.
+pub fn neighbours_rise()
+    ensures pairs { (g : Graph) (x y : ℕ) → stands_in (neighbours g x) y ≡ is_some (weight_of g x y) }
+    ensures rising { (g : Graph) (x : ℕ) → IsStrictlyIncreasing (neighbours g x) }
+{}
+
+/// A path runs over keys of the graph.
+pub fn paths_run_over_keys()
+    ensures { (g : Graph) (a b : ℕ) (p : List ℕ) → IsGraph g
+        → IsPath g a b p → (x : ℕ) → stands_in p x ≡ true → has g x ≡ true }
+{}
 
 /// Level i holds exactly the keys at distance i. The levels hold each key to which a path leads, and hold it
 /// once; no level is empty, and level 0 is the key that they start from.
@@ -34,6 +48,7 @@ pub fn reach_is_shortest()
         → reach_path g a b ≡ Some p → GoesByParents g (levels_of g a) p }
     ensures none { (g : Graph) (a b : ℕ) → IsGraph g → has g a ≡ true
         → ((reach_path g a b ≡ None) ↔ ((p : List ℕ) → ¬ (IsPath g a b p))) }
+    ensures itself { (g : Graph) (a : ℕ) → IsGraph g → has g a ≡ true → reach_path g a a ≡ Some (a ∷ []) }
 {}
 
 /// The least cost is the least cost of all paths, and there is none exactly where no path leads there.
@@ -42,6 +57,7 @@ pub fn least_costs_are_least()
         → ((least_cost g a b ≡ Some c) ↔ IsLeastCost g a b c) }
     ensures none { (g : Graph) (a b : ℕ) → IsGraph g → has g a ≡ true
         → ((least_cost g a b ≡ None) ↔ ((p : List ℕ) → ¬ (IsPath g a b p))) }
+    ensures itself { (g : Graph) (a : ℕ) → IsGraph g → has g a ≡ true → least_cost g a a ≡ Some 0 }
 {}
 
 /// The path found backwards is a path, it costs the least cost, and each of its keys but the first comes
@@ -53,4 +69,5 @@ pub fn cheapest_is_a_path()
         → least_cost g a b ≡ Some c → cost_of g (cheapest_path g a b) ≡ c }
     ensures keys { (g : Graph) (a b c : ℕ) → IsGraph g → has g a ≡ true
         → least_cost g a b ≡ Some c → GoesByLeastKeys g a (cheapest_path g a b) }
+    ensures itself { (g : Graph) (a : ℕ) → cheapest_path g a a ≡ a ∷ [] }
 {}
