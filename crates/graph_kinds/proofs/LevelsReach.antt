@@ -1,7 +1,7 @@
 -- The path by parents is a path, none is shorter, and it is found wherever one leads there.
-use Rattle.std.proofs.Common.{◌≡◌, ℕ, zero, suc, ◌+◌, ◌≤◌, Bool, true, false, cond, ◌↔◌, inl, inr, List, [], ◌∷◌, ◌++◌, length, get_or, find, unwrap_or, Option, Some, None, is_some, refl, sym, ap, ◌∙◌, subst, arith, length-append}
+use Rattle.std.proofs.Common.{◌≡◌, ℕ, zero, suc, ◌+◌, ◌-◌, ◌≤◌, Bool, true, false, cond, ◌↔◌, inl, inr, List, [], ◌∷◌, ◌++◌, length, get_or, find, unwrap_or, Option, Some, None, is_some, refl, sym, ap, ◌∙◌, subst, arith, length-append}
 use Rattle.std.proofs.lemmas.Bool.{true≢false, cases_lt}
-use Rattle.std.proofs.lemmas.List.{get_or_append_left}
+use Rattle.std.proofs.lemmas.List.{get_or_append_left, ext_get_or}
 use Rattle.std.proofs.Math.Seq.{get_or-append_seam}
 use Rattle.graph_kinds.specs.Graph.{Graph, IsGraph, has, weight_of, key_count}
 use Rattle.graph_kinds.specs.Path.{IsPath}
@@ -179,3 +179,35 @@ itself_law g a is there = from (reach_path g a a) refl
     from : (o : Option (List ℕ)) → reach_path g a a ≡ o → reach_path g a a ≡ Some (a ∷ [])
     from None e = absurd ((no_reach_law g a a is there).0 e (a ∷ []) here)
     from (Some p) e = e ∙ ap (λ (q : List ℕ). Some q) (only_start g a p (reach_path_law g a a p is there e) (shortest_law g a a p is there e (a ∷ []) here))
+
+-- ---- no other shortest path goes by parents
+
+path_last : (g : Graph) (a b : ℕ) (p : List ℕ) → IsPath g a b p → (i : ℕ) → i + 1 ≡ length p → get_or p i 0 ≡ b
+path_last g a b [] h i e = absurd h
+path_last g a b (x ∷ []) h zero e = h.1
+path_last g a b (x ∷ []) h (suc i) e = absurd (omega arith)
+path_last g a b (x ∷ y ∷ p) h zero e = absurd (omega arith)
+path_last g a b (x ∷ y ∷ p) h (suc i) e = path_last g y b (y ∷ p) h.2 i (omega arith)
+
+module _ (g : Graph) (a b : ℕ) (levels : List (List ℕ)) (p q : List ℕ) (long : length p ≡ length q) (h : IsPath g a b p) (k : IsPath g a b q) (f : GoesByParents g levels p) (j : GoesByParents g levels q) where
+  same_places : (n i : ℕ) → i + n + 1 ≡ length p → get_or p i 0 ≡ get_or q i 0
+  same_places zero i e = path_last g a b p h i (omega arith) ∙ sym (path_last g a b q k i (omega arith))
+  same_places (suc n) i e =
+      let next = same_places n (i + 1) (omega arith) in
+      let here = f i (omega arith) in
+      let there = j i (omega arith) in
+      let found = ap (λ (y : ℕ). find (λ x. is_some (weight_of g x y)) (level_at levels i)) next in
+      ap (λ (o : Option ℕ). unwrap_or o 0) (sym here ∙ found ∙ there)
+
+  same_way : p ≡ q
+  same_way = ext_get_or 0 p q long (λ i lt. same_places (length p - suc i) i (omega arith))
+
+pub only_law : (g : Graph) (a b : ℕ) (p : List ℕ) → IsGraph g → has g a ≡ true → IsPath g a b p → ((q : List ℕ) → IsPath g a b q → length p ≤ length q) → GoesByParents g (levels_of g a) p → reach_path g a b ≡ Some p
+only_law g a b p is there h least f = from (reach_path g a b) refl
+  where
+    from : (o : Option (List ℕ)) → reach_path g a b ≡ o → reach_path g a b ≡ Some p
+    from None e = absurd ((no_reach_law g a b is there).0 e p h)
+    from (Some q) e =
+        let way = way_some g a b q is there e in
+        let long : length q ≡ length p = omega (arith, way.1 p h, least q way.0) in
+        e ∙ ap (λ (r : List ℕ). Some r) (same_way g a b (levels_of g a) q p long way.0 h way.2 f)

@@ -37,8 +37,8 @@ pub fn levels_are_distances()
     ensures start { (g : Graph) (a : ℕ) → has g a ≡ true → level_at (levels_of g a) 0 ≡ a ∷ [] }
 {}
 
-/// The path of reach is a path, none has fewer pairs, and it goes by parents; there is none exactly where no
-/// path leads there.
+/// The path of reach is a path, none has fewer pairs, it goes by parents, and no other path is so; there is
+/// none exactly where no path leads there.
 pub fn reach_is_shortest()
     ensures path { (g : Graph) (a b : ℕ) (p : List ℕ) → IsGraph g → has g a ≡ true
         → reach_path g a b ≡ Some p → IsPath g a b p }
@@ -46,6 +46,9 @@ pub fn reach_is_shortest()
         → reach_path g a b ≡ Some p → (q : List ℕ) → IsPath g a b q → length p ≤ length q }
     ensures parents { (g : Graph) (a b : ℕ) (p : List ℕ) → IsGraph g → has g a ≡ true
         → reach_path g a b ≡ Some p → GoesByParents g (levels_of g a) p }
+    ensures only { (g : Graph) (a b : ℕ) (p : List ℕ) → IsGraph g → has g a ≡ true
+        → IsPath g a b p → ((q : List ℕ) → IsPath g a b q → length p ≤ length q)
+        → GoesByParents g (levels_of g a) p → reach_path g a b ≡ Some p }
     ensures none { (g : Graph) (a b : ℕ) → IsGraph g → has g a ≡ true
         → ((reach_path g a b ≡ None) ↔ ((p : List ℕ) → ¬ (IsPath g a b p))) }
     ensures itself { (g : Graph) (a : ℕ) → IsGraph g → has g a ≡ true → reach_path g a a ≡ Some (a ∷ []) }
@@ -61,7 +64,7 @@ pub fn least_costs_are_least()
 {}
 
 /// The path found backwards is a path, it costs the least cost, and each of its keys but the first comes
-/// behind the least key over which a cheapest way leads to it.
+/// behind the least key over which a cheapest way leads to it; no other path goes so.
 pub fn cheapest_is_a_path()
     ensures path { (g : Graph) (a b c : ℕ) → IsGraph g → has g a ≡ true
         → least_cost g a b ≡ Some c → IsPath g a b (cheapest_path g a b) }
@@ -69,5 +72,7 @@ pub fn cheapest_is_a_path()
         → least_cost g a b ≡ Some c → cost_of g (cheapest_path g a b) ≡ c }
     ensures keys { (g : Graph) (a b c : ℕ) → IsGraph g → has g a ≡ true
         → least_cost g a b ≡ Some c → GoesByLeastKeys g a (cheapest_path g a b) }
+    ensures only { (g : Graph) (a b : ℕ) (p : List ℕ) → IsGraph g → has g a ≡ true
+        → IsPath g a b p → GoesByLeastKeys g a p → p ≡ cheapest_path g a b }
     ensures itself { (g : Graph) (a : ℕ) → cheapest_path g a a ≡ a ∷ [] }
 {}
