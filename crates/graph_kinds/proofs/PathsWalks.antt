@@ -17,7 +17,7 @@ weight_there (Some w) e = (w, refl)
 
 -- ---- neighbours
 
-same_pair : (x y : ℕ) (p : ℕ × ℕ) → eq_by_cmp pair_cmp (x, y) p ≡ true → (p.0 ≡ x) × (p.1 ≡ y)
+pub same_pair : (x y : ℕ) (p : ℕ × ℕ) → eq_by_cmp pair_cmp (x, y) p ≡ true → (p.0 ≡ x) × (p.1 ≡ y)
 same_pair x y p t = elim (nat_cmp x p.0) as (λ r. nat_cmp x p.0 ≡ r → is_eq (ordering_then r (nat_cmp y p.1)) ≡ true → (p.0 ≡ x) × (p.1 ≡ y)) [
   | Less ↦ λ e u. absurd (true≢false (sym u))
   | Equal ↦ λ e u. (sym (map.nat_cmp-IsAntisymmetric x p.0 e), second (nat_cmp y p.1) refl u)

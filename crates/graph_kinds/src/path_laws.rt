@@ -9,6 +9,7 @@ ghost use Rattle.std.specs.List.{concat};
 ghost use Rattle.std.specs.List.Sorted.{IsStrictlyIncreasing};
 ghost use Rattle.graph_kinds.specs.Graph.{Graph, IsGraph, has, weight_of, neighbours};
 ghost use Rattle.graph_kinds.specs.Path.{IsPath, IsDistance, IsLeastCost, cost_of, least_cost, cheapest_path, GoesByLeastKeys};
+ghost use Rattle.graph_kinds.specs.Worked.{two_ways, detour, tie, dead_end};
 ghost use Rattle.graph_kinds.specs.Levels.{stands_in, levels_of, level_at, reach_path, GoesByParents};
 
 /// The out-neighbours of x are the keys to which a pair leads from x, by rising key.
@@ -75,4 +76,18 @@ pub fn cheapest_is_a_path()
     ensures only { (g : Graph) (a b : ℕ) (p : List ℕ) → IsGraph g → has g a ≡ true
         → IsPath g a b p → GoesByLeastKeys g a p → p ≡ cheapest_path g a b }
     ensures itself { (g : Graph) (a : ℕ) → cheapest_path g a a ≡ a ∷ [] }
+{}
+
+/// The answers on four small graphs, as worked out by hand.
+pub fn worked_graphs_are_answered()
+    ensures levels { levels_of two_ways 1 ≡ (1 ∷ []) ∷ (2 ∷ 3 ∷ []) ∷ (9 ∷ 4 ∷ []) ∷ (10 ∷ []) ∷ [] }
+    ensures first_parent { reach_path two_ways 1 10 ≡ Some (1 ∷ 2 ∷ 9 ∷ 10 ∷ []) }
+    ensures fewest_pairs { reach_path detour 1 2 ≡ Some (1 ∷ 2 ∷ []) }
+    ensures detour_cost { least_cost detour 1 2 ≡ Some 3 }
+    ensures detour_path { cheapest_path detour 1 2 ≡ 1 ∷ 3 ∷ 2 ∷ [] }
+    ensures tie_cost { least_cost tie 1 4 ≡ Some 3 }
+    ensures tie_path { cheapest_path tie 1 4 ≡ 1 ∷ 2 ∷ 4 ∷ [] }
+    ensures circle { levels_of dead_end 1 ≡ (1 ∷ []) ∷ (2 ∷ 3 ∷ []) ∷ (4 ∷ []) ∷ [] }
+    ensures no_path { reach_path dead_end 3 1 ≡ None }
+    ensures no_cost { least_cost dead_end 3 1 ≡ None }
 {}
