@@ -1,5 +1,5 @@
 -- Breadth-first levels, and the path of first parents.
-use Rattle.std.specs.Prelude.{ℕ, zero, suc, ◌+◌, ◌==◌, Bool, not, cond, List, [], ◌∷◌, ◌++◌, Option, Some, None, is_some, filter, flat_map, find, length, unwrap_or}
+use Rattle.std.specs.Prelude.{◌≡◌, ℕ, zero, suc, ◌+◌, ◌<◌, ◌==◌, Bool, not, cond, List, [], ◌∷◌, ◌++◌, Option, Some, None, is_some, filter, flat_map, find, length, unwrap_or, slice_index, slice_index_or}
 use Rattle.std.specs.List.{list_any}
 use Rattle.graph_kinds.specs.Graph.{Graph, weight_of, neighbours, key_count}
 
@@ -27,6 +27,10 @@ levels_from g (suc n) known (x ∷ xs) = (x ∷ xs) ∷ levels_from g n (known +
 abbrev pub levels_of : Graph → ℕ → List (List ℕ)
 levels_of g a = levels_from g (key_count g) [] (a ∷ [])
 
+-- level i, counted from 0; it is empty behind the last one
+abbrev pub level_at : List (List ℕ) → ℕ → List ℕ
+level_at levels i = slice_index_or levels i []
+
 -- for each level the number of keys up to its end
 abbrev pub level_ends : ℕ → List (List ℕ) → List ℕ
 level_ends n [] = []
@@ -49,3 +53,8 @@ way_in g earlier (level ∷ later) b = cond (stands_in level b) (Some (way_back 
 -- the path from a to b by parents, if a path leads there
 abbrev pub reach_path : Graph → ℕ → ℕ → Option (List ℕ)
 reach_path g a b = way_in g [] (levels_of g a) b
+
+-- on a path, the key before key i + 1 is its parent: the first key of level i that has an edge to it
+abbrev pub GoesByParents : Graph → List (List ℕ) → List ℕ → Type 0
+GoesByParents g levels p = (i : ℕ) → i + 1 < length p
+    → find (λ x. is_some (weight_of g x (slice_index p (i + 1)))) (level_at levels i) ≡ Some (slice_index p i)

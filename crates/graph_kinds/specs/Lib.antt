@@ -2,5 +2,6 @@ pub mod Stream
 pub mod Graph
 pub mod Path
 pub mod Levels
+pub mod Worked
 pub mod Answer
 pub mod History

@@ -1,5 +1,5 @@
 -- Paths, and the least cost of them.
-use Rattle.std.specs.Prelude.{◌≡◌, ℕ, zero, suc, ◌+◌, ◌≤◌, ◌==◌, Bool, true, false, cond, List, [], ◌∷◌, ◌++◌, Option, Some, None, is_some, map, filter, flat_map, find, min, unwrap_or}
+use Rattle.std.specs.Prelude.{◌≡◌, ℕ, zero, suc, ◌+◌, ◌≤◌, ◌==◌, Bool, true, false, cond, List, [], ◌∷◌, ◌++◌, Option, Some, None, is_some, map, filter, flat_map, length, min, unwrap_or}
 use Rattle.std.specs.FinSet as set
 use Rattle.graph_kinds.specs.Graph.{Graph, has, weight_of, neighbours, key_count}
 
@@ -14,6 +14,13 @@ abbrev pub cost_of : Graph → List ℕ → ℕ
 cost_of g [] = 0
 cost_of g (x ∷ []) = 0
 cost_of g (x ∷ y ∷ p) = unwrap_or (weight_of g x y) 0 + cost_of g (y ∷ p)
+
+-- a path of n pairs leads from a to b, and none of fewer pairs does
+pub record IsDistance (g : Graph) (a b n : ℕ) : Type 0 where
+  pub path : List ℕ
+  pub is_path : IsPath g a b path
+  pub pairs : length path ≡ n + 1
+  pub fewest : (p : List ℕ) → IsPath g a b p → n + 1 ≤ length p
 
 -- c is the least cost of a path from a to b
 pub record IsLeastCost (g : Graph) (a b c : ℕ) : Type 0 where
@@ -58,7 +65,7 @@ is_before g a y x = reaches_by (least_cost g a x) (weight_of g x y) (least_cost 
 
 -- the least key that stands before y on a cheapest path from a
 abbrev pub key_before : Graph → ℕ → ℕ → Option ℕ
-key_before g a y = find (is_before g a y) (set.items g.keys)
+key_before g a y = least (filter (is_before g a y) (set.items g.keys))
 
 abbrev pub behind_before : (ℕ → List ℕ) → ℕ → Option ℕ → List ℕ
 behind_before back y None = y ∷ []
@@ -71,3 +78,22 @@ cheapest_back g a (suc n) y = cond (y == a) (y ∷ []) (behind_before (cheapest_
 
 abbrev pub cheapest_path : Graph → ℕ → ℕ → List ℕ
 cheapest_path g a b = cheapest_back g a (key_count g) b
+
+-- a cheapest way to y leads over the pair from x: its weight and the least cost of x make the least cost of y
+pub record LeadsOver (g : Graph) (a x y : ℕ) : Type 0 where
+  pub cost : ℕ
+  pub weight : ℕ
+  pub to_x : least_cost g a x ≡ Some cost
+  pub pair : weight_of g x y ≡ Some weight
+  pub to_y : least_cost g a y ≡ Some (cost + weight)
+
+-- x is the least key over which one leads
+pub record IsKeyBefore (g : Graph) (a x y : ℕ) : Type 0 where
+  pub leads : LeadsOver g a x y
+  pub least : (z : ℕ) → LeadsOver g a z y → x ≤ z
+
+-- each key of a path but the first comes behind the least key over which a cheapest way leads to it
+abbrev pub GoesByLeastKeys : Graph → ℕ → List ℕ → Type 0
+GoesByLeastKeys g a [] = Unit {0}
+GoesByLeastKeys g a (x ∷ []) = Unit {0}
+GoesByLeastKeys g a (x ∷ y ∷ p) = IsKeyBefore g a x y × GoesByLeastKeys g a (y ∷ p)

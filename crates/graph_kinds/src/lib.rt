@@ -8,6 +8,7 @@ mod laws;
 mod mem_sink;
 mod mem_source;
 mod outcome;
+mod path_laws;
 mod sink;
 mod source;
 
@@ -20,5 +21,9 @@ pub use laws::{
 pub use mem_sink::MemSink;
 pub use mem_source::MemSource;
 pub use outcome::Outcome;
+pub use path_laws::{
+    cheapest_is_a_path, least_costs_are_least, levels_are_distances, neighbours_rise,
+    paths_run_over_keys, reach_is_shortest, worked_graphs_are_answered,
+};
 pub use sink::{Sink, WriteAnswer};
 pub use source::{ReadAnswer, Source};
