@@ -17,6 +17,13 @@ abbrev pub IsWellMade : Call → Type 0
 IsWellMade (AddEdge a b w) = 1 ≤ w
 IsWellMade _ = Unit {0}
 
+-- the call asks for a path, or for levels
+abbrev pub IsPathCall : Call → Type 0
+IsPathCall (Reach a b) = Unit {0}
+IsPathCall (Levels a) = Unit {0}
+IsPathCall (Cheapest a b) = Unit {0}
+IsPathCall _ = ⊥
+
 -- an answer without keys
 abbrev pub plain : Outcome → Answer
 plain o = record { outcome = o; keys = []; ends = [] }
