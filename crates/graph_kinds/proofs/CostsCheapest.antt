@@ -128,7 +128,7 @@ before_there g is a y d there ne e =
 
 -- ---- the path found backwards
 
-path_end : (g : Graph) (a b : ℕ) (p : List ℕ) → IsPath g a b p → has g b ≡ true
+pub path_end : (g : Graph) (a b : ℕ) (p : List ℕ) → IsPath g a b p → has g b ≡ true
 path_end g a b [] h = absurd h
 path_end g a b (x ∷ []) h = subst (λ (z : ℕ). has g z ≡ true) h.1 h.2
 path_end g a b (x ∷ y ∷ p) h = path_end g y b (y ∷ p) h.2

@@ -41,7 +41,7 @@ level_law g a x i is there = (
       stands (level_at (levels_of g a) i) x ((all_levelled g a is there).at_level x i (subst (λ (n : ℕ). Walk g a n x) now w.0) (λ s. w.1 (s.0, omega (arith, s.1), s.2)))),
 )
 
-in_some_level : (x : ℕ) (ls : List (List ℕ)) (i : ℕ) → In x (level_at ls i) → (i < length ls) × In x (concat ls)
+pub in_some_level : (x : ℕ) (ls : List (List ℕ)) (i : ℕ) → In x (level_at ls i) → (i < length ls) × In x (concat ls)
 in_some_level x [] i h = absurd h
 in_some_level x (l ∷ ls) zero h = (omega arith, in_left x l (concat ls) h)
 in_some_level x (l ∷ ls) (suc i) h = let r = in_some_level x ls i h in (omega (arith, r.0), in_right x l (concat ls) r.1)

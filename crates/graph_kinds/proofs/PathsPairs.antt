@@ -22,7 +22,7 @@ neighbours_law g x y = elim (is_some (weight_of g x y)) as (λ b. is_some (weigh
 ] refl
 
 -- each number is below those after it
-abbrev Rises : List ℕ → Type 0
+abbrev pub Rises : List ℕ → Type 0
 Rises [] = Unit {0}
 Rises (y ∷ ys) = ((z : ℕ) → In z ys → y < z) × Rises ys
 
@@ -70,8 +70,11 @@ rising x (e ∷ es) s =
       | false ↦ λ t. later
     ] refl
 
+pub neighbours_rise : (g : Graph) (x : ℕ) → Rises (neighbours g x)
+neighbours_rise g x = rising x (map.entries g.pairs) (map.entries_sorted g.pairs)
+
 pub rising_law : (g : Graph) (x : ℕ) → IsStrictlyIncreasing (neighbours g x)
-rising_law g x = rises_next (neighbours g x) (rising x (map.entries g.pairs) (map.entries_sorted g.pairs))
+rising_law g x = rises_next (neighbours g x) (neighbours_rise g x)
 
 pub keys_law : (g : Graph) (a b : ℕ) (p : List ℕ) → IsGraph g → IsPath g a b p → (x : ℕ) → stands_in p x ≡ true → has g x ≡ true
 keys_law g a b p is h x s = path_keys g a b p is h x (in_standing p x s)

@@ -23,7 +23,7 @@ pub use mem_source::MemSource;
 pub use outcome::Outcome;
 pub use path_laws::{
     cheapest_is_a_path, least_costs_are_least, levels_are_distances, neighbours_rise,
-    paths_run_over_keys, reach_is_shortest, worked_graphs_are_answered,
+    parts_are_answered_alike, paths_run_over_keys, reach_is_shortest, worked_graphs_are_answered,
 };
 pub use sink::{Sink, WriteAnswer};
 pub use source::{ReadAnswer, Source};

@@ -3,14 +3,16 @@
 //! The rules of `specs/Levels.antt` and `specs/Path.antt` fix an order and ties. The laws say what they come to:
 //! distances, and paths than which none is shorter or cheaper.
 
-ghost use Rattle.std.specs.Prelude.{◌≡◌, ◌≢◌, ℕ, ◌<◌, ◌≤◌, ◌↔◌, true, List, [], ◌∷◌, length, AllPairs, Some, None};
-ghost use Rattle.std.specs.Prelude.{is_some};
+ghost use Rattle.std.specs.Prelude.{◌≡◌, ◌≢◌, ℕ, ◌<◌, ◌≤◌, ◌↔◌, true, List, [], ◌∷◌, length, AllPairs};
+ghost use Rattle.std.specs.Prelude.{Some, None, is_some};
 ghost use Rattle.std.specs.List.{concat};
 ghost use Rattle.std.specs.List.Sorted.{IsStrictlyIncreasing};
 ghost use Rattle.graph_kinds.specs.Graph.{Graph, IsGraph, has, weight_of, neighbours};
-ghost use Rattle.graph_kinds.specs.Path.{IsPath, IsDistance, IsLeastCost, cost_of, least_cost, cheapest_path, GoesByLeastKeys};
-ghost use Rattle.graph_kinds.specs.Worked.{two_ways, detour, tie, dead_end};
+ghost use Rattle.graph_kinds.specs.Path.{IsPath, IsDistance, cost_of, IsLeastCost, least_cost};
+ghost use Rattle.graph_kinds.specs.Path.{cheapest_path, GoesByLeastKeys};
 ghost use Rattle.graph_kinds.specs.Levels.{stands_in, levels_of, level_at, reach_path, GoesByParents};
+ghost use Rattle.graph_kinds.specs.Part.{IsPart, part};
+ghost use Rattle.graph_kinds.specs.Worked.{two_ways, detour, tie, dead_end};
 
 /// The out-neighbours of x are the keys to which a pair leads from x, by rising key.
 pub fn neighbours_rise()
@@ -76,6 +78,22 @@ pub fn cheapest_is_a_path()
     ensures only { (g : Graph) (a b : ℕ) (p : List ℕ) → IsGraph g → has g a ≡ true
         → IsPath g a b p → GoesByLeastKeys g a p → p ≡ cheapest_path g a b }
     ensures itself { (g : Graph) (a : ℕ) → cheapest_path g a a ≡ a ∷ [] }
+{}
+
+/// The part of a graph that is reached from a key is a graph, and no other graph has just those keys and pairs.
+/// From that key it has the levels, the paths and the costs of the whole graph.
+pub fn parts_are_answered_alike()
+    ensures part { (g : Graph) (a : ℕ) → IsGraph g → has g a ≡ true → IsPart g a (part g a) }
+    ensures only { (g h : Graph) (a : ℕ) → IsGraph g → has g a ≡ true → IsPart g a h → h ≡ part g a }
+    ensures graph { (g : Graph) (a : ℕ) → IsGraph g → has g a ≡ true → IsGraph (part g a) }
+    ensures levels { (g : Graph) (a : ℕ) → IsGraph g → has g a ≡ true
+        → levels_of (part g a) a ≡ levels_of g a }
+    ensures reach { (g : Graph) (a b : ℕ) → IsGraph g → has g a ≡ true
+        → reach_path (part g a) a b ≡ reach_path g a b }
+    ensures cost { (g : Graph) (a b : ℕ) → IsGraph g → has g a ≡ true
+        → least_cost (part g a) a b ≡ least_cost g a b }
+    ensures cheapest { (g : Graph) (a b c : ℕ) → IsGraph g → has g a ≡ true
+        → least_cost g a b ≡ Some c → cheapest_path (part g a) a b ≡ cheapest_path g a b }
 {}
 
 /// The answers on four small graphs, as worked out by hand.
