@@ -12,8 +12,6 @@ use Rattle.graph_kinds.proofs.PathsWalks.{weight_there, path_on, key_behind}
 use Rattle.graph_kinds.proofs.CostsPaths.{path_head}
 use Rattle.graph_kinds.proofs.CostsLeast.{least_is, least_there, some_least, least_some}
 
--- ---- the last pair of a path
-
 pub cost_on : (g : Graph) (a y x w : ℕ) (q : List ℕ) → IsPath g a y q → weight_of g y x ≡ Some w → cost_of g (q ++ x ∷ []) ≡ cost_of g q + w
 cost_on g a y x w [] h is = absurd h
 cost_on g a y x w (z ∷ []) h is =
@@ -61,8 +59,6 @@ pub path_behind : (g : Graph) → IsGraph g → (a y : ℕ) → has g a ≡ true
 path_behind g is a y there ne [] h = absurd h
 path_behind g is a y there ne (x ∷ []) h = absurd (ne (sym h.0 ∙ h.1))
 path_behind g is a y there ne (x ∷ z ∷ p) h = last_pair g is a y there x z p h
-
--- ---- the key before
 
 -- what the test on a key says
 test_leads : (g : Graph) (a x y : ℕ) (c w d : Option ℕ) → least_cost g a x ≡ c → weight_of g x y ≡ w → least_cost g a y ≡ d → reaches_by c w d ≡ true → LeadsOver g a x y
@@ -125,8 +121,6 @@ before_there g is a y d there ne e =
       pair = over.pair;
       to_y = e ∙ ap (λ (n : ℕ). Some n) (sym (over.total ∙ best.cost));
     }
-
--- ---- the path found backwards
 
 pub path_end : (g : Graph) (a b : ℕ) (p : List ℕ) → IsPath g a b p → has g b ≡ true
 path_end g a b [] h = absurd h

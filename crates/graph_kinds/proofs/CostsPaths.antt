@@ -6,8 +6,6 @@ use Rattle.graph_kinds.specs.Path.{IsPath, cost_of, paths_of, short_paths, ends_
 use Rattle.graph_kinds.proofs.PathsLists.{In, Once, in_left, in_right, in_either, in_map, map_in, in_flat, flat_in, in_or_not, few}
 use Rattle.graph_kinds.proofs.PathsWalks.{in_neighbours, neighbours_in, key_behind, path_keys}
 
--- ---- paths and their lists
-
 pub path_ends : (g : Graph) (a b : ℕ) (p : List ℕ) → IsPath g a b p → ends_with b p ≡ true
 path_ends g a b [] h = absurd h
 path_ends g a b (x ∷ []) h = eq-eqb x b h.1
@@ -69,8 +67,6 @@ short_path g a b (suc n) p is there h e = elim (in_either p (short_paths g n a) 
   | inl k ↦ short_path g a b n p is there k e
   | inr k ↦ listed_path g a b n p is there k e
 ]
-
--- ---- paths that meet no key twice
 
 -- a path from x to b that meets no key twice and costs no more than c
 pub record IsRoute (g : Graph) (x b c : ℕ) : Type 0 where

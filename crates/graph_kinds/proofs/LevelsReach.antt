@@ -180,8 +180,6 @@ itself_law g a is there = from (reach_path g a a) refl
     from None e = absurd ((no_reach_law g a a is there).0 e (a ∷ []) here)
     from (Some p) e = e ∙ ap (λ (q : List ℕ). Some q) (only_start g a p (reach_path_law g a a p is there e) (shortest_law g a a p is there e (a ∷ []) here))
 
--- ---- no other shortest path goes by parents
-
 path_last : (g : Graph) (a b : ℕ) (p : List ℕ) → IsPath g a b p → (i : ℕ) → i + 1 ≡ length p → get_or p i 0 ≡ b
 path_last g a b [] h i e = absurd h
 path_last g a b (x ∷ []) h zero e = h.1

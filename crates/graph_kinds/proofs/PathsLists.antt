@@ -92,8 +92,6 @@ module _ {A B : Type 0} where
     | inr k ↦ let r = flat_in f z ys k in (r.0, inr r.1, r.2)
   ]
 
--- ---- numbers
-
 pub stands : (xs : List ℕ) (x : ℕ) → In x xs → stands_in xs x ≡ true
 stands [] x h = absurd h
 stands (y ∷ ys) x (inl e) = or_left (y == x) (stands_in ys x) (eq-eqb y x e)

@@ -80,8 +80,6 @@ module _ (g : Graph) (a : ℕ) (h : Graph) (is : IsGraph g) (there : has g a ≡
     weighed = λ x y w e. is.weighed x y w (weight_in x y w e);
   }
 
-  -- ---- paths
-
   path_in : (s b : ℕ) (p : List ℕ) → IsPath h s b p → IsPath g s b p
   path_in s b [] k = k
   path_in s b (x ∷ []) k = (k.0, k.1, key_in x k.2)
@@ -105,8 +103,6 @@ module _ (g : Graph) (a : ℕ) (h : Graph) (is : IsGraph g) (there : has g a ≡
       let weight : unwrap_or (weight_of h x y) 0 ≡ unwrap_or (weight_of g x y) 0 = ap (λ (o : Option ℕ). unwrap_or o 0) (w.1 ∙ sym (weight_in x y w.0 w.1)) in
       omega (arith, weight, cost_same y b (y ∷ p) k.2)
 
-  -- ---- least costs
-
   least_in : (b c : ℕ) → IsLeastCost h a b c → IsLeastCost g a b c
   least_in b c l = record {
     path = l.path;
@@ -129,8 +125,6 @@ module _ (g : Graph) (a : ℕ) (h : Graph) (is : IsGraph g) (there : has g a ≡
   cost_alike b = same_option (least_cost h a b) (least_cost g a b)
       (λ c e. least_some g a b is there c (least_in b c (some_least h a b part_is here c e)))
       (λ c e. least_some h a b part_is here c (in_least b c (some_least g a b is there c e)))
-
-  -- ---- levels
 
   some_same : (x y : ℕ) → has h x ≡ true → is_some (weight_of h x y) ≡ is_some (weight_of g x y)
   some_same x y k = ap (λ (o : Option ℕ). is_some o) (weight_same x y k)
@@ -157,8 +151,6 @@ module _ (g : Graph) (a : ℕ) (h : Graph) (is : IsGraph g) (there : has g a ≡
   pub levels_alike : levels_of h a ≡ levels_of g a
   levels_alike = levels_same (key_count h) (key_count g) 0 [] (a ∷ []) (first_turn h a) (first_turn g a) (omega arith) (omega arith)
 
-  -- ---- paths by parents
-
   level_key : (i x : ℕ) → In x (level_at (levels_of g a) i) → has h x ≡ true
   level_key i x k = let p = (all_law g a x is there).0 (stands (concat (levels_of g a)) x (in_some_level x (levels_of g a) i k).1) in (reached.keys x).1 p
 
@@ -178,8 +170,6 @@ module _ (g : Graph) (a : ℕ) (h : Graph) (is : IsGraph g) (there : has g a ≡
           let least = reach.shortest_law g a b p is there e in
           let parents = parents_in p (reach.parents_law g a b p is there e) in
           reach.only_law h a b p part_is here (in_path a b p here path) (λ q k. least q (path_in a b q k)) parents ∙ sym e
-
-  -- ---- cheapest paths
 
   leads_in : (x y : ℕ) → LeadsOver h a x y → LeadsOver g a x y
   leads_in x y l = record {
@@ -211,8 +201,6 @@ module _ (g : Graph) (a : ℕ) (h : Graph) (is : IsGraph g) (there : has g a ≡
   cheapest_alike b c e =
       let best : IsCheapest g a b c (cheapest_path g a b) = cheapest g is a there b c e in
       sym (only_law h a b (cheapest_path g a b) part_is here (in_path a b (cheapest_path g a b) here best.is_path) (least_keys_in (cheapest_path g a b) best.keys))
-
--- ---- there is one part, and it is that of the levels
 
 same_bool : (b d : Bool) → (b ≡ true → d ≡ true) → (d ≡ true → b ≡ true) → b ≡ d
 same_bool true d f k = sym (f refl)

@@ -1,36 +1,25 @@
 -- Neighbours are pairs of the graph, and a path of n pairs is a walk of n steps.
-use Rattle.std.proofs.Common.{◌≡◌, ℕ, zero, suc, ◌+◌, ◌==◌, Bool, true, false, cond, inl, inr, List, [], ◌∷◌, ◌++◌, length, filter_map, Option, Some, None, is_some, refl, sym, ap, ap₂, ◌∙◌, subst, arith, length-append}
-use Rattle.std.proofs.lemmas.Bool.{true≢false, eq-eqb, eqb-true}
+use Rattle.std.proofs.Common.{◌≡◌, ℕ, zero, suc, ◌+◌, ◌==◌, Bool, true, false, cond, inl, inr, List, [], ◌∷◌, ◌++◌, length, filter_map, Option, Some, None, is_some, refl, sym, ap, ◌∙◌, subst, arith, length-append}
+use Rattle.std.proofs.lemmas.Bool.{true≢false, eq-eqb, eqb-true, and_parts, and_from}
 use Rattle.std.specs.List.{cons_option}
-use Rattle.std.specs.declared.cmp.Ordering.{Ordering}
-use Rattle.std.specs.declared.cmp.Ordering.TheVariants.{Less, Equal, Greater}
-use Rattle.std.specs.Ordering.{nat_cmp, eq_by_cmp, is_eq, ordering_then}
-use Rattle.std.specs.Cmp.{nat_cmp_total, tied_itself}
+use Rattle.std.specs.Ordering.{eq_by_cmp}
 use Rattle.std.specs.FinMap as map
 use Rattle.graph_kinds.specs.Graph.{Graph, IsGraph, pair_cmp, has, weight_of, neighbour_by, neighbours}
 use Rattle.graph_kinds.specs.Path.{IsPath}
+use Rattle.graph_kinds.proofs.Graphs.{pair_tied}
 use Rattle.graph_kinds.proofs.PathsLists.{In}
 
 pub weight_there : (o : Option ℕ) → is_some o ≡ true → (w : ℕ) × (o ≡ Some w)
 weight_there None e = absurd (true≢false (sym e))
 weight_there (Some w) e = (w, refl)
 
--- ---- neighbours
-
 pub same_pair : (x y : ℕ) (p : ℕ × ℕ) → eq_by_cmp pair_cmp (x, y) p ≡ true → (p.0 ≡ x) × (p.1 ≡ y)
-same_pair x y p t = elim (nat_cmp x p.0) as (λ r. nat_cmp x p.0 ≡ r → is_eq (ordering_then r (nat_cmp y p.1)) ≡ true → (p.0 ≡ x) × (p.1 ≡ y)) [
-  | Less ↦ λ e u. absurd (true≢false (sym u))
-  | Equal ↦ λ e u. (sym (map.nat_cmp-IsAntisymmetric x p.0 e), second (nat_cmp y p.1) refl u)
-  | Greater ↦ λ e u. absurd (true≢false (sym u))
-] refl t
-  where
-    second : (r : Ordering) → nat_cmp y p.1 ≡ r → is_eq r ≡ true → p.1 ≡ y
-    second Less e u = absurd (true≢false (sym u))
-    second Equal e u = sym (map.nat_cmp-IsAntisymmetric y p.1 e)
-    second Greater e u = absurd (true≢false (sym u))
+same_pair x y p t =
+    let both = and_parts (x == p.0) (y == p.1) (sym (pair_tied x y p.0 p.1) ∙ t) in
+    (sym (eqb-true x p.0 both.0), sym (eqb-true y p.1 both.1))
 
-pair_tied : (x y : ℕ) (p : ℕ × ℕ) → p.0 ≡ x → p.1 ≡ y → eq_by_cmp pair_cmp (x, y) p ≡ true
-pair_tied x y p e f = ap₂ (λ (r s : Ordering). is_eq (ordering_then r s)) (ap (nat_cmp x) e ∙ tied_itself nat_cmp_total x) (ap (nat_cmp y) f ∙ tied_itself nat_cmp_total y)
+tied_pair : (x y : ℕ) (p : ℕ × ℕ) → p.0 ≡ x → p.1 ≡ y → eq_by_cmp pair_cmp (x, y) p ≡ true
+tied_pair x y p e f = pair_tied x y p.0 p.1 ∙ and_from (x == p.0) (y == p.1) (eq-eqb x p.0 (sym e)) (eq-eqb y p.1 (sym f))
 
 in_entries : (x y w : ℕ) (es : List ((ℕ × ℕ) × ℕ)) → map.find pair_cmp (x, y) es ≡ Some w → In y (filter_map (neighbour_by x) es)
 in_entries x y w [] is = absurd (cc)
@@ -50,7 +39,7 @@ entries_in x y (e ∷ es) h =
       | true ↦ λ t. refl
       | false ↦ λ t. elim (e.0.0 == x) as (λ c. (e.0.0 == x) ≡ c → In y (cons_option (cond c (Some e.0.1) None) rest) → is_some (map.find pair_cmp (x, y) es) ≡ true) [
         | true ↦ λ u k. elim k as (λ _. is_some (map.find pair_cmp (x, y) es) ≡ true) [
-          | inl s ↦ absurd (true≢false (sym (pair_tied x y e.0 (eqb-true e.0.0 x u) s) ∙ t))
+          | inl s ↦ absurd (true≢false (sym (tied_pair x y e.0 (eqb-true e.0.0 x u) s) ∙ t))
           | inr l ↦ entries_in x y es l
         ]
         | false ↦ λ u k. entries_in x y es k
@@ -62,8 +51,6 @@ in_neighbours g x y h = let r = weight_there (weight_of g x y) h in in_entries x
 
 pub neighbours_in : (g : Graph) (x y : ℕ) → In y (neighbours g x) → is_some (weight_of g x y) ≡ true
 neighbours_in g x y h = ap (λ (o : Option ℕ). is_some o) (map.get-entries g.pairs (x, y)) ∙ entries_in x y (map.entries g.pairs) h
-
--- ---- paths and walks
 
 -- x is reached from a in n steps
 abbrev pub Walk : Graph → ℕ → ℕ → ℕ → Type 0

@@ -70,8 +70,6 @@ dead_end_reach = rw dead_end_count (simp listed)
 pub dead_end_cost : least_cost dead_end 3 1 ≡ None
 dead_end_cost = rw dead_end_count (simp listed)
 
--- ---- a graph of a list is one where its pairs pass a test, and so are its keys before others
-
 found_in : (q : ℕ × ℕ) (w : ℕ) (es : List ((ℕ × ℕ) × ℕ)) → map.find pair_cmp q es ≡ Some w → In (q, w) es
 found_in q w [] is = absurd (cc)
 found_in q w (e ∷ es) is = elim (eq_by_cmp pair_cmp q e.0) as (λ b. eq_by_cmp pair_cmp q e.0 ≡ b → cond b (Some e.1) (map.find pair_cmp q es) ≡ Some w → In (q, w) (e ∷ es)) [

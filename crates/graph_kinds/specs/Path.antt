@@ -55,18 +55,20 @@ least (x ∷ xs) = Some (min x (unwrap_or (least xs) x))
 abbrev pub least_cost : Graph → ℕ → ℕ → Option ℕ
 least_cost g a b = least (map (cost_of g) (filter (ends_with b) (short_paths g (key_count g) a)))
 
--- the way over x is one of the cheapest ways to y
+-- the least cost of x and the weight of the pair from x to y make the least cost of y
 abbrev pub reaches_by : Option ℕ → Option ℕ → Option ℕ → Bool
 reaches_by (Some c) (Some w) (Some d) = c + w == d
 reaches_by _ _ _ = false
 
+-- whether x stands before y on a cheapest path from a
 abbrev pub is_before : Graph → ℕ → ℕ → ℕ → Bool
 is_before g a y x = reaches_by (least_cost g a x) (weight_of g x y) (least_cost g a y)
 
--- the least key that stands before y on a cheapest path from a
+-- the least key that does
 abbrev pub key_before : Graph → ℕ → ℕ → Option ℕ
 key_before g a y = least (filter (is_before g a y) (set.items g.keys))
 
+-- y behind the way back to the key before it, if there is one
 abbrev pub behind_before : (ℕ → List ℕ) → ℕ → Option ℕ → List ℕ
 behind_before back y None = y ∷ []
 behind_before back y (Some x) = back x ++ y ∷ []
@@ -76,6 +78,7 @@ abbrev pub cheapest_back : Graph → ℕ → ℕ → ℕ → List ℕ
 cheapest_back g a zero y = y ∷ []
 cheapest_back g a (suc n) y = cond (y == a) (y ∷ []) (behind_before (cheapest_back g a n) y (key_before g a y))
 
+-- the cheapest path from a to b: the costs fall on the way back, so no key is met twice and the turns are enough
 abbrev pub cheapest_path : Graph → ℕ → ℕ → List ℕ
 cheapest_path g a b = cheapest_back g a (key_count g) b
 
