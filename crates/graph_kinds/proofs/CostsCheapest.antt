@@ -12,6 +12,7 @@ use Rattle.graph_kinds.proofs.PathsWalks.{weight_there, path_on, key_behind}
 use Rattle.graph_kinds.proofs.CostsPaths.{path_head}
 use Rattle.graph_kinds.proofs.CostsLeast.{least_is, least_there, some_least, least_some}
 
+-- one more pair at the end of a path adds its weight
 pub cost_on : (g : Graph) (a y x w : ℕ) (q : List ℕ) → IsPath g a y q → weight_of g y x ≡ Some w → cost_of g (q ++ x ∷ []) ≡ cost_of g q + w
 cost_on g a y x w [] h is = absurd h
 cost_on g a y x w (z ∷ []) h is =
@@ -28,6 +29,7 @@ pub record IsBehind (g : Graph) (a y cost : ℕ) : Type 0 where
   pub pair : weight_of g x y ≡ Some weight
   pub total : cost_of g front + weight ≡ cost
 
+-- one more pair at its front
 behind_on : (g : Graph) (a x y z c : ℕ) → x ≡ a → is_some (weight_of g x z) ≡ true → IsBehind g z y c → IsBehind g a y (unwrap_or (weight_of g x z) 0 + c)
 behind_on g a x y z c same pair b =
     let head = path_head g z b.x b.front b.is_path in
@@ -40,6 +42,7 @@ behind_on g a x y z c same pair b =
       total = omega (arith, b.total, ap (cost_of g) head.1);
     }
 
+-- a path of two keys at least ends with a pair
 last_pair : (g : Graph) → IsGraph g → (a y : ℕ) → has g a ≡ true → (x z : ℕ) (p : List ℕ) → IsPath g a y (x ∷ z ∷ p) → IsBehind g a y (cost_of g (x ∷ z ∷ p))
 last_pair g is a y there x z [] h =
     let same : z ≡ y = h.2.1 in
@@ -55,6 +58,7 @@ last_pair g is a y there x z [] h =
     }
 last_pair g is a y there x z (u ∷ p) h = behind_on g a x y z (cost_of g (z ∷ u ∷ p)) h.0 h.1 (last_pair g is z y (key_behind g is x z h.1) z u p h.2)
 
+-- and so does each path to another key than the first
 pub path_behind : (g : Graph) → IsGraph g → (a y : ℕ) → has g a ≡ true → a ≢ y → (p : List ℕ) → IsPath g a y p → IsBehind g a y (cost_of g p)
 path_behind g is a y there ne [] h = absurd h
 path_behind g is a y there ne (x ∷ []) h = absurd (ne (sym h.0 ∙ h.1))
@@ -67,9 +71,11 @@ test_leads g a x y (Some c) None d p q r t = absurd (true≢false (sym t))
 test_leads g a x y (Some c) (Some w) None p q r t = absurd (true≢false (sym t))
 test_leads g a x y (Some c) (Some w) (Some d) p q r t = record { cost = c; weight = w; to_x = p; pair = q; to_y = r ∙ ap (λ (n : ℕ). Some n) (sym (eqb-true (c + w) d t)) }
 
+-- the test on a key and the record of it say the same
 pub leads : (g : Graph) (a x y : ℕ) → is_before g a y x ≡ true → LeadsOver g a x y
 leads g a x y t = test_leads g a x y (least_cost g a x) (weight_of g x y) (least_cost g a y) refl refl refl t
 
+-- and back
 pub leads_test : (g : Graph) (a x y : ℕ) → LeadsOver g a x y → is_before g a y x ≡ true
 leads_test g a x y l =
     ap (λ (o : Option ℕ). reaches_by o (weight_of g x y) (least_cost g a y)) l.to_x
@@ -85,9 +91,11 @@ item_there (y ∷ ys) x e = elim (or_cases (eq_by_cmp nat_cmp x y) (list_any (eq
   | inr t ↦ inr (item_there ys x t)
 ]
 
+-- each key is an item
 pub key_item : (g : Graph) (x : ℕ) → has g x ≡ true → In x (set.items g.keys)
 key_item g x h = item_there (set.items g.keys) x (sym (set.contains-items g.keys x) ∙ h)
 
+-- the key before is the least over which a cheapest way leads
 pub before_is : (g : Graph) → IsGraph g → (a x y : ℕ) → key_before g a y ≡ Some x → IsKeyBefore g a x y
 before_is g is a x y e =
     let l = least_is (filter (is_before g a y) (set.items g.keys)) x e in
@@ -122,11 +130,13 @@ before_there g is a y d there ne e =
       to_y = e ∙ ap (λ (n : ℕ). Some n) (sym (over.total ∙ best.cost));
     }
 
+-- the last key of a path is a key of the graph
 pub path_end : (g : Graph) (a b : ℕ) (p : List ℕ) → IsPath g a b p → has g b ≡ true
 path_end g a b [] h = absurd h
 path_end g a b (x ∷ []) h = subst (λ (z : ℕ). has g z ≡ true) h.1 h.2
 path_end g a b (x ∷ y ∷ p) h = path_end g y b (y ∷ p) h.2
 
+-- one more key at the end of a path by the least keys
 keys_on : (g : Graph) (a start x y : ℕ) (q : List ℕ) → IsPath g start x q → GoesByLeastKeys g a q → IsKeyBefore g a x y → GoesByLeastKeys g a (q ++ y ∷ [])
 keys_on g a start x y [] h k b = absurd h
 keys_on g a start x y (z ∷ []) h k b = (subst (λ (u : ℕ). IsKeyBefore g a u y) (sym h.1) b, tt)
@@ -143,15 +153,18 @@ abbrev Dearer : Graph → ℕ → ℕ → ℕ → Type 0
 Dearer g a d z = (e : ℕ) × (least_cost g a z ≡ Some e) × (d < e)
 
 module _ (g : Graph) (is : IsGraph g) (a : ℕ) (there : has g a ≡ true) where
+  -- what has a least cost is a key
   end_key : (y d : ℕ) → least_cost g a y ≡ Some d → has g y ≡ true
   end_key y d e = let best : IsLeastCost g a y d = some_least g a y is there d e in path_end g a y best.path best.is_path
 
+  -- the path of one key
   start_best : (y d : ℕ) → least_cost g a y ≡ Some d → y ≡ a → IsCheapest g a y d (y ∷ [])
   start_best y d e same =
       let best : IsLeastCost g a y d = some_least g a y is there d e in
       let here : IsPath g a y (y ∷ []) = (same, refl, end_key y d e) in
       record { is_path = here; cost = omega (arith, best.least (y ∷ []) here); keys = tt }
 
+  -- one more key at the end of a cheapest path
   step_best : (x y d : ℕ) (q : List ℕ) (k : IsKeyBefore g a x y) → least_cost g a y ≡ Some d → IsCheapest g a x k.leads.cost q → IsCheapest g a y d (q ++ y ∷ [])
   step_best x y d q k e b =
       let l : LeadsOver g a x y = k.leads in
@@ -166,12 +179,14 @@ module _ (g : Graph) (is : IsGraph g) (a : ℕ) (there : has g a ≡ true) where
   abbrev DearKeys : ℕ → List ℕ → Type 0
   DearKeys d later = (z : ℕ) → In z later → (has g z ≡ true) × Dearer g a d z
 
+  -- a key is not among those that cost more than it
   not_later : (y d : ℕ) (later : List ℕ) → least_cost g a y ≡ Some d → DearKeys d later → In y later → ⊥
   not_later y d later e dear h =
       let r = (dear y h).1 in
       let same : d ≡ r.0 = ap (λ (o : Option ℕ). unwrap_or o d) (sym e ∙ r.1) in
       absurd (omega (arith, same, r.2))
 
+  -- the key before costs less, so these and y cost more than it
   dear_before : (x y d : ℕ) (later : List ℕ) (k : IsKeyBefore g a x y) → least_cost g a y ≡ Some d → DearKeys d later → DearKeys k.leads.cost (y ∷ later)
   dear_before x y d later k e dear z h =
       let l : LeadsOver g a x y = k.leads in
@@ -200,6 +215,7 @@ module _ (g : Graph) (is : IsGraph g) (a : ℕ) (there : has g a ≡ true) where
   pub cheapest : (b c : ℕ) → least_cost g a b ≡ Some c → IsCheapest g a b c (cheapest_path g a b)
   cheapest b c e = back_best (key_count g) b c e [] tt (λ z h. absurd h) (omega arith)
 
+-- the clauses of the law
 pub cheapest_path_law : (g : Graph) (a b c : ℕ) → IsGraph g → has g a ≡ true → least_cost g a b ≡ Some c → IsPath g a b (cheapest_path g a b)
 cheapest_path_law g a b c is there e = (cheapest g is a there b c e).is_path
 

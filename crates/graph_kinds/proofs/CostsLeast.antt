@@ -11,6 +11,7 @@ pub record IsLeastOf (xs : List ℕ) (c : ℕ) : Type 0 where
   pub within : In c xs
   pub bound : (y : ℕ) → In y xs → c ≤ y
 
+-- the least of a list with one more number, by the least of those behind it
 least_of : (x : ℕ) (xs : List ℕ) → ((d : ℕ) → least xs ≡ Some d → IsLeastOf xs d) → (o : Option ℕ) → least xs ≡ o → (c : ℕ) → min x (unwrap_or o x) ≡ c → IsLeastOf (x ∷ xs) c
 least_of x [] later None e c is = record { within = inl (omega (arith, is)); bound = λ y h. elim h as (λ _. c ≤ y) [ inl same ↦ omega (arith, is, same) | inr k ↦ absurd k ] }
 least_of x (z ∷ zs) later None e c is = absurd (cc)
@@ -24,6 +25,7 @@ least_of x xs later (Some d) e c is =
       bound = λ y h. elim h as (λ _. c ≤ y) [ inl same ↦ omega (arith, is, same) | inr k ↦ omega (arith, is, r.bound y k) ];
     }
 
+-- what `least` answers is the least
 pub least_is : (xs : List ℕ) (c : ℕ) → least xs ≡ Some c → IsLeastOf xs c
 least_is [] c e = absurd (cc)
 least_is (x ∷ xs) c e = least_of x xs (λ d. least_is xs d) (least xs) refl c (ap (λ (o : Option ℕ). unwrap_or o c) e)
@@ -48,15 +50,18 @@ module _ (g : Graph) (a b : ℕ) (is : IsGraph g) (there : has g a ≡ true) whe
       let listed = short_listed g a b (key_count g) r.path r.is_path (route_short g a b (cost_of g p) is r) in
       (cost_of g r.path, in_map (cost_of g) r.path _ (in_filter (ends_with b) r.path (short_paths g (key_count g) a) listed (path_ends g a b r.path r.is_path)), r.cheap)
 
+  -- the least cost of the listed paths is the least of all
   pub some_least : (c : ℕ) → least_cost g a b ≡ Some c → IsLeastCost g a b c
   some_least c e =
       let l = least_is (map (cost_of g) (filter (ends_with b) (short_paths g (key_count g) a))) c e in
       let p = cost_path c l.within in
       record { path = p.0; is_path = p.1; cost = p.2; least = λ q h. let r = path_cost q h in omega (arith, r.2, l.bound r.0 r.1) }
 
+  -- where a path leads there is a least cost
   pub path_least : (p : List ℕ) → IsPath g a b p → (c : ℕ) × (least_cost g a b ≡ Some c)
   path_least p h = let r = path_cost p h in least_there r.0 (map (cost_of g) (filter (ends_with b) (short_paths g (key_count g) a))) r.1
 
+  -- the least cost of all paths is answered
   pub least_some : (c : ℕ) → IsLeastCost g a b c → least_cost g a b ≡ Some c
   least_some c l =
       let r = path_least l.path l.is_path in
@@ -64,9 +69,11 @@ module _ (g : Graph) (a b : ℕ) (is : IsGraph g) (there : has g a ≡ true) whe
       let same : r.0 ≡ c = omega (arith, k.least l.path l.is_path, l.cost, l.least k.path k.is_path, k.cost) in
       r.1 ∙ ap (λ (d : ℕ). Some d) same
 
+  -- without a least cost there is no path
   pub none_empty : least_cost g a b ≡ None → (p : List ℕ) → ¬ (IsPath g a b p)
   none_empty e p h = let r = path_least p h in let f = r.1 in cc
 
+  -- and back
   pub empty_none : ((p : List ℕ) → ¬ (IsPath g a b p)) → least_cost g a b ≡ None
   empty_none empty = from (least_cost g a b) refl
     where
@@ -74,6 +81,7 @@ module _ (g : Graph) (a b : ℕ) (is : IsGraph g) (there : has g a ≡ true) whe
       from None e = e
       from (Some c) e = let l = some_least c e in absurd (empty l.path l.is_path)
 
+-- the clauses of the law
 pub least_law : (g : Graph) (a b c : ℕ) → IsGraph g → has g a ≡ true → (least_cost g a b ≡ Some c) ↔ IsLeastCost g a b c
 least_law g a b c is there = (some_least g a b is there c, least_some g a b is there c)
 

@@ -16,6 +16,7 @@ record IsSplit (g : Graph) (a start b : ℕ) (p : List ℕ) : Type 0 where
   pub keys : GoesByLeastKeys g a front
   pub key : IsKeyBefore g a x b
 
+-- the split of a path with one more pair at its front
 split_on : (g : Graph) (a start b x y : ℕ) (p : List ℕ) → IsGraph g → x ≡ start → is_some (weight_of g x y) ≡ true → IsKeyBefore g a x y
     → ((p ≡ b ∷ []) × (y ≡ b)) ⊎ IsSplit g a y b p → IsSplit g a start b (x ∷ p)
 split_on g a start b x y p is same pair k (inl e) =
@@ -39,6 +40,7 @@ split_on g a start b x y p is same pair k (inr s) =
       key = s.key;
     }
 
+-- each path is one key or has a key before its last one
 split : (g : Graph) (a start b : ℕ) (p : List ℕ) → IsGraph g → IsPath g start b p → GoesByLeastKeys g a p → ((p ≡ b ∷ []) × (start ≡ b)) ⊎ IsSplit g a start b p
 split g a start b [] is h k = absurd h
 split g a start b (x ∷ []) is h k = inl (ap (λ (z : ℕ). z ∷ []) h.1, sym h.0 ∙ h.1)
@@ -52,6 +54,7 @@ none_before g a x b is there k same =
     let total : l.cost + l.weight ≡ 0 = ap (λ (o : Option ℕ). unwrap_or o 0) (sym l.to_y ∙ e) in
     absurd (omega (arith, total, is.weighed x b l.weight l.pair))
 
+-- two paths to a key by the least keys are one, from the last key back
 same_path : (g : Graph) (a : ℕ) → IsGraph g → has g a ≡ true → (n b : ℕ) (p q : List ℕ) → length p ≤ n → IsPath g a b p → GoesByLeastKeys g a p → IsPath g a b q → GoesByLeastKeys g a q → p ≡ q
 same_path g a is there zero b [] q short h k i j = absurd h
 same_path g a is there zero b (x ∷ p) q short h k i j = absurd (omega arith)
@@ -71,6 +74,7 @@ same_path g a is there (suc n) b p q short h k i j =
       ]
     ]
 
+-- so each such path is the one found backwards
 pub only_law : (g : Graph) (a b : ℕ) (p : List ℕ) → IsGraph g → has g a ≡ true → IsPath g a b p → GoesByLeastKeys g a p → p ≡ cheapest_path g a b
 only_law g a b p is there h k =
     let r = path_least g a b is there p h in

@@ -6,11 +6,13 @@ use Rattle.graph_kinds.specs.Path.{IsPath, cost_of, paths_of, short_paths, ends_
 use Rattle.graph_kinds.proofs.PathsLists.{In, Once, in_left, in_right, in_either, in_map, map_in, in_flat, flat_in, in_or_not, few}
 use Rattle.graph_kinds.proofs.PathsWalks.{in_neighbours, neighbours_in, key_behind, path_keys}
 
+-- a path to b ends with b
 pub path_ends : (g : Graph) (a b : ℕ) (p : List ℕ) → IsPath g a b p → ends_with b p ≡ true
 path_ends g a b [] h = absurd h
 path_ends g a b (x ∷ []) h = eq-eqb x b h.1
 path_ends g a b (x ∷ y ∷ p) h = path_ends g y b (y ∷ p) h.2
 
+-- each path of n pairs is listed
 pub path_listed : (g : Graph) (a b n : ℕ) (p : List ℕ) → IsPath g a b p → length p ≡ n + 1 → In p (paths_of g n a)
 path_listed g a b n [] h long = absurd h
 path_listed g a b zero (x ∷ []) h long = inl (ap (λ (z : ℕ). z ∷ []) (sym h.0))
@@ -28,6 +30,7 @@ path_before g a y b [] h pair = absurd h
 path_before g a y b (z ∷ []) h pair = (refl, subst (λ (u : ℕ). is_some (weight_of g a u) ≡ true) (sym h.0) pair, (refl, h.1, h.2))
 path_before g a y b (z ∷ u ∷ q) h pair = (refl, subst (λ (v : ℕ). is_some (weight_of g a v) ≡ true) (sym h.0) pair, (refl, h.1, h.2))
 
+-- a listed path has a key, so one more at its front changes no end
 ends_before : (b x : ℕ) (n : ℕ) (g : Graph) (y : ℕ) (q : List ℕ) → In q (paths_of g n y) → ends_with b (x ∷ q) ≡ true → ends_with b q ≡ true
 ends_before b x n g y [] h e = absurd (none n y h)
   where
@@ -40,6 +43,7 @@ ends_before b x n g y [] h e = absurd (none n y h)
         let f = s.2 in absurd (cc)
 ends_before b x n g y (z ∷ q) h e = e
 
+-- what is listed and ends with b is a path to b
 pub listed_path : (g : Graph) (a b n : ℕ) (p : List ℕ) → IsGraph g → has g a ≡ true → In p (paths_of g n a) → ends_with b p ≡ true → IsPath g a b p
 listed_path g a b zero p is there (inl same) e =
     let end : a ≡ b = eqb-true a b (subst (λ (q : List ℕ). ends_with b q ≡ true) (sym same) e) in
@@ -53,6 +57,7 @@ listed_path g a b (suc n) p is there h e =
     let later = listed_path g r.0 b n s.0 is (key_behind g is a r.0 pair) s.1 (ends_before b a n g r.0 s.0 s.1 end) in
     subst (IsPath g a b) s.2 (path_before g a r.0 b s.0 later pair)
 
+-- each path of fewer than n pairs is listed
 pub short_listed : (g : Graph) (a b n : ℕ) (p : List ℕ) → IsPath g a b p → length p ≤ n → In p (short_paths g n a)
 short_listed g a b zero [] h short = absurd h
 short_listed g a b zero (x ∷ p) h short = absurd (omega arith)
@@ -61,6 +66,7 @@ short_listed g a b (suc n) p h short = elim (cases_lt n (length p)) as (λ _. In
   | inr le ↦ in_left p (short_paths g n a) (paths_of g n a) (short_listed g a b n p h le)
 ]
 
+-- what is listed there and ends with b is a path to b
 pub short_path : (g : Graph) (a b n : ℕ) (p : List ℕ) → IsGraph g → has g a ≡ true → In p (short_paths g n a) → ends_with b p ≡ true → IsPath g a b p
 short_path g a b zero p is there h e = absurd h
 short_path g a b (suc n) p is there h e = elim (in_either p (short_paths g n a) (paths_of g n a) h) as (λ _. IsPath g a b p) [
@@ -75,6 +81,7 @@ pub record IsRoute (g : Graph) (x b c : ℕ) : Type 0 where
   pub once : Once path
   pub cheap : cost_of g path ≤ c
 
+-- a higher bound
 cheaper : (g : Graph) (x b c d : ℕ) → c ≤ d → IsRoute g x b c → IsRoute g x b d
 cheaper g x b c d le r = record { path = r.path; is_path = r.is_path; once = r.once; cheap = omega (arith, r.cheap, le) }
 
@@ -86,11 +93,13 @@ part_from g y b x (z ∷ []) h o (inr k) = absurd k
 part_from g y b x (z ∷ u ∷ q) h o (inl e) = record { path = z ∷ u ∷ q; is_path = (e, h.1, h.2); once = o; cheap = omega arith }
 part_from g y b x (z ∷ u ∷ q) h o (inr k) = cheaper g x b (cost_of g (u ∷ q)) (cost_of g (z ∷ u ∷ q)) (omega arith) (part_from g u b x (u ∷ q) h.2 o.1 k)
 
+-- a path from y begins with y
 pub path_head : (g : Graph) (y b : ℕ) (q : List ℕ) → IsPath g y b q → (rest : List ℕ) × (q ≡ y ∷ rest)
 path_head g y b [] h = absurd h
 path_head g y b (z ∷ []) h = ([], ap (λ (u : ℕ). u ∷ []) h.0)
 path_head g y b (z ∷ u ∷ q) h = (u ∷ q, ap (λ (v : ℕ). v ∷ u ∷ q) h.0)
 
+-- one more pair at the front, where a round is left out
 route_on : (g : Graph) (a x y b c : ℕ) → x ≡ a → is_some (weight_of g x y) ≡ true → IsRoute g y b c → IsRoute g a b (unwrap_or (weight_of g x y) 0 + c)
 route_on g a x y b c same pair r = elim (in_or_not r.path x) as (λ _. IsRoute g a b (unwrap_or (weight_of g x y) 0 + c)) [
   | inl k ↦ subst (λ (z : ℕ). IsRoute g z b (unwrap_or (weight_of g x y) 0 + c)) same
@@ -110,5 +119,6 @@ cut g a b [] h = absurd h
 cut g a b (x ∷ []) h = record { path = x ∷ []; is_path = h; once = (λ k. k, tt); cheap = omega arith }
 cut g a b (x ∷ y ∷ p) h = route_on g a x y b (cost_of g (y ∷ p)) h.0 h.1 (cut g y b (y ∷ p) h.2)
 
+-- a path that meets no key twice has no more keys than the graph
 pub route_short : (g : Graph) (a b c : ℕ) → IsGraph g → (r : IsRoute g a b c) → length r.path ≤ key_count g
 route_short g a b c is r = few g.keys r.path r.once (path_keys g a b r.path is r.is_path)

@@ -19,6 +19,7 @@ distance_is_walk g a x n is there d =
     nearer : Sooner g a n x → ⊥
     nearer s = let p = path_from_walk g a is there s.0 x s.2 in absurd (omega (arith, s.1, p.2, d.fewest p.0 p.1))
 
+-- and back
 pub walk_is_distance : (g : Graph) (a x n : ℕ) → IsGraph g → has g a ≡ true → Walk g a n x → (Sooner g a n x → ⊥) → IsDistance g a x n
 walk_is_distance g a x n is there w new =
     let p = path_from_walk g a is there n x w in
@@ -28,9 +29,11 @@ walk_is_distance g a x n is there w new =
     fewest q h = let v = walk_from_path g a x q h in
         elim (cases_lt v.0 n) as (λ _. n + 1 ≤ length q) [ inl lt ↦ absurd (new (v.0, lt, v.1)) | inr le ↦ omega (arith, le, v.2) ]
 
+-- the levels from a are levels by distance
 all_levelled : (g : Graph) (a : ℕ) → IsGraph g → has g a ≡ true → IsLevelled g a 0 (levels_of g a)
 all_levelled g a is there = levelled g a is there (key_count g) 0 [] (a ∷ []) (first_turn g a) (omega arith)
 
+-- the clauses of the law, and what they share
 pub level_law : (g : Graph) (a x i : ℕ) → IsGraph g → has g a ≡ true → (stands_in (level_at (levels_of g a) i) x ≡ true) ↔ IsDistance g a x i
 level_law g a x i is there = (
   λ h. (let r = (all_levelled g a is there).at_distance x i (in_standing (level_at (levels_of g a) i) x h) in
@@ -41,11 +44,13 @@ level_law g a x i is there = (
       stands (level_at (levels_of g a) i) x ((all_levelled g a is there).at_level x i (subst (λ (n : ℕ). Walk g a n x) now w.0) (λ s. w.1 (s.0, omega (arith, s.1), s.2)))),
 )
 
+-- what stands in a level stands in the levels
 pub in_some_level : (x : ℕ) (ls : List (List ℕ)) (i : ℕ) → In x (level_at ls i) → (i < length ls) × In x (concat ls)
 in_some_level x [] i h = absurd h
 in_some_level x (l ∷ ls) zero h = (omega arith, in_left x l (concat ls) h)
 in_some_level x (l ∷ ls) (suc i) h = let r = in_some_level x ls i h in (omega (arith, r.0), in_right x l (concat ls) r.1)
 
+-- what stands in the levels stands in one
 level_of : (x : ℕ) (ls : List (List ℕ)) → In x (concat ls) → (i : ℕ) × In x (level_at ls i)
 level_of x [] h = absurd h
 level_of x (l ∷ ls) h = elim (in_either x l (concat ls) h) as (λ _. (i : ℕ) × In x (level_at (l ∷ ls) i)) [

@@ -26,23 +26,27 @@ abbrev pub Behind : Graph → ℕ → List (List ℕ) → ℕ → Type 0
 Behind g a [] y = a ≡ y
 Behind g a (level ∷ earlier) y = ((x : ℕ) × In x level × (is_some (weight_of g x y) ≡ true)) × ((x : ℕ) → In x level → Behind g a earlier x)
 
+-- x is the parent of y in the level before
 record IsParent (g : Graph) (level : List ℕ) (y x : ℕ) : Type 0 where
   pub found : find (λ z. is_some (weight_of g z y)) level ≡ Some x
   pub within : In x level
   pub pair : is_some (weight_of g x y) ≡ true
 
+-- a key with an edge from that level has a parent there
 parent : (g : Graph) (level : List ℕ) (x y : ℕ) → In x level → is_some (weight_of g x y) ≡ true → IsParent g level y (parent_in g y level)
 parent g level x y h pair =
     let r = find_there (λ z. is_some (weight_of g z y)) level x h pair in
     let same : r.0 ≡ parent_in g y level = sym (ap (λ (o : Option ℕ). unwrap_or o y) r.1) in
     subst (IsParent g level y) same (record { found = r.1; within = r.2; pair = r.3 })
 
+-- the way back has a key for each level
 way_long : (g : Graph) (earlier : List (List ℕ)) (y : ℕ) → length (way_back g earlier y) ≡ length earlier + 1
 way_long g [] y = refl
 way_long g (level ∷ earlier) y =
     let q = way_back g earlier (parent_in g y level) in
     omega (arith, length-append q (y ∷ []), way_long g earlier (parent_in g y level))
 
+-- the way back is a path
 way_path : (g : Graph) (a : ℕ) → IsGraph g → has g a ≡ true → (earlier : List (List ℕ)) (y : ℕ) → Behind g a earlier y → IsPath g a y (way_back g earlier y)
 way_path g a is there [] y e = (sym e, refl, subst (λ (z : ℕ). has g z ≡ true) e there)
 way_path g a is there (level ∷ earlier) y b =
@@ -55,6 +59,7 @@ abbrev StandBefore : List (List ℕ) → List (List ℕ) → Type 0
 StandBefore levels [] = Unit {0}
 StandBefore levels (level ∷ earlier) = (level_at levels (length earlier) ≡ level) × StandBefore levels earlier
 
+-- it ends with the key that it is the way to
 way_last : (g : Graph) (earlier : List (List ℕ)) (y : ℕ) → get_or (way_back g earlier y) (length earlier) 0 ≡ y
 way_last g [] y = refl
 way_last g (level ∷ earlier) y =
@@ -62,6 +67,7 @@ way_last g (level ∷ earlier) y =
     let long : suc (length earlier) ≡ length q = omega (arith, way_long g earlier (parent_in g y level)) in
     ap (λ (i : ℕ). get_or (q ++ y ∷ []) i 0) long ∙ get_or-append_seam q y [] 0
 
+-- it goes by parents
 way_parents : (g : Graph) (a : ℕ) (levels earlier : List (List ℕ)) (y : ℕ) → StandBefore levels earlier → Behind g a earlier y → GoesByParents g levels (way_back g earlier y)
 way_parents g a levels [] y s b i h = absurd (omega arith)
 way_parents g a levels (level ∷ earlier) y s b i h = elim (cases_lt (i + 1) (length q)) as (λ _. Parent (get_or (q ++ y ∷ []) (i + 1) 0) i (get_or (q ++ y ∷ []) i 0)) [
@@ -98,11 +104,13 @@ abbrev pub IsWay : Graph → ℕ → List (List ℕ) → ℕ → List ℕ → Op
 IsWay g a levels b known None = (n : ℕ) → Walk g a n b → In b known
 IsWay g a levels b known (Some p) = IsPath g a b p × ((q : List ℕ) → IsPath g a b q → length p ≤ length q) × GoesByParents g levels p
 
+-- what is not in this level and known with it was known before
 way_narrower : (g : Graph) (a : ℕ) (levels : List (List ℕ)) (b : ℕ) (known level : List ℕ) → stands_in level b ≡ false → (o : Option (List ℕ)) → IsWay g a levels b (known ++ level) o → IsWay g a levels b known o
 way_narrower g a levels b known level out None way = λ n w. elim (in_either b known level (way n w)) as (λ _. In b known) [ inl k ↦ k | inr l ↦ absurd (true≢false (sym (stands level b l) ∙ out)) ]
 way_narrower g a levels b known level out (Some p) way = way
 
 module _ (g : Graph) (a : ℕ) (is : IsGraph g) (there : has g a ≡ true) (levels : List (List ℕ)) (b : ℕ) where
+  -- the way to a key of this level
   way_here : (i : ℕ) (known level : List ℕ) (earlier : List (List ℕ)) → IsTurn g a i known level → length earlier ≡ i → StandBefore levels earlier → Behind g a earlier b → In b level
       → IsWay g a levels b known (Some (way_back g earlier b))
   way_here i known level earlier t here before behind h = (way_path g a is there earlier b behind, λ q k. no_shorter q k, way_parents g a levels earlier b before behind)
@@ -115,6 +123,7 @@ module _ (g : Graph) (a : ℕ) (is : IsGraph g) (there : has g a ≡ true) (leve
             | inr le ↦ omega (arith, le, w.2, here, way_long g earlier b)
           ]
 
+  -- the way from a turn on, with n turns that are enough
   way_found : (n i : ℕ) (known level : List ℕ) → IsTurn g a i known level → key_count g ≤ length known + n → (earlier : List (List ℕ)) → length earlier ≡ i → StandBefore levels earlier
       → ((x : ℕ) → In x level → Behind g a earlier x) → ((j : ℕ) → level_at levels (i + j) ≡ level_at (levels_from g n known level) j) → IsWay g a levels b known (way_in g earlier (levels_from g n known level) b)
   way_found zero i known level t enough earlier here before behind ahead = λ n w. t.in_known b (no_more g a i known level t (none_left g a i known level t is there (omega (arith, enough))) n b w)
@@ -139,13 +148,16 @@ module _ (g : Graph) (a : ℕ) (is : IsGraph g) (there : has g a ≡ true) (leve
       next : (x : ℕ) → In x (level_after g (known ++ level) level) → Behind g a (level ∷ earlier) x
       next x h = let r = (after_in g (known ++ level) level x h).1 in ((r.0, r.1, r.2), behind)
 
+-- the way to b is what `reach_path` answers
 pub reach_way : (g : Graph) (a b : ℕ) → IsGraph g → has g a ≡ true → IsWay g a (levels_of g a) b [] (reach_path g a b)
 reach_way g a b is there = way_found g a is there (levels_of g a) b (key_count g) 0 [] (a ∷ []) (first_turn g a) (omega arith) [] refl tt (λ x h. elim h as (λ _. a ≡ x) [ inl e ↦ e | inr l ↦ absurd l ])
     (λ j. let e : 0 + j ≡ j = omega arith in ap (level_at (levels_of g a)) e)
 
+-- where it answers a path
 way_some : (g : Graph) (a b : ℕ) (p : List ℕ) → IsGraph g → has g a ≡ true → reach_path g a b ≡ Some p → IsWay g a (levels_of g a) b [] (Some p)
 way_some g a b p is there e = subst (IsWay g a (levels_of g a) b []) e (reach_way g a b is there)
 
+-- the clauses of the law
 pub reach_path_law : (g : Graph) (a b : ℕ) (p : List ℕ) → IsGraph g → has g a ≡ true → reach_path g a b ≡ Some p → IsPath g a b p
 reach_path_law g a b p is there e = (way_some g a b p is there e).0
 
@@ -165,6 +177,7 @@ no_reach_law g a b is there = (
     none empty None e = e
     none empty (Some p) e = absurd (empty p (reach_path_law g a b p is there e))
 
+-- a path of one key
 only_start : (g : Graph) (a : ℕ) (p : List ℕ) → IsPath g a a p → length p ≤ 1 → p ≡ a ∷ []
 only_start g a [] h short = absurd h
 only_start g a (x ∷ []) h short = ap (λ (z : ℕ). z ∷ []) h.0
@@ -180,6 +193,7 @@ itself_law g a is there = from (reach_path g a a) refl
     from None e = absurd ((no_reach_law g a a is there).0 e (a ∷ []) here)
     from (Some p) e = e ∙ ap (λ (q : List ℕ). Some q) (only_start g a p (reach_path_law g a a p is there e) (shortest_law g a a p is there e (a ∷ []) here))
 
+-- the last place of a path
 path_last : (g : Graph) (a b : ℕ) (p : List ℕ) → IsPath g a b p → (i : ℕ) → i + 1 ≡ length p → get_or p i 0 ≡ b
 path_last g a b [] h i e = absurd h
 path_last g a b (x ∷ []) h zero e = h.1
@@ -188,6 +202,7 @@ path_last g a b (x ∷ y ∷ p) h zero e = absurd (omega arith)
 path_last g a b (x ∷ y ∷ p) h (suc i) e = path_last g y b (y ∷ p) h.2 i (omega arith)
 
 module _ (g : Graph) (a b : ℕ) (levels : List (List ℕ)) (p q : List ℕ) (long : length p ≡ length q) (h : IsPath g a b p) (k : IsPath g a b q) (f : GoesByParents g levels p) (j : GoesByParents g levels q) where
+  -- two paths of one length by parents, from the last key back
   same_places : (n i : ℕ) → i + n + 1 ≡ length p → get_or p i 0 ≡ get_or q i 0
   same_places zero i e = path_last g a b p h i (omega arith) ∙ sym (path_last g a b q k i (omega arith))
   same_places (suc n) i e =
@@ -197,9 +212,11 @@ module _ (g : Graph) (a b : ℕ) (levels : List (List ℕ)) (p q : List ℕ) (lo
       let found = ap (λ (y : ℕ). find (λ x. is_some (weight_of g x y)) (level_at levels i)) next in
       ap (λ (o : Option ℕ). unwrap_or o 0) (sym here ∙ found ∙ there)
 
+  -- so they are one
   same_way : p ≡ q
   same_way = ext_get_or 0 p q long (λ i lt. same_places (length p - suc i) i (omega arith))
 
+-- and a shortest path by parents is the one that is answered
 pub only_law : (g : Graph) (a b : ℕ) (p : List ℕ) → IsGraph g → has g a ≡ true → IsPath g a b p → ((q : List ℕ) → IsPath g a b q → length p ≤ length q) → GoesByParents g (levels_of g a) p → reach_path g a b ≡ Some p
 only_law g a b p is there h least f = from (reach_path g a b) refl
   where

@@ -11,6 +11,7 @@ use Rattle.graph_kinds.proofs.PathsWalks.{Walk, in_neighbours, neighbours_in, wa
 abbrev pub Sooner : Graph → ℕ → ℕ → ℕ → Type 0
 Sooner g a n x = (m : ℕ) × (m < n) × Walk g a m x
 
+-- at turn i: known are the keys nearer than i, level those at distance i, and each stands once
 pub record IsTurn (g : Graph) (a i : ℕ) (known level : List ℕ) : Type 0 where
   pub known_in : (x : ℕ) → In x known → Sooner g a i x
   pub in_known : (x : ℕ) → Sooner g a i x → In x known
@@ -20,6 +21,7 @@ pub record IsTurn (g : Graph) (a i : ℕ) (known level : List ℕ) : Type 0 wher
   pub once_level : Once level
   pub apart : (x : ℕ) → In x known → In x level → ⊥
 
+-- the level of the first key alone
 pub first_turn : (g : Graph) (a : ℕ) → IsTurn g a 0 [] (a ∷ [])
 first_turn g a = record {
   known_in = λ x h. absurd h;
@@ -39,11 +41,13 @@ after_in g known level x h =
     let r = flat_in (neighbours g) x level f.0 in
     (λ k. true≢false (sym f.1 ∙ ap not (stands known x k)), (r.0, r.1, neighbours_in g r.0 x r.2))
 
+-- and back
 in_after : (g : Graph) (known level : List ℕ) (x y : ℕ) → (In x known → ⊥) → In y level → is_some (weight_of g y x) ≡ true → In x (level_after g known level)
 in_after g known level x y new h pair =
     in_firsts x _ (in_filter (λ (z : ℕ). not (stands_in known z)) x (flat_map (neighbours g) level) (in_flat (neighbours g) y x level h (in_neighbours g y x pair)) (ap not (not_standing known x new)))
 
 module _ (g : Graph) (a i : ℕ) (known level : List ℕ) (t : IsTurn g a i known level) where
+  -- the keys known at the next turn are those nearer than its number
   all_known : (x : ℕ) → Sooner g a (suc i) x → In x (known ++ level)
   all_known x h = elim (cases_lt h.0 i) as (λ _. In x (known ++ level)) [
     | inl lt ↦ in_left x known level (t.in_known x (h.0, lt, h.2))
@@ -51,12 +55,14 @@ module _ (g : Graph) (a i : ℕ) (known level : List ℕ) (t : IsTurn g a i know
         elim (t.in_level x (subst (λ (n : ℕ). Walk g a n x) now h.2)) as (λ _. In x (known ++ level)) [ inl k ↦ in_left x known level k | inr l ↦ in_right x known level l ]
   ]
 
+  -- and back
   known_all : (x : ℕ) → In x (known ++ level) → Sooner g a (suc i) x
   known_all x h = elim (in_either x known level h) as (λ _. Sooner g a (suc i) x) [
     | inl k ↦ let s = t.known_in x k in (s.0, omega (arith, s.1), s.2)
     | inr l ↦ (i, omega arith, t.level_in x l)
   ]
 
+  -- what is reached in one step more is known or in the next level
   reached : (x : ℕ) → Walk g a (suc i) x → In x (known ++ level) ⊎ In x (level_after g (known ++ level) level)
   reached x w = elim (in_or_not (known ++ level) x) as (λ _. In x (known ++ level) ⊎ In x (level_after g (known ++ level) level)) [
     | inl k ↦ inl k
@@ -77,9 +83,11 @@ module _ (g : Graph) (a i : ℕ) (known level : List ℕ) (t : IsTurn g a i know
     apart = λ x k h. (after_in g (known ++ level) level x h).0 k;
   }
 
+  -- where the level is empty, what is reached now was reached sooner
   known_here : level ≡ [] → (x : ℕ) → Walk g a i x → Sooner g a i x
   known_here none x w = elim (t.in_level x w) as (λ _. Sooner g a i x) [ inl k ↦ t.known_in x k | inr l ↦ absurd (subst (In x) none l) ]
 
+  -- and what is reached by now
   by_then : level ≡ [] → (n x : ℕ) → n ≤ i → Walk g a n x → Sooner g a i x
   by_then none n x le w = elim (cases_lt n i) as (λ _. Sooner g a i x) [
     | inl lt ↦ (n, lt, w)
@@ -107,12 +115,14 @@ pub record IsLevelled (g : Graph) (a i : ℕ) (levels : List (List ℕ)) : Type 
   pub at_distance : (x j : ℕ) → In x (level_at levels j) → Walk g a (i + j) x × (Sooner g a (i + j) x → ⊥)
   pub at_level : (x j : ℕ) → Walk g a (i + j) x → (Sooner g a (i + j) x → ⊥) → In x (level_at levels j)
 
+-- no level is left
 levelled_end : (g : Graph) (a i : ℕ) (known : List ℕ) → IsTurn g a i known [] → IsLevelled g a i []
 levelled_end g a i known t = record {
   at_distance = λ x j h. absurd h;
   at_level = λ x j w new. let s = no_more g a i known [] t refl (i + j) x w in absurd (new (s.0, omega (arith, s.1), s.2));
 }
 
+-- one more level at the front
 levelled_step : (g : Graph) (a i : ℕ) (known level : List ℕ) (later : List (List ℕ)) → IsTurn g a i known level → IsLevelled g a (suc i) later → IsLevelled g a i (level ∷ later)
 levelled_step g a i known level later t l = record {
   at_distance = λ x j h. here x j h;

@@ -7,6 +7,7 @@ use Rattle.std.specs.FinSet as set
 use Rattle.graph_kinds.specs.Levels.{stands_in, firsts_of}
 
 module _ {A : Type 0} where
+  -- x stands in the list
   abbrev pub In : A → List A → Type 0
   In x [] = ⊥
   In x (y ∷ ys) = (y ≡ x) ⊎ In x ys
@@ -16,6 +17,7 @@ module _ {A : Type 0} where
   Once [] = Unit {0}
   Once (x ∷ xs) = (In x xs → ⊥) × Once xs
 
+  -- what stands in a part stands in the whole, and back
   pub in_left : (x : A) (xs ys : List A) → In x xs → In x (xs ++ ys)
   in_left x [] ys h = absurd h
   in_left x (y ∷ xs) ys (inl e) = inl e
@@ -30,6 +32,7 @@ module _ {A : Type 0} where
   in_either x (y ∷ xs) ys (inl e) = inl (inl e)
   in_either x (y ∷ xs) ys (inr h) = elim (in_either x xs ys h) as (λ _. In x (y ∷ xs) ⊎ In x ys) [ inl k ↦ inl (inr k) | inr k ↦ inr k ]
 
+  -- what stands in a list and passes, stands in what the filter keeps, and back
   pub in_filter : (p : A → Bool) (x : A) (xs : List A) → In x xs → p x ≡ true → In x (filter p xs)
   in_filter p x [] h t = h
   in_filter p x (y ∷ ys) (inl e) t = subst (λ (b : Bool). In x (cond b (y ∷ filter p ys) (filter p ys))) (sym (ap p e ∙ t)) (inl e)
@@ -44,6 +47,7 @@ module _ {A : Type 0} where
     | false ↦ λ t k. let r = filter_in p x ys k in (inr r.0, r.1)
   ] refl h
 
+  -- lists that share nothing, one behind the other
   pub once_append : (xs ys : List A) → Once xs → Once ys → ((x : A) → In x xs → In x ys → ⊥) → Once (xs ++ ys)
   once_append [] ys f g apart = g
   once_append (x ∷ xs) ys f g apart = (
@@ -51,6 +55,7 @@ module _ {A : Type 0} where
     once_append xs ys f.1 g (λ z h k. apart z (inr h) k),
   )
 
+  -- a filter of a list in which nothing stands twice
   pub once_filter : (p : A → Bool) (xs : List A) → Once xs → Once (filter p xs)
   once_filter p [] f = tt
   once_filter p (x ∷ xs) f =
@@ -63,6 +68,7 @@ module _ {A : Type 0} where
   in_place (x ∷ xs) zero d h = inl refl
   in_place (x ∷ xs) (suc k) d h = inr (in_place xs k d (omega arith))
 
+  -- items at different places differ
   pub pairs_from_once : (xs : List A) → Once xs → AllPairs (λ x y. x ≢ y) xs
   pairs_from_once [] f i j d lt h = absurd (omega arith)
   pairs_from_once (x ∷ xs) f i zero d lt h = absurd (omega arith)
@@ -70,6 +76,7 @@ module _ {A : Type 0} where
   pairs_from_once (x ∷ xs) f (suc i) (suc j) d lt h = pairs_from_once xs f.1 i j d (omega arith) (omega arith)
 
 module _ {A B : Type 0} where
+  -- what stands in a mapped list, and back
   pub in_map : (f : A → B) (x : A) (xs : List A) → In x xs → In (f x) (map f xs)
   in_map f x [] h = absurd h
   in_map f x (y ∷ ys) (inl e) = inl (ap f e)
@@ -80,6 +87,7 @@ module _ {A B : Type 0} where
   map_in f z (y ∷ ys) (inl e) = (y, inl refl, e)
   map_in f z (y ∷ ys) (inr h) = let r = map_in f z ys h in (r.0, inr r.1, r.2)
 
+  -- what stands in lists joined, and back
   pub in_flat : (f : A → List B) (x : A) (z : B) (xs : List A) → In x xs → In z (f x) → In z (flat_map f xs)
   in_flat f x z [] h k = absurd h
   in_flat f x z (y ∷ ys) (inl e) k = in_left z (f y) (flat_map f ys) (subst (λ (w : A). In z (f w)) (sym e) k)
@@ -92,6 +100,7 @@ module _ {A B : Type 0} where
     | inr k ↦ let r = flat_in f z ys k in (r.0, inr r.1, r.2)
   ]
 
+-- to stand in a list of numbers, as a fact and as a test
 pub stands : (xs : List ℕ) (x : ℕ) → In x xs → stands_in xs x ≡ true
 stands [] x h = absurd h
 stands (y ∷ ys) x (inl e) = or_left (y == x) (stands_in ys x) (eq-eqb y x e)
@@ -114,6 +123,7 @@ in_or_not xs x = elim (stands_in xs x) as (λ b. stands_in xs x ≡ b → In x x
   | false ↦ λ e. inr (λ h. true≢false (sym (stands xs x h) ∙ e))
 ] refl
 
+-- the first places hold the same numbers, each once
 pub in_firsts : (x : ℕ) (xs : List ℕ) → In x xs → In x (firsts_of xs)
 in_firsts x [] h = h
 in_firsts x (y ∷ ys) (inl e) = inl e

@@ -15,6 +15,7 @@ use Rattle.graph_kinds.specs.Levels.{stands_in}
 use Rattle.graph_kinds.proofs.PathsLists.{In, stands, in_standing, not_standing}
 use Rattle.graph_kinds.proofs.PathsWalks.{in_neighbours, neighbours_in, path_keys}
 
+-- a neighbour is a key to which a pair leads
 pub neighbours_law : (g : Graph) (x y : ℕ) → stands_in (neighbours g x) y ≡ is_some (weight_of g x y)
 neighbours_law g x y = elim (is_some (weight_of g x y)) as (λ b. is_some (weight_of g x y) ≡ b → stands_in (neighbours g x) y ≡ b) [
   | true ↦ λ e. stands (neighbours g x) y (in_neighbours g x y e)
@@ -26,16 +27,19 @@ abbrev pub Rises : List ℕ → Type 0
 Rises [] = Unit {0}
 Rises (y ∷ ys) = ((z : ℕ) → In z ys → y < z) × Rises ys
 
+-- so each is below the next
 rises_next : (xs : List ℕ) → Rises xs → IsStrictlyIncreasing xs
 rises_next [] r k h = absurd (omega arith)
 rises_next (x ∷ []) r k h = absurd (omega arith)
 rises_next (x ∷ y ∷ ys) r zero h = r.0 y (inl refl)
 rises_next (x ∷ y ∷ ys) r (suc k) h = let e : suc k + 1 ≡ suc (k + 1) = omega arith in rw e (rises_next (y ∷ ys) r.1 k (omega arith))
 
+-- the two ways to say that a test is true
 bool_true : (b : Bool) → T b → b ≡ true
 bool_true true h = refl
 bool_true false h = absurd h
 
+-- pairs in order with one first key have their second keys in order
 less_second : (x y : ℕ) (p : ℕ × ℕ) → is_lt (pair_cmp (x, y) p) ≡ true → p.0 ≡ x → y < p.1
 less_second x y p lt same = below (nat_cmp y p.1) refl (sym (ap (λ (r : Ordering). is_lt (ordering_then r (nat_cmp y p.1))) tie) ∙ lt)
   where
@@ -47,6 +51,7 @@ less_second x y p lt same = below (nat_cmp y p.1) refl (sym (ap (λ (r : Orderin
     below Equal e t = absurd (true≢false (sym t))
     below Greater e t = absurd (true≢false (sym t))
 
+-- the neighbours behind a pair are above its second key
 above : (x y z : ℕ) (es : List ((ℕ × ℕ) × ℕ)) → T (below_all pair_cmp (x, y) es) → In z (filter_map (neighbour_by x) es) → y < z
 above x y z [] b h = absurd h
 above x y z (e ∷ es) b h =
@@ -60,6 +65,7 @@ above x y z (e ∷ es) b h =
       | false ↦ λ t k. later k
     ] refl h
 
+-- the second keys of the pairs with one first key rise
 rising : (x : ℕ) (es : List ((ℕ × ℕ) × ℕ)) → T (is_sorted pair_cmp es) → Rises (filter_map (neighbour_by x) es)
 rising x [] s = tt
 rising x (e ∷ es) s =
@@ -70,11 +76,13 @@ rising x (e ∷ es) s =
       | false ↦ λ t. later
     ] refl
 
+-- so the neighbours of a key rise
 pub neighbours_rise : (g : Graph) (x : ℕ) → Rises (neighbours g x)
 neighbours_rise g x = rising x (map.entries g.pairs) (map.entries_sorted g.pairs)
 
 pub rising_law : (g : Graph) (x : ℕ) → IsStrictlyIncreasing (neighbours g x)
 rising_law g x = rises_next (neighbours g x) (neighbours_rise g x)
 
+-- a path runs over keys
 pub keys_law : (g : Graph) (a b : ℕ) (p : List ℕ) → IsGraph g → IsPath g a b p → (x : ℕ) → stands_in p x ≡ true → has g x ≡ true
 keys_law g a b p is h x s = path_keys g a b p is h x (in_standing p x s)

@@ -39,6 +39,7 @@ same_rising (x ∷ xs) (y ∷ ys) r s f k =
     sooner z lt (inl e) same = absurd (omega arith)
     sooner z lt (inr h) same = h
 
+-- functions that agree on a list give one joined list, one first item that passes
 same_flat : (f k : ℕ → List ℕ) (xs : List ℕ) → ((x : ℕ) → In x xs → f x ≡ k x) → flat_map f xs ≡ flat_map k xs
 same_flat f k [] e = refl
 same_flat f k (x ∷ xs) e = λ i. e x (inl refl) i ++ same_flat f k xs (λ z h. e z (inr h)) i
@@ -47,28 +48,34 @@ same_find : (p q : ℕ → Bool) (xs : List ℕ) → ((x : ℕ) → In x xs → 
 same_find p q [] e = refl
 same_find p q (x ∷ xs) e = λ i. cond (e x (inl refl) i) (Some x) (same_find p q xs (λ z h. e z (inr h)) i)
 
+-- two options with the same contents are one
 same_option : (o u : Option ℕ) → ((w : ℕ) → o ≡ Some w → u ≡ Some w) → ((w : ℕ) → u ≡ Some w → o ≡ Some w) → o ≡ u
 same_option None None f k = refl
 same_option None (Some w) f k = k w refl
 same_option (Some w) u f k = sym (f w refl)
 
+-- no level behind an empty one
 no_levels : (g : Graph) (n : ℕ) (known level : List ℕ) → level ≡ [] → levels_from g n known level ≡ []
 no_levels g zero known level e = refl
 no_levels g (suc n) known level e = ap (levels_from g (suc n) known) e
 
 module _ (g : Graph) (a : ℕ) (h : Graph) (is : IsGraph g) (there : has g a ≡ true) (reached : IsPart g a h) where
+  -- the first key is in its part
   here : has h a ≡ true
   here = (reached.keys a).1 (a ∷ [], (refl, refl, there))
 
+  -- keys and pairs of the part are those of the graph
   key_in : (x : ℕ) → has h x ≡ true → has g x ≡ true
   key_in x k = let p = (reached.keys x).0 k in path_end g a x p.0 p.1
 
+  -- pairs from a key of the part are the same in both
   weight_same : (x y : ℕ) → has h x ≡ true → weight_of h x y ≡ weight_of g x y
   weight_same x y k = same_option (weight_of h x y) (weight_of g x y) (λ w e. ((reached.pairs x y w).0 e).1) (λ w e. (reached.pairs x y w).1 (k, e))
 
   weight_in : (x y w : ℕ) → weight_of h x y ≡ Some w → weight_of g x y ≡ Some w
   weight_in x y w e = ((reached.pairs x y w).0 e).1
 
+  -- the part is a graph
   part_is : IsGraph h
   part_is = record {
     from_key = λ x y w e. ((reached.pairs x y w).0 e).0;
@@ -80,6 +87,7 @@ module _ (g : Graph) (a : ℕ) (h : Graph) (is : IsGraph g) (there : has g a ≡
     weighed = λ x y w e. is.weighed x y w (weight_in x y w e);
   }
 
+  -- paths of the part are paths of the graph, and back from a key of the part, at the same cost
   path_in : (s b : ℕ) (p : List ℕ) → IsPath h s b p → IsPath g s b p
   path_in s b [] k = k
   path_in s b (x ∷ []) k = (k.0, k.1, key_in x k.2)
@@ -103,6 +111,7 @@ module _ (g : Graph) (a : ℕ) (h : Graph) (is : IsGraph g) (there : has g a ≡
       let weight : unwrap_or (weight_of h x y) 0 ≡ unwrap_or (weight_of g x y) 0 = ap (λ (o : Option ℕ). unwrap_or o 0) (w.1 ∙ sym (weight_in x y w.0 w.1)) in
       omega (arith, weight, cost_same y b (y ∷ p) k.2)
 
+  -- so are least costs
   least_in : (b c : ℕ) → IsLeastCost h a b c → IsLeastCost g a b c
   least_in b c l = record {
     path = l.path;
@@ -121,11 +130,13 @@ module _ (g : Graph) (a : ℕ) (h : Graph) (is : IsGraph g) (there : has g a ≡
         least = λ p k. omega (arith, l.least p (path_in a b p k), cost_same a b p k);
       }
 
+  -- and so is what is answered
   pub cost_alike : (b : ℕ) → least_cost h a b ≡ least_cost g a b
   cost_alike b = same_option (least_cost h a b) (least_cost g a b)
       (λ c e. least_some g a b is there c (least_in b c (some_least h a b part_is here c e)))
       (λ c e. least_some h a b part_is here c (in_least b c (some_least g a b is there c e)))
 
+  -- a key of the part has the same neighbours in both
   some_same : (x y : ℕ) → has h x ≡ true → is_some (weight_of h x y) ≡ is_some (weight_of g x y)
   some_same x y k = ap (λ (o : Option ℕ). is_some o) (weight_same x y k)
 
@@ -134,9 +145,11 @@ module _ (g : Graph) (a : ℕ) (h : Graph) (is : IsGraph g) (there : has g a ≡
       (λ z i. in_neighbours g x z (sym (some_same x z k) ∙ neighbours_in h x z i))
       (λ z i. in_neighbours h x z (some_same x z k ∙ neighbours_in g x z i))
 
+  -- and a level of such keys the same level behind it
   after_same : (known level : List ℕ) → ((x : ℕ) → In x level → has h x ≡ true) → level_after h known level ≡ level_after g known level
   after_same known level keys = ap (λ (l : List ℕ). firsts_of (filter (λ z. not (stands_in known z)) l)) (same_flat (neighbours h) (neighbours g) level (λ x i. neighbours_same x (keys x i)))
 
+  -- so the levels from a turn on are the same, with turns that are enough in both
   levels_same : (n m i : ℕ) (known level : List ℕ) → IsTurn h a i known level → IsTurn g a i known level → key_count h ≤ length known + n → key_count g ≤ length known + m → levels_from h n known level ≡ levels_from g m known level
   levels_same zero m i known level t u enough more = sym (no_levels g m known level (none_left h a i known level t part_is here (omega (arith, enough))))
   levels_same (suc n) zero i known level t u enough more = no_levels h (suc n) known level (none_left g a i known level u is there (omega (arith, more)))
@@ -151,15 +164,18 @@ module _ (g : Graph) (a : ℕ) (h : Graph) (is : IsGraph g) (there : has g a ≡
   pub levels_alike : levels_of h a ≡ levels_of g a
   levels_alike = levels_same (key_count h) (key_count g) 0 [] (a ∷ []) (first_turn h a) (first_turn g a) (omega arith) (omega arith)
 
+  -- the keys of levels are keys of the part
   level_key : (i x : ℕ) → In x (level_at (levels_of g a) i) → has h x ≡ true
   level_key i x k = let p = (all_law g a x is there).0 (stands (concat (levels_of g a)) x (in_some_level x (levels_of g a) i k).1) in (reached.keys x).1 p
 
+  -- parents in the part are parents in the graph
   parents_in : (p : List ℕ) → GoesByParents g (levels_of g a) p → GoesByParents h (levels_of h a) p
   parents_in p f i lt =
       let y = slice_index p (i + 1) in
       let same = same_find (λ x. is_some (weight_of h x y)) (λ x. is_some (weight_of g x y)) (level_at (levels_of g a) i) (λ x k. some_same x y (level_key i x k)) in
       ap (λ (ls : List (List ℕ)). find (λ x. is_some (weight_of h x y)) (level_at ls i)) levels_alike ∙ same ∙ f i lt
 
+  -- the shortest path by parents in the graph is that in the part
   pub reach_alike : (b : ℕ) → reach_path h a b ≡ reach_path g a b
   reach_alike b = from (reach_path g a b) refl
     where
@@ -171,6 +187,7 @@ module _ (g : Graph) (a : ℕ) (h : Graph) (is : IsGraph g) (there : has g a ≡
           let parents = parents_in p (reach.parents_law g a b p is there e) in
           reach.only_law h a b p part_is here (in_path a b p here path) (λ q k. least q (path_in a b q k)) parents ∙ sym e
 
+  -- a cheapest way leads over a pair in the part where it does in the graph
   leads_in : (x y : ℕ) → LeadsOver h a x y → LeadsOver g a x y
   leads_in x y l = record {
     cost = l.cost;
@@ -192,21 +209,25 @@ module _ (g : Graph) (a : ℕ) (h : Graph) (is : IsGraph g) (there : has g a ≡
         to_y = cost_alike y ∙ l.to_y;
       }
 
+  -- so a path goes by the least keys in both
   least_keys_in : (p : List ℕ) → GoesByLeastKeys g a p → GoesByLeastKeys h a p
   least_keys_in [] k = tt
   least_keys_in (x ∷ []) k = tt
   least_keys_in (x ∷ y ∷ p) k = (record { leads = in_leads x y k.0.leads; least = λ z l. k.0.least z (leads_in z y l) }, least_keys_in (y ∷ p) k.1)
 
+  -- and is the one found backwards in both
   pub cheapest_alike : (b c : ℕ) → least_cost g a b ≡ Some c → cheapest_path h a b ≡ cheapest_path g a b
   cheapest_alike b c e =
       let best : IsCheapest g a b c (cheapest_path g a b) = cheapest g is a there b c e in
       sym (only_law h a b (cheapest_path g a b) part_is here (in_path a b (cheapest_path g a b) here best.is_path) (least_keys_in (cheapest_path g a b) best.keys))
 
+-- two tests that imply each other give one answer
 same_bool : (b d : Bool) → (b ≡ true → d ≡ true) → (d ≡ true → b ≡ true) → b ≡ d
 same_bool true d f k = sym (f refl)
 same_bool false true f k = k refl
 same_bool false false f k = refl
 
+-- two graphs that are the part are one
 one_part : (g : Graph) (a : ℕ) (h k : Graph) → IsPart g a h → IsPart g a k → h ≡ k
 one_part g a h k p q = same_graph h k (λ x. keys x) (λ x y. same_option (weight_of h x y) (weight_of k x y)
     (λ w e. let r = (p.pairs x y w).0 e in (q.pairs x y w).1 (sym (keys x) ∙ r.0, r.1))
@@ -215,6 +236,7 @@ one_part g a h k p q = same_graph h k (λ x. keys x) (λ x y. same_option (weigh
     keys : (x : ℕ) → has h x ≡ has k x
     keys x = same_bool (has h x) (has k x) (λ e. (q.keys x).1 ((p.keys x).0 e)) (λ e. (p.keys x).1 ((q.keys x).0 e))
 
+-- the part by levels is the part
 pub part_law : (g : Graph) (a : ℕ) → IsGraph g → has g a ≡ true → IsPart g a (part g a)
 part_law g a is there = record {
   keys = λ x. (λ e. (all_law g a x is there).0 (sym (key x) ∙ e), λ p. key x ∙ (all_law g a x is there).1 p);

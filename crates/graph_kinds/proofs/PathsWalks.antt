@@ -9,10 +9,12 @@ use Rattle.graph_kinds.specs.Path.{IsPath}
 use Rattle.graph_kinds.proofs.Graphs.{pair_tied}
 use Rattle.graph_kinds.proofs.PathsLists.{In}
 
+-- a pair that is there has a weight
 pub weight_there : (o : Option ℕ) → is_some o ≡ true → (w : ℕ) × (o ≡ Some w)
 weight_there None e = absurd (true≢false (sym e))
 weight_there (Some w) e = (w, refl)
 
+-- pairs that tie are equal, and back
 pub same_pair : (x y : ℕ) (p : ℕ × ℕ) → eq_by_cmp pair_cmp (x, y) p ≡ true → (p.0 ≡ x) × (p.1 ≡ y)
 same_pair x y p t =
     let both = and_parts (x == p.0) (y == p.1) (sym (pair_tied x y p.0 p.1) ∙ t) in
@@ -21,6 +23,7 @@ same_pair x y p t =
 tied_pair : (x y : ℕ) (p : ℕ × ℕ) → p.0 ≡ x → p.1 ≡ y → eq_by_cmp pair_cmp (x, y) p ≡ true
 tied_pair x y p e f = pair_tied x y p.0 p.1 ∙ and_from (x == p.0) (y == p.1) (eq-eqb x p.0 (sym e)) (eq-eqb y p.1 (sym f))
 
+-- a pair that is found is listed among the neighbours, and back
 in_entries : (x y w : ℕ) (es : List ((ℕ × ℕ) × ℕ)) → map.find pair_cmp (x, y) es ≡ Some w → In y (filter_map (neighbour_by x) es)
 in_entries x y w [] is = absurd (cc)
 in_entries x y w (e ∷ es) is =
@@ -46,6 +49,7 @@ entries_in x y (e ∷ es) h =
       ] refl h
     ] refl
 
+-- the neighbours of x are the keys to which a pair leads from x
 pub in_neighbours : (g : Graph) (x y : ℕ) → is_some (weight_of g x y) ≡ true → In y (neighbours g x)
 in_neighbours g x y h = let r = weight_there (weight_of g x y) h in in_entries x y r.0 (map.entries g.pairs) (sym (map.get-entries g.pairs (x, y)) ∙ r.1)
 
@@ -57,9 +61,11 @@ abbrev pub Walk : Graph → ℕ → ℕ → ℕ → Type 0
 Walk g a zero x = a ≡ x
 Walk g a (suc n) x = (y : ℕ) × Walk g a n y × (is_some (weight_of g y x) ≡ true)
 
+-- the second key of a pair is a key of the graph
 pub key_behind : (g : Graph) → IsGraph g → (x y : ℕ) → is_some (weight_of g x y) ≡ true → has g y ≡ true
 key_behind g is x y h = let r = weight_there (weight_of g x y) h in is.to_key x y r.0 r.1
 
+-- a walk leads to a key
 pub walk_key : (g : Graph) (a : ℕ) → IsGraph g → has g a ≡ true → (n x : ℕ) → Walk g a n x → has g x ≡ true
 walk_key g a is there zero x e = subst (λ (z : ℕ). has g z ≡ true) e there
 walk_key g a is there (suc n) x w = key_behind g is w.0 x w.2
@@ -78,6 +84,7 @@ path_on g a y x [] h pair there = absurd h
 path_on g a y x (z ∷ []) h pair there = (h.0, subst (λ (u : ℕ). is_some (weight_of g u x) ≡ true) (sym h.1) pair, (refl, refl, there))
 path_on g a y x (z ∷ u ∷ q) h pair there = (h.0, h.1, path_on g u y x (u ∷ q) h.2 pair there)
 
+-- a walk of n steps gives a path of n pairs
 pub path_from_walk : (g : Graph) (a : ℕ) → IsGraph g → has g a ≡ true → (n x : ℕ) → Walk g a n x → (p : List ℕ) × IsPath g a x p × (length p ≡ n + 1)
 path_from_walk g a is there zero x e = (a ∷ [], (refl, e, there), refl)
 path_from_walk g a is there (suc n) x w =

@@ -20,6 +20,7 @@ abbrev count : List ℕ → ℕ
 count [] = 0
 count (k ∷ ks) = cond (stands_in ks k) (count ks) (count ks + 1)
 
+-- a set of a list has as many keys
 len-from_list : (ks : List ℕ) → set.len (set.from_list {R = nat_cmp} ks) ≡ count ks
 len-from_list [] = set.len-empty nat_cmp
 len-from_list (k ∷ ks) =
@@ -34,6 +35,7 @@ listed es s = map.entries-from_sorted pair_cmp es (subst T (sym s) tt)
 weighed : (es : List ((ℕ × ℕ) × ℕ)) (q : ℕ × ℕ) → map.is_sorted pair_cmp es ≡ true → map.get (map.from_sorted {R = pair_cmp} es) q ≡ map.find pair_cmp q es
 weighed es q s = map.get-from_sorted pair_cmp es q (subst T (sym s) tt)
 
+-- how many keys each graph has
 two_ways_count : key_count two_ways ≡ 6
 two_ways_count = len-from_list (1 ∷ 2 ∷ 3 ∷ 4 ∷ 9 ∷ 10 ∷ [])
 
@@ -46,6 +48,7 @@ tie_count = len-from_list (1 ∷ 2 ∷ 3 ∷ 4 ∷ [])
 dead_end_count : key_count dead_end ≡ 4
 dead_end_count = len-from_list (1 ∷ 2 ∷ 3 ∷ 4 ∷ [])
 
+-- levels, paths and costs, by computing
 pub two_ways_levels : levels_of two_ways 1 ≡ (1 ∷ []) ∷ (2 ∷ 3 ∷ []) ∷ (9 ∷ 4 ∷ []) ∷ (10 ∷ []) ∷ []
 two_ways_levels = rw two_ways_count (simp listed)
 
@@ -70,6 +73,7 @@ dead_end_reach = rw dead_end_count (simp listed)
 pub dead_end_cost : least_cost dead_end 3 1 ≡ None
 dead_end_cost = rw dead_end_count (simp listed)
 
+-- a pair that is found stands in the list
 found_in : (q : ℕ × ℕ) (w : ℕ) (es : List ((ℕ × ℕ) × ℕ)) → map.find pair_cmp q es ≡ Some w → In (q, w) es
 found_in q w [] is = absurd (cc)
 found_in q w (e ∷ es) is = elim (eq_by_cmp pair_cmp q e.0) as (λ b. eq_by_cmp pair_cmp q e.0 ≡ b → cond b (Some e.1) (map.find pair_cmp q es) ≡ Some w → In (q, w) (e ∷ es)) [
@@ -80,11 +84,13 @@ found_in q w (e ∷ es) is = elim (eq_by_cmp pair_cmp q e.0) as (λ b. eq_by_cmp
   | false ↦ λ t later. inr (found_in q w es later)
 ] refl is
 
+-- what passes for all passes for each
 all_in : (p : (ℕ × ℕ) × ℕ → Bool) (e : (ℕ × ℕ) × ℕ) (es : List ((ℕ × ℕ) × ℕ)) → list_all p es ≡ true → In e es → p e ≡ true
 all_in p e [] all h = absurd h
 all_in p e (f ∷ es) all (inl same) = ap p (sym same) ∙ (and_parts (p f) (list_all p es) all).0
 all_in p e (f ∷ es) all (inr h) = all_in p e es (and_parts (p f) (list_all p es) all).1 h
 
+-- both keys of the pair are listed, and its weight is at least 1
 abbrev fits : List ℕ → (ℕ × ℕ) × ℕ → Bool
 fits keys e = stands_in keys e.0.0 && (stands_in keys e.0.1 && leb 1 e.1)
 
@@ -93,9 +99,11 @@ abbrev no_less : Graph → ℕ → ℕ → ℕ → (ℕ × ℕ) × ℕ → Bool
 no_less g a x y e = not (e.0.1 == y) || (not (is_before g a y e.0.0) || leb x e.0.0)
 
 module _ (keys : List ℕ) (es : List ((ℕ × ℕ) × ℕ)) (s : map.is_sorted pair_cmp es ≡ true) where
+  -- each pair of the graph stands in the list
   pair_in : (a b w : ℕ) → weight_of (graph_from keys es) a b ≡ Some w → In ((a, b), w) es
   pair_in a b w is = found_in (a, b) w es (sym (weighed es (a, b) s) ∙ is)
 
+  -- where all pairs fit, it is a graph
   graph_is : list_all (fits keys) es ≡ true → IsGraph (graph_from keys es)
   graph_is all = record {
     from_key = λ a b w is. set.contains-from_list_nat keys a ∙ (and_parts _ _ (fit a b w is)).0;
@@ -106,6 +114,7 @@ module _ (keys : List ℕ) (es : List ((ℕ × ℕ) × ℕ)) (s : map.is_sorted 
       fit : (a b w : ℕ) → weight_of (graph_from keys es) a b ≡ Some w → (stands_in keys a && (stands_in keys b && leb 1 w)) ≡ true
       fit a b w is = all_in (fits keys) ((a, b), w) es all (pair_in a b w is)
 
+  -- where no pair offers a lesser key, it is the key before
   key_is : (a x y : ℕ) → is_before (graph_from keys es) a y x ≡ true → list_all (no_less (graph_from keys es) a x y) es ≡ true → IsKeyBefore (graph_from keys es) a x y
   key_is a x y t all = record { leads = leads (graph_from keys es) a x y t; least = λ z l. bound z l }
     where
@@ -121,6 +130,7 @@ module _ (keys : List ℕ) (es : List ((ℕ × ℕ) × ℕ)) (s : map.is_sorted 
             ]
           ]
 
+-- the cheapest path of the detour, by its keys before
 abbrev detour_keys : List ℕ
 detour_keys = 1 ∷ 2 ∷ 3 ∷ []
 
@@ -140,6 +150,7 @@ detour_cheapest =
     let path : IsPath detour 1 2 (1 ∷ 3 ∷ 2 ∷ []) = (refl, first, (refl, second, (refl, refl, set.contains-from_list_nat detour_keys 2))) in
     sym (only_law detour 1 2 (1 ∷ 3 ∷ 2 ∷ []) (graph_is detour_keys detour_pairs refl refl) (set.contains-from_list_nat detour_keys 1) path (detour_before.0, (detour_before.1, tt)))
 
+-- and that of the tie
 abbrev tie_keys : List ℕ
 tie_keys = 1 ∷ 2 ∷ 3 ∷ 4 ∷ []
 
