@@ -1,0 +1,66 @@
+-- What is written for rows is what their command asks.
+use Rattle.std.proofs.Common.{◌≡◌, ℕ, ◌+◌, ◌<◌, ◌≤◌, List, [], ◌∷◌, length, get_or, refl, sym, ap, ◌∙◌, subst, arith}
+use Rattle.std.specs.Prelude.{Option, Some, None, IfSome, Ok, Err, zero, suc}
+use Rattle.std.specs.Prelude.{All}
+use Rattle.graph_kinds.specs.declared.call.Call.{Call}
+use Rattle.graph_kinds.specs.declared.call.Row.{Row}
+use Rattle.graph_kinds.specs.declared.answer.Answer.{Answer}
+use Rattle.graph_kinds.specs.Graph.{Graph, empty_graph}
+use Rattle.graph_kinds.specs.Answer.{answer, after, answers, after_all}
+use Rattle.graph_kinds.specs.History.{IsInterleaving, IsLegal, answered, calls_of}
+use Rattle.graph_kinds.specs.Stream.{Puts, PutsSome, TakesMany}
+use Rattle.graph_kinds.proofs.Calls.{replay_legal, length-answers}
+use Rattle.op_text.specs.Text.{IsShown, text}
+use Rattle.op_text.specs.Rows.{rows}
+use Rattle.op_text.proofs.Shown.{answer-shown}
+use Rattle.std.specs.declared.string.String.{String}
+use Rattle.std.proofs.Common.{Global}
+use Rattle.graph_tool.specs.Command.{command_of}
+use Rattle.graph_tool.specs.Input.{TakesAtMost, most_bytes}
+use Rattle.graph_tool.specs.Run.{Asks, IsRun, Writes, replayed, callers}
+use Rattle.graph_tool.specs.declared.command.Command.{Command}
+use Rattle.graph_tool.specs.declared.command.Command.TheVariants.{Run, Replay}
+use Rattle.graph_tool.proofs.Inputs.{too_many}
+
+shown_at : (g : Graph) (cs : List Call) (k : ℕ) (d : Answer) → k < length (answers g cs) → IsShown (get_or (answers g cs) k d).outcome (get_or (answers g cs) k d).keys (get_or (answers g cs) k d).ends
+shown_at g [] k d h = absurd (omega arith)
+shown_at g (c ∷ cs) zero d h = answer-shown g c
+shown_at g (c ∷ cs) (suc k) d h = shown_at (after g c) cs k d (omega arith)
+
+-- answers of calls can be written
+pub all_shown : (asked : List Row) (replies : List Answer) → replies ≡ answers empty_graph (calls_of asked) → All (λ (a : Answer). IsShown a.outcome a.keys a.ends) replies
+all_shown asked replies is = subst (λ (xs : List Answer). All (λ (a : Answer). IsShown a.outcome a.keys a.ends) xs) (sym is) (shown_at empty_graph (calls_of asked))
+
+-- the text of the rows in input order is what either command writes
+pub writes : (command : Command) (asked : List Row) → Writes command asked (replayed asked)
+writes Run asked = record {
+  replies = answers empty_graph (calls_of asked);
+  graph = after_all empty_graph (calls_of asked);
+  history = answered asked (answers empty_graph (calls_of asked));
+  text_is = refl;
+  interleaving = record { one_each = length-answers empty_graph asked; in_order = λ caller. refl };
+  legal = record { steps = replay_legal empty_graph asked };
+}
+writes Replay asked = refl
+
+-- the text of replies and a graph that the rows in input order give
+pub asks : (words : List (String Global)) (bytes : List ℕ) (command : Command) (asked : List Row) (replies : List Answer) (graph : Graph)
+    → command_of words ≡ Ok command → rows callers bytes ≡ Ok asked → replies ≡ answers empty_graph (calls_of asked) → graph ≡ after_all empty_graph (calls_of asked)
+    → Asks words bytes (text replies graph)
+asks words bytes command asked replies graph accepted read replies_are graph_is = record {
+  command = command;
+  accepted = accepted;
+  asked = asked;
+  read = read;
+  text_is = subst (λ (t : List ℕ). Writes command asked t) (sym (λ i. text (replies_are i) (graph_is i))) (writes command asked);
+}
+
+-- where at most the limit was taken, not one byte more was
+pub not_too_long : (old new : Option (List ℕ)) (P : Type 0) → TakesAtMost old new most_bytes → IfSome old (λ bytes. TakesMany (Some bytes) new (most_bytes + 1) → P)
+not_too_long None new P few = tt
+not_too_long (Some old) new P few = λ many. absurd (too_many old new many few)
+
+-- what holds of the bytes that are told, where another fact of them does
+pub if_told : (P Q : List ℕ → Type 0) (old : Option (List ℕ)) → IfSome old P → ((bytes : List ℕ) → P bytes → Q bytes) → IfSome old Q
+if_told P Q None p f = tt
+if_told P Q (Some bytes) p f = f bytes p

@@ -1,0 +1,112 @@
+//! The top call: from the words and the bytes of the input to the bytes of the output.
+//!
+//! The order is words, reading, rows, running, writing. Memory may take the place of any answer up to
+//! running, and never comes once writing began. What is written is `Asks` of `specs/Run.antt`.
+
+ghost use Rattle.std.specs.Prelude.{◌≡◌, ◌+◌, ◌≤◌, ◌⊎◌, ℕ, List, true, false, Ok, Err, All, IfOk, IfErr, IfSome, OnOk, OnErr, Some, length, vec_len};
+ghost use Rattle.graph_kinds.specs.Answer.{IsPathCall, IsWellMade};
+ghost use Rattle.graph_kinds.specs.Stream.{Rose, Puts, PutsSome, TakesMany};
+ghost use Rattle.graph_kinds.specs.declared.call.Row.{Row};
+ghost use Rattle.op_text.specs.Rows.{rows};
+ghost use Rattle.graph_tool.specs.Command.{command_of};
+ghost use Rattle.graph_tool.specs.Input.{TakesAtMost, most_bytes};
+ghost use Rattle.graph_tool.specs.Run.{Asks, IsAccepted, IsRefused, callers};
+ghost use Rattle.graph_tool.specs.Status.{IfDone, IfUsage, IfBadRow, IfReadFault, IfWriteFault, UnlessMemory, UnlessWriting};
+ghost use Rattle.graph_tool.specs.declared.status.UsageCause.{UsageCause};
+ghost use Rattle.op_text.specs.declared.rows.RowCause.{RowCause};
+
+use crate::command::read_command;
+use crate::input::{InputFault, read_input};
+use crate::output::write_results;
+use crate::status::{Status, UsageCause};
+use graph_kinds::{Row, Sink, Source};
+use op_text::{RowsFault, read_rows};
+use plain_graph::replay;
+use std::alloc::Global;
+use std::thread::Threads;
+
+// The most callers that rows may name.
+const CALLERS: u32 = 16;
+
+/// Runs the words on the source and writes to the sink. `run` and `replay` read the source to its end and
+/// write one line per row, in input order, and then the lines of the final graph. O(n log n) for n rows
+/// that add, remove and look up, beside the cost of each removal of a vertex, O(vertices).
+///
+/// # Errors
+/// `Usage` exactly where the words are no command, with the first fault from the left, or with
+/// `InputTooLong` where 8,388,609 bytes were taken; `BadRow` exactly where the input was read to its end
+/// and has a bad record; `ReadFault` and `WriteFault` only where the count of faults of the source or the
+/// sink rose; `Memory` where memory ran out, before anything was written.
+pub fn graph_main<R: Threads + Sync, S: Source, K: Sink>(
+    rt: &R,
+    alloc: Global,
+    words: &[String],
+    source: &mut S,
+    sink: &mut K,
+) -> Status
+    ensures done { IfDone result (IfSome (S.rest source.old) (λ bytes. (written : List ℕ)
+        × Asks words.now bytes written × Puts (K.taken sink.old) (K.taken sink.new) written)) }
+    ensures end { IfDone result (S.ended source.new ≡ true) }
+    ensures usage { IfUsage result (λ cause. (cause ≡ UsageCause.InputTooLong) ⊎ (command_of words.now ≡ Err cause)) }
+    ensures refused { (cause : UsageCause) → command_of words.now ≡ Err cause → result ≡ Status.Usage cause }
+    ensures too_long { result ≡ Status.Usage UsageCause.InputTooLong
+        → IsAccepted words.now × TakesMany (S.rest source.old) (S.rest source.new) (most_bytes + 1) }
+    ensures too_long_only { IsAccepted words.now → IfSome (S.rest source.old) (λ bytes.
+        TakesMany (Some bytes) (S.rest source.new) (most_bytes + 1)
+        → UnlessMemory result (result ≡ Status.Usage UsageCause.InputTooLong)) }
+    ensures bad_row { IfBadRow result (λ row cause. IsAccepted words.now × (S.ended source.new ≡ true)
+        × IfSome (S.rest source.old) (λ bytes. rows callers bytes ≡ Err (row, cause))) }
+    ensures bad_row_only { (row : ℕ) (cause : RowCause) → IsAccepted words.now → S.ended source.new ≡ true
+        → IfSome (S.rest source.old) (λ bytes. rows callers bytes ≡ Err (row, cause)
+        → UnlessMemory result (result ≡ Status.BadRow row cause)) }
+    ensures read_fault { IfReadFault result (IsAccepted words.now × Rose (S.faults source.old) (S.faults source.new)) }
+    ensures write_fault { IfWriteFault result (IsAccepted words.now × Rose (K.faults sink.old) (K.faults sink.new)) }
+    ensures prefix { IfWriteFault result (IfSome (S.rest source.old) (λ bytes. (written : List ℕ)
+        × Asks words.now bytes written × PutsSome (K.taken sink.old) (K.taken sink.new) written)) }
+    ensures unwritten { UnlessWriting result (K.taken sink.new ≡ K.taken sink.old) }
+    ensures complete { (asked : List Row) → IsAccepted words.now
+        → IfSome (S.rest source.old) (λ bytes. length bytes ≤ most_bytes → rows callers bytes ≡ Ok asked
+        → (Rose (S.faults source.old) (S.faults source.new) → ⊥) → (Rose (K.faults sink.old) (K.faults sink.new) → ⊥)
+        → UnlessMemory result (result ≡ Status.Done)) }
+{
+    let _ = rt;
+    if let Err(cause) = read_command(words) {
+        return Status::Usage(cause);
+    }
+    let asked = match rows_of(alloc, source) {
+        Ok(asked) => asked,
+        Err(status) => return status,
+    };
+    let (answers, graph) = match replay(alloc, asked.as_slice()) {
+        Ok(replayed) => replayed,
+        Err(_) => return Status::Memory,
+    };
+    match write_results(sink, answers.as_slice(), &graph) {
+        Ok(()) => Status::Done,
+        Err(_) => Status::WriteFault,
+    }
+}
+
+// The rows of the whole input.
+fn rows_of<S: Source>(alloc: Global, source: &mut S) -> Result<Vec<Row>, Status>
+    ensures ok { IfOk result (λ v. IfSome (S.rest source.old) (λ bytes. rows callers bytes ≡ Ok v.items)) }
+    ensures well_made { IfOk result (λ v. All (λ (r : Row). IsWellMade r.call) v.items) }
+    ensures updates { IfOk result (λ v. All (λ (r : Row). ¬ (IsPathCall r.call)) v.items) }
+    ensures few { IfOk result (λ v. vec_len v ≤ 65536) }
+    ensures end { OnOk result (S.ended source.new ≡ true) }
+    ensures fits { OnOk result (TakesAtMost (S.rest source.old) (S.rest source.new) most_bytes) }
+    ensures err { IfErr result (IsRefused (S.rest source.old) (S.rest source.new) (S.ended source.new)
+        (S.faults source.old) (S.faults source.new)) }
+{
+    let bytes = match read_input(alloc, source) {
+        Ok(bytes) => bytes,
+        Err(InputFault::TooLong) => return Err(Status::Usage(UsageCause::InputTooLong)),
+        Err(InputFault::Failed) => return Err(Status::ReadFault),
+        Err(InputFault::Memory) => return Err(Status::Memory),
+    };
+    match read_rows(alloc, bytes.as_slice(), CALLERS) {
+        Ok(asked) => Ok(asked),
+        Err(RowsFault::Bad { row, cause }) => Err(Status::BadRow { row, cause }),
+        Err(RowsFault::Memory) => Err(Status::Memory),
+    }
+}

@@ -1,0 +1,65 @@
+//! The program: it reads rows from standard input, runs them on a graph, and writes one line per row and
+//! the final graph to standard output.
+#![tactic(auto)]
+
+ghost use Rattle.std.specs.Prelude.{◌≡◌, OnOk, OnErr};
+ghost use Rattle.graph_tool.specs.Status.{if_done};
+
+mod command;
+mod graph_main;
+mod input;
+mod output;
+mod status;
+mod streams;
+
+use crate::graph_main::graph_main;
+use crate::status::{Status, UsageCause};
+use crate::streams::{ReadSource, WriteSink};
+use op_text::{Pieces, WriteFailed};
+use std::process::ExitCode;
+use std::rt::Env;
+use std::thread::Threads;
+use std::{env, io};
+
+fn main(rt: HostRuntime) -> ExitCode {
+    let status = run(&rt);
+    let number = status.number();
+    if number != 0 {
+        let _ = eprintln!(rt; "{status}");
+    }
+    ExitCode::from(number)
+}
+
+// Arguments that are no text are an unknown command. Output goes in pieces of 65,536 bytes.
+fn run<R: Env + Input + Print + AllocGlobal + Threads + Sync>(rt: &R) -> Status {
+    let alloc = rt.alloc();
+    let args = match env::args(rt) {
+        Ok(args) => args,
+        Err(_) => return Status::Usage(UsageCause::UnknownCommand),
+    };
+    let words = match args.skip(1).collect::<Vec<String>>(alloc) {
+        Ok(words) => words,
+        Err(_) => return Status::Memory,
+    };
+    let mut source = ReadSource::new(rt.reader());
+    let mut sink = match Pieces::new(alloc, WriteSink::new(io::writer(rt))) {
+        Ok(sink) => sink,
+        Err(_) => return Status::Memory,
+    };
+    let status = graph_main(rt, alloc, words.as_slice(), &mut source, &mut sink);
+    flushed(status, sink.flush())
+}
+
+// How a run ends whose last piece was handed on, or failed to be.
+fn flushed(status: Status, flush: Result<(), WriteFailed>) -> Status
+    ensures ok { OnOk flush (result ≡ status) }
+    ensures failed { OnErr flush (result ≡ if_done status Status.WriteFault) }
+{
+    match (status, flush) {
+        (Status::Done, Err(_)) => Status::WriteFault,
+        _ => status,
+    }
+}
+
+#[cfg(test)]
+mod tests;

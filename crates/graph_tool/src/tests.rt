@@ -1,0 +1,288 @@
+//! The worked rows: each input with the lines that must be written for it, and each way in which a run ends
+//! otherwise.
+
+use crate::graph_main::graph_main;
+use crate::status::{Status, UsageCause};
+use crate::streams::{ReadSource, WriteSink};
+use graph_kinds::{MemSink, MemSource, ReadAnswer, Sink, Source, WriteAnswer};
+use op_text::RowCause;
+use std::io;
+use std::test::Fail;
+use std::thread::Threads;
+
+const ROOM: u32 = 65_536;
+
+// The words of a command line.
+fn words_of<R: AllocGlobal>(rt: &R, words: &[&str]) -> Result<Vec<String>, Fail> {
+    let mut all = Vec::new(rt.alloc());
+    for word in words {
+        all.push(String::from_str(rt.alloc(), word)?)?;
+    }
+    Ok(all)
+}
+
+// How a run of the words on an input ends, and what it has written.
+fn run_on<R: Threads + Sync + AllocGlobal>(
+    rt: &R,
+    words: &[&str],
+    input: &[u8],
+) -> Result<(Status, MemSink), Fail> {
+    let alloc = rt.alloc();
+    let words = words_of(rt, words)?;
+    let mut source = MemSource::new(input.to_vec(alloc)?, ROOM, Vec::new(alloc));
+    let mut sink = MemSink::new(alloc, ROOM, ROOM, Vec::new(alloc))?;
+    let status = graph_main(rt, alloc, words.as_slice(), &mut source, &mut sink);
+    Ok((status, sink))
+}
+
+const ROW_2: &[u8] = b"0,add-vertex,5,,\n0,add-vertex,5,,\n0,has-vertex,5,,\n0,remove-vertex,5,,\n\
+    0,remove-vertex,5,,\n0,has-vertex,5,,\n";
+
+const ROW_2_TEXT: &[u8] = b"added\npresent\nyes\nremoved\nabsent\nno\nvertices\n";
+
+#[test]
+fn worked_rows_give_their_lines(rt: HostRuntime) -> Result<(), Fail> {
+    let rows = [
+        (b"".as_slice(), b"vertices\n".as_slice()),
+        (ROW_2, ROW_2_TEXT),
+        (
+            b"0,add-edge,1,2,5\n0,add-vertex,2,,\n0,add-edge,1,2,5\n0,add-edge,2,1,5\n".as_slice(),
+            b"no vertex\nadded\nno vertex\nno vertex\nvertices 2\n".as_slice(),
+        ),
+        (
+            b"0,add-vertex,1,,\n0,add-vertex,2,,\n0,add-vertex,3,,\n0,add-edge,1,2,5\n\
+            0,add-edge,2,3,6\n0,remove-vertex,2,,\n0,add-vertex,2,,\n0,has-edge,1,2,\n\
+            0,has-edge,2,3,\n"
+                .as_slice(),
+            b"added\nadded\nadded\nadded\nadded\nremoved\nadded\nno edge\nno edge\nvertices 1 2 3\n".as_slice(),
+        ),
+        (
+            b"0,add-vertex,1,,\n0,add-vertex,2,,\n0,add-vertex,3,,\n0,add-edge,1,2,5\n\
+            0,add-edge,2,3,6\n0,remove-vertex,2,,\n0,add-vertex,2,,\n0,has-edge,1,2,\n\
+            0,has-edge,2,3,\n0,add-edge,1,2,8\n0,has-edge,1,2,\n0,add-edge,1,2,9\n\
+            0,remove-edge,1,2,\n0,remove-edge,1,2,\n"
+                .as_slice(),
+            b"added\nadded\nadded\nadded\nadded\nremoved\nadded\nno edge\nno edge\nadded\nedge 8\n\
+            present 8\nremoved 8\nno edge\nvertices 1 2 3\n"
+                .as_slice(),
+        ),
+        (
+            b"3,add-vertex,9,,\n1,add-vertex,10,,\n0,add-edge,9,10,4294967295\n2,add-edge,9,9,1\n\
+            0,add-edge,10,9,7\n"
+                .as_slice(),
+            b"added\nadded\nadded\nadded\nadded\nvertices 9 10\nedge 9 9 1\nedge 9 10 4294967295\n\
+            edge 10 9 7\n"
+                .as_slice(),
+        ),
+        (
+            b"\xEF\xBB\xBF\"0\",add-vertex,\"7\",,\r\n\r\n15,has-vertex,7,,".as_slice(),
+            b"added\nyes\nvertices 7\n".as_slice(),
+        ),
+    ];
+    for (input, text) in &rows {
+        for command in ["run", "replay"] {
+            let (status, sink) = run_on(&rt, &[command], input)?;
+            assert_eq!(rt; status, Status::Done, "{command} on {input:?}");
+            assert_eq!(rt; sink.bytes(), *text, "{command} on {input:?}");
+        }
+    }
+    Ok(())
+}
+
+#[test]
+fn faulty_words_are_refused(rt: HostRuntime) -> Result<(), Fail> {
+    let cases = [
+        ([].as_slice(), UsageCause::NoCommand),
+        (["help"].as_slice(), UsageCause::UnknownCommand),
+        (["Run"].as_slice(), UsageCause::UnknownCommand),
+        (["help", "run"].as_slice(), UsageCause::UnknownCommand),
+        (["run", "now"].as_slice(), UsageCause::UnknownOption),
+        (
+            ["replay", "--callers", "2"].as_slice(),
+            UsageCause::UnknownOption,
+        ),
+    ];
+    for (words, cause) in &cases {
+        let (status, sink) = run_on(&rt, words, ROW_2)?;
+        assert_eq!(rt; status, Status::Usage(*cause), "{words:?}");
+        assert_eq!(rt; sink.bytes(), b"".as_slice());
+    }
+    Ok(())
+}
+
+#[test]
+fn bad_records_are_refused(rt: HostRuntime) -> Result<(), Fail> {
+    let cases = [
+        (
+            b"0,add-vertex,1,,\n0,add-edge,1,1,0\n".as_slice(),
+            2,
+            RowCause::ZeroWeight,
+        ),
+        (b"16,add-vertex,1,,\n".as_slice(), 1, RowCause::BadCaller),
+        (b"0,add-vertex,1,".as_slice(), 1, RowCause::FieldCount),
+        (b"0,add-vertex,1,,,\n".as_slice(), 1, RowCause::FieldCount),
+        (b"0,add-vertex,5".as_slice(), 1, RowCause::FieldCount),
+        (b"x,nop,,,".as_slice(), 1, RowCause::BadCaller),
+        (b" 0,add-vertex,1,,".as_slice(), 1, RowCause::BadCaller),
+        (b"0,Add-vertex,1,,".as_slice(), 1, RowCause::UnknownOp),
+        (b"0,add-edge,,1,0".as_slice(), 1, RowCause::MissingField),
+        (b"0,add-vertex,x,1,".as_slice(), 1, RowCause::ExtraField),
+        (b"0,add-vertex,05,,".as_slice(), 1, RowCause::BadNumber),
+        (
+            b"0,add-vertex,4294967296,,".as_slice(),
+            1,
+            RowCause::BadNumber,
+        ),
+        (b"0,add-edge,1,1,0".as_slice(), 1, RowCause::ZeroWeight),
+    ];
+    for (input, row, cause) in &cases {
+        for command in ["run", "replay"] {
+            let (status, sink) = run_on(&rt, &[command], input)?;
+            let bad = Status::BadRow {
+                row: *row,
+                cause: *cause,
+            };
+            assert_eq!(rt; status, bad, "{command} on {input:?}");
+            assert_eq!(rt; sink.bytes(), b"".as_slice());
+        }
+    }
+    Ok(())
+}
+
+#[test]
+fn the_record_behind_the_last_is_refused(rt: HostRuntime) -> Result<(), Fail> {
+    let mut input = Vec::new(rt.alloc());
+    for _ in 0..65_537 {
+        input.extend_from_slice(b"0,has-vertex,1,,\n")?;
+    }
+    let (status, sink) = run_on(&rt, &["run"], input.as_slice())?;
+    let bad = Status::BadRow {
+        row: 65_537,
+        cause: RowCause::TooManyRows,
+    };
+    assert_eq!(rt; status, bad);
+    assert_eq!(rt; sink.bytes(), b"".as_slice());
+    Ok(())
+}
+
+#[test]
+fn an_input_is_too_long_from_one_byte_past_the_limit(rt: HostRuntime) -> Result<(), Fail> {
+    let alloc = rt.alloc();
+    let mut input = vec![in alloc; b'0'; 8_388_608]?;
+    let (status, _) = run_on(&rt, &["run"], input.as_slice())?;
+    let bad = Status::BadRow {
+        row: 1,
+        cause: RowCause::FieldCount,
+    };
+    assert_eq!(rt; status, bad);
+    input.push(b'0')?;
+    let (status, sink) = run_on(&rt, &["run"], input.as_slice())?;
+    assert_eq!(rt; status, Status::Usage(UsageCause::InputTooLong));
+    assert_eq!(rt; sink.bytes(), b"".as_slice());
+    Ok(())
+}
+
+// Each read and each write fails in turn.
+#[test]
+fn failing_streams_end_the_run(rt: HostRuntime) -> Result<(), Fail> {
+    let alloc = rt.alloc();
+    let words = words_of(&rt, &["run"])?;
+    for failing in 1..29u32 {
+        let mut source = MemSource::new(ROW_2.to_vec(alloc)?, 4, [failing].to_vec(alloc)?);
+        let mut sink = MemSink::new(alloc, ROOM, ROOM, Vec::new(alloc))?;
+        let status = graph_main(&rt, alloc, words.as_slice(), &mut source, &mut sink);
+        assert_eq!(rt; status, Status::ReadFault, "at read {failing}");
+        assert_eq!(rt; sink.bytes(), b"".as_slice());
+    }
+    for failing in 1..46u32 {
+        let mut source = MemSource::new(ROW_2.to_vec(alloc)?, ROOM, Vec::new(alloc));
+        let mut sink = MemSink::new(alloc, ROOM, 1, [failing].to_vec(alloc)?)?;
+        let status = graph_main(&rt, alloc, words.as_slice(), &mut source, &mut sink);
+        assert_eq!(rt; status, Status::WriteFault, "at write {failing}");
+        assert!(rt; ROW_2_TEXT.starts_with(sink.bytes()), "at write {failing}");
+        assert_eq!(rt; sink.bytes().len() as u32 + 1, failing);
+    }
+    Ok(())
+}
+
+#[test]
+fn the_third_write_and_the_second_read_fail(rt: HostRuntime) -> Result<(), Fail> {
+    let alloc = rt.alloc();
+    let words = words_of(&rt, &["run"])?;
+    let mut source = MemSource::new(ROW_2.to_vec(alloc)?, ROOM, Vec::new(alloc));
+    let mut sink = MemSink::new(alloc, ROOM, 1, [3].to_vec(alloc)?)?;
+    let status = graph_main(&rt, alloc, words.as_slice(), &mut source, &mut sink);
+    assert_eq!(rt; (status.number(), sink.bytes()), (5, b"ad".as_slice()));
+    let mut source = MemSource::new(ROW_2.to_vec(alloc)?, 16, [2].to_vec(alloc)?);
+    let mut sink = MemSink::new(alloc, ROOM, ROOM, Vec::new(alloc))?;
+    let status = graph_main(&rt, alloc, words.as_slice(), &mut source, &mut sink);
+    assert_eq!(rt; (status.number(), sink.bytes()), (4, b"".as_slice()));
+    Ok(())
+}
+
+#[test]
+fn a_status_has_its_line(rt: HostRuntime) -> Result<(), Fail> {
+    let lines = [
+        (Status::Done, ""),
+        (
+            Status::Usage(UsageCause::NoCommand),
+            "graph_tool: usage: no command",
+        ),
+        (
+            Status::Usage(UsageCause::InputTooLong),
+            "graph_tool: usage: input too long",
+        ),
+        (
+            Status::BadRow {
+                row: 2,
+                cause: RowCause::ZeroWeight,
+            },
+            "graph_tool: row 2: zero weight",
+        ),
+        (Status::ReadFault, "graph_tool: read fault"),
+        (Status::WriteFault, "graph_tool: write fault"),
+        (Status::Memory, "graph_tool: out of memory"),
+    ];
+    for (status, line) in &lines {
+        assert_eq!(rt; status.to_string(rt.alloc())?.as_str(), *line);
+    }
+    Ok(())
+}
+
+#[test]
+fn a_reader_is_a_source(rt: HostRuntime) {
+    let mut source = ReadSource::new(b"abc".as_slice());
+    let mut into = [0; 2];
+    assert_eq!(rt; source.read(&mut into), ReadAnswer::Got(2));
+    assert_eq!(rt; into, *b"ab");
+    assert_eq!(rt; source.read(&mut into), ReadAnswer::Got(1));
+    assert_eq!(rt; source.read(&mut into), ReadAnswer::End);
+    assert_eq!(rt; source.read(&mut into), ReadAnswer::End);
+}
+
+// A writer that takes two bytes once, and nothing afterwards.
+#[derive(Drop)]
+struct Shut {
+    taken: bool,
+}
+
+impl io::Write for Shut {
+    fn write(&mut self, buf: &[u8]) -> io::Result<usize> {
+        if self.taken || buf.len() < 2 {
+            return Ok(0);
+        }
+        self.taken = true;
+        Ok(2)
+    }
+
+    fn flush(&mut self) -> io::Result<()> {
+        Ok(())
+    }
+}
+
+#[test]
+fn a_write_that_takes_nothing_failed(rt: HostRuntime) {
+    let mut sink = WriteSink::new(Shut { taken: false });
+    assert_eq!(rt; sink.write(b"abc"), WriteAnswer::Took(2));
+    assert_eq!(rt; sink.write(b"c"), WriteAnswer::Failed);
+}

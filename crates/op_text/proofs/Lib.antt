@@ -1,0 +1,10 @@
+pub mod RowNumbers
+pub mod RowFields
+pub mod RowRecords
+pub mod RowSteps
+pub mod RowDecimals
+pub mod TextDigits
+pub mod TextLists
+pub mod TextPieces
+pub mod TextWrites
+pub mod Shown

@@ -1,0 +1,5 @@
+pub mod Rows
+pub mod Text
+pub mod Gives
+pub mod Pieces
+pub mod Faults

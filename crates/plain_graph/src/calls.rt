@@ -1,0 +1,143 @@
+//! The calls on a plain graph.
+//!
+//! Each call is answered by look-ups on the graph before it, and then makes its change: the definitions are `answer`
+//! and `after` of `graph_kinds`.
+
+ghost use Rattle.std.specs.Prelude.{◌≡◌, ◌+◌, ◌≤◌, ◌<◌, ◌&&◌, IfOk, OnOk, OnErr};
+ghost use Rattle.graph_kinds.specs.Graph.{has, key_count, pair_count, IsGraph};
+ghost use Rattle.graph_kinds.specs.Answer.{IsWellMade, plain, answer, after};
+ghost use Rattle.plain_graph.specs.Calls.{IsAdd};
+ghost use Rattle.graph_kinds.specs.Answer.{IsPathCall};
+
+use crate::graph::PlainGraph;
+use graph_kinds::{Answer, Call, Keys, Memory, Outcome};
+
+impl PlainGraph {
+    /// Answers a call, and makes its change. O(V log E) for `RemoveVertex`, O(log V + log E) for the others.
+    ///
+    /// # Errors
+    /// `Memory` where there is no room for a new vertex or edge; the graph is unchanged then.
+    pub fn perform(&mut self, call: &Call) -> Result<Answer, Memory>
+        requires well_made { IsWellMade call.now }
+        requires room { IsAdd call.now → key_count self.old + pair_count self.old < 65536 }
+        requires update { ¬ (IsPathCall call.now) }
+        ensures answer { IfOk result (λ a. a ≡ answer self.old call.now) }
+        ensures change { OnOk result (self.new ≡ after self.old call.now) }
+        ensures stays { OnErr result (self.new ≡ self.old) }
+        ensures sound { IsGraph self.new }
+    {
+        let outcome = self.outcome(call);
+        let alloc = self.allocator();
+        Ok(Answer {
+            outcome: outcome?,
+            keys: Keys::new(alloc),
+            ends: Keys::new(alloc),
+        })
+    }
+
+    /// The outcome of a call that asks for no path, with its change.
+    fn outcome(&mut self, call: &Call) -> Result<Outcome, Memory>
+        requires well_made { IsWellMade call.now }
+        requires room { IsAdd call.now → key_count self.old + pair_count self.old < 65536 }
+        requires update { ¬ (IsPathCall call.now) }
+        ensures answer { IfOk result (λ o. plain o ≡ answer self.old call.now) }
+        ensures change { OnOk result (self.new ≡ after self.old call.now) }
+        ensures stays { OnErr result (self.new ≡ self.old) }
+    {
+        match *call {
+            Call::AddVertex { key } => self.add_vertex(key),
+            Call::RemoveVertex { key } => Ok(self.remove_vertex(key)),
+            Call::HasVertex { key } => Ok(self.has_vertex(key)),
+            Call::AddEdge { from, to, weight } => self.add_edge(from, to, weight),
+            Call::RemoveEdge { from, to } => Ok(self.remove_edge(from, to)),
+            Call::HasEdge { from, to } => Ok(self.has_edge(from, to)),
+            Call::Reach { .. } | Call::Levels { .. } | Call::Cheapest { .. } => unreachable!(),
+        }
+    }
+
+    /// Whether both keys are vertices.
+    fn has_both(&self, from: u32, to: u32) -> bool
+        ensures { result ≡ (has self.now from && has self.now to) }
+    {
+        self.has(from) && self.has(to)
+    }
+
+    fn add_vertex(&mut self, key: u32) -> Result<Outcome, Memory>
+        requires { key_count self.old + pair_count self.old < 65536 }
+        ensures answer { IfOk result (λ o. plain o ≡ answer self.old (Call.AddVertex key)) }
+        ensures change { OnOk result (self.new ≡ after self.old (Call.AddVertex key)) }
+        ensures stays { OnErr result (self.new ≡ self.old) }
+    {
+        if self.has(key) {
+            return Ok(Outcome::Present(0));
+        }
+        self.put_vertex(key)?;
+        Ok(Outcome::Added)
+    }
+
+    fn remove_vertex(&mut self, key: u32) -> Outcome
+        ensures answer { plain result ≡ answer self.old (Call.RemoveVertex key) }
+        ensures change { self.new ≡ after self.old (Call.RemoveVertex key) }
+    {
+        if !self.has(key) {
+            return Outcome::Absent;
+        }
+        self.cut_vertex(key);
+        Outcome::Removed(0)
+    }
+
+    fn has_vertex(&self, key: u32) -> Outcome
+        ensures answer { plain result ≡ answer self.now (Call.HasVertex key) }
+        ensures change { self.now ≡ after self.now (Call.HasVertex key) }
+    {
+        if self.has(key) {
+            Outcome::Yes
+        } else {
+            Outcome::No
+        }
+    }
+
+    fn add_edge(&mut self, from: u32, to: u32, weight: u32) -> Result<Outcome, Memory>
+        requires weighed { 1 ≤ weight }
+        requires room { key_count self.old + pair_count self.old < 65536 }
+        ensures answer { IfOk result (λ o. plain o ≡ answer self.old (Call.AddEdge from to weight)) }
+        ensures change { OnOk result (self.new ≡ after self.old (Call.AddEdge from to weight)) }
+        ensures stays { OnErr result (self.new ≡ self.old) }
+    {
+        if !self.has_both(from, to) {
+            return Ok(Outcome::NoVertex);
+        }
+        if let Some(present) = self.weight(from, to) {
+            return Ok(Outcome::Present(present));
+        }
+        self.put_edge(from, to, weight)?;
+        Ok(Outcome::Added)
+    }
+
+    fn remove_edge(&mut self, from: u32, to: u32) -> Outcome
+        ensures answer { plain result ≡ answer self.old (Call.RemoveEdge from to) }
+        ensures change { self.new ≡ after self.old (Call.RemoveEdge from to) }
+    {
+        if !self.has_both(from, to) {
+            return Outcome::NoVertex;
+        }
+        let Some(weight) = self.weight(from, to) else {
+            return Outcome::NoEdge;
+        };
+        self.cut_edge(from, to);
+        Outcome::Removed(weight)
+    }
+
+    fn has_edge(&self, from: u32, to: u32) -> Outcome
+        ensures answer { plain result ≡ answer self.now (Call.HasEdge from to) }
+        ensures change { self.now ≡ after self.now (Call.HasEdge from to) }
+    {
+        if !self.has_both(from, to) {
+            return Outcome::NoVertex;
+        }
+        match self.weight(from, to) {
+            Some(weight) => Outcome::Edge(weight),
+            None => Outcome::NoEdge,
+        }
+    }
+}

@@ -1,0 +1,142 @@
+//! The graph of one caller, in ordered maps.
+//!
+//! A map has each vertex by its key with the map of its out-edges. Contracts see the graph that the maps hold
+//! (`graph_of`); what the maps keep is `IsKept`, both of `specs/Kept.antt`.
+
+ghost use Rattle.std.specs.Prelude.{◌≡◌, ℕ, ◌+◌, ◌≤◌, ◌<◌, true, OnOk, OnErr};
+ghost use Rattle.std.specs.BTreeMap.{keys};
+ghost use Rattle.std.specs.FinMap as finite_map;
+ghost use Rattle.plain_graph.specs.Kept.{pairs_in};
+ghost use Rattle.graph_kinds.specs.Graph.{empty_graph, sorted_keys, has, weight_of, key_count, pair_count, IsGraph};
+ghost use Rattle.graph_kinds.specs.Answer.{change};
+
+use crate::maps;
+use graph_kinds::{Call, Memory};
+use std::alloc::Global;
+use std::collections::BTreeMap;
+use std::marker::Model;
+
+/// A graph of one caller. It holds at most 65,536 vertices and edges.
+#[derive(Drop)]
+pub struct PlainGraph {
+    alloc: Global,
+    vertices: BTreeMap<u32, BTreeMap<u32, u32>>,
+}
+
+impl Model for PlainGraph {
+    ghost use Rattle.graph_kinds.specs.Graph.{Graph, graph_code};
+
+    ghost Value = { Graph };
+
+    ghost coded = { graph_code };
+
+    ghost use Rattle.plain_graph.specs.Kept.{graph_of, IsKept};
+
+    ghost view = { λ g. graph_of g.vertices };
+
+    ghost invariant = { λ g. IsKept g.vertices };
+}
+
+impl PlainGraph {
+    /// The empty graph. O(1), takes no memory.
+    pub fn new(alloc: Global) -> Self
+        ensures { result ≡ empty_graph }
+    {
+        PlainGraph {
+            alloc,
+            vertices: BTreeMap::new(alloc),
+        }
+    }
+
+    /// The allocator that the graph takes its memory from. O(1).
+    pub(crate) fn allocator(&self) -> Global
+        ensures sound { IsGraph self.now }
+    {
+        self.alloc
+    }
+
+    /// The maps, for the text of the graph. O(1).
+    pub(crate) fn vertices(&self) -> &BTreeMap<u32, BTreeMap<u32, u32>>
+        ensures keys { keys result.now ≡ sorted_keys self.now }
+        ensures pairs { pairs_in result.now ≡ finite_map.entries self.now.pairs }
+    {
+        &self.vertices
+    }
+
+    /// How many vertices there are. O(1).
+    pub fn vertex_count(&self) -> u32
+        ensures count { result ≡ key_count self.now }
+        ensures sound { IsGraph self.now }
+        ensures few { key_count self.now + pair_count self.now ≤ 65536 }
+    {
+        self.vertices.len() as u32
+    }
+
+    /// How many edges there are. O(V).
+    pub fn edge_count(&self) -> u32
+        ensures { result ≡ pair_count self.now }
+    {
+        maps::edge_count(&self.vertices)
+    }
+
+    /// Whether a vertex has the key. O(log V).
+    pub fn has(&self, key: u32) -> bool
+        ensures { result ≡ has self.now key }
+    {
+        self.vertices.contains_key(&key)
+    }
+
+    /// The weight of the edge between two keys, if there is one. O(log V + log E).
+    pub fn weight(&self, from: u32, to: u32) -> Option<u32>
+        ensures { result ≡ weight_of self.now from to }
+    {
+        match self.vertices.get(&from) {
+            Some(edges) => edges.get(&to).copied(),
+            None => None,
+        }
+    }
+
+    /// Makes the key a vertex; one that is there keeps its edges. O(log V).
+    ///
+    /// # Errors
+    /// `Memory` where there is no room for it; the graph is unchanged then.
+    pub fn put_vertex(&mut self, key: u32) -> Result<(), Memory>
+        requires { key_count self.old + pair_count self.old < 65536 }
+        ensures ok { OnOk result (self.new ≡ change self.old (Call.AddVertex key)) }
+        ensures err { OnErr result (self.new ≡ self.old) }
+    {
+        if self.vertices.contains_key(&key) {
+            return Ok(());
+        }
+        maps::insert_vertex(&mut self.vertices, self.alloc, key)
+    }
+
+    /// Puts the edge between two vertices, or gives the one that is there its new weight. O(log V + log E).
+    ///
+    /// # Errors
+    /// `Memory` where there is no room for it; the graph is unchanged then.
+    pub fn put_edge(&mut self, from: u32, to: u32, weight: u32) -> Result<(), Memory>
+        requires from_key { has self.old from ≡ true }
+        requires to_key { has self.old to ≡ true }
+        requires weighed { 1 ≤ weight }
+        requires room { key_count self.old + pair_count self.old < 65536 }
+        ensures ok { OnOk result (self.new ≡ change self.old (Call.AddEdge from to weight)) }
+        ensures err { OnErr result (self.new ≡ self.old) }
+    {
+        maps::insert_edge(&mut self.vertices, from, to, weight)
+    }
+
+    /// Takes out a vertex with its edges and the edges to it. O(V log E).
+    pub(crate) fn cut_vertex(&mut self, key: u32)
+        ensures { self.new ≡ change self.old (Call.RemoveVertex key) }
+    {
+        maps::remove_vertex(&mut self.vertices, key);
+    }
+
+    /// Takes out the edge between two keys. O(log V + log E).
+    pub(crate) fn cut_edge(&mut self, from: u32, to: u32)
+        ensures { self.new ≡ change self.old (Call.RemoveEdge from to) }
+    {
+        maps::remove_edge(&mut self.vertices, from, to);
+    }
+}

@@ -1,0 +1,14 @@
+//! The graph of one caller: the nine calls in one order, without threads.
+#![tactic(auto)]
+
+mod calls;
+mod graph;
+mod maps;
+mod rows;
+mod text;
+
+pub use graph::PlainGraph;
+pub use rows::replay;
+
+#[cfg(test)]
+mod tests;

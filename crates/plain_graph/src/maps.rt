@@ -1,0 +1,99 @@
+//! The maps of a plain graph: of each vertex the map of its out-edges, which has the weight of each by the key of
+//! its target.
+//!
+//! No second index is kept, so an edge stands at one place alone. What the functions leave is said by look-ups
+//! (`holds` and `weight_held` of `specs/Kept.antt`); all of them keep `Rises`.
+
+ghost use Rattle.std.specs.Prelude.{◌≡◌, ℕ, ◌≤◌, ◌==◌, ◌&&◌, ◌||◌, true, false, cond, IsTrue, OnOk, OnErr, Some, None};
+ghost use Rattle.plain_graph.specs.Kept.{Rises, edges_in, holds, weight_held};
+ghost use Rattle.std.specs.Ordering.{nat_cmp};
+ghost use Rattle.std.specs.BTreeMap.{get, IsOrdered, values};
+
+use graph_kinds::Memory;
+use std::alloc::Global;
+use std::collections::BTreeMap;
+
+pub type Edges = BTreeMap<u32, u32>;
+
+pub type Vertices = BTreeMap<u32, BTreeMap<u32, u32>>;
+
+/// How many edges all vertices have. O(V).
+pub fn edge_count(vertices: &Vertices) -> u32
+    requires { edges_in (values vertices.now) ≤ 65536 }
+    ensures { result ≡ edges_in (values vertices.now) }
+{
+    let mut count = 0;
+    for edges in vertices.values() {
+        count += edges.len() as u32;
+    }
+    count
+}
+
+/// Puts a vertex without edges at a key that has none. O(log V).
+pub fn insert_vertex(vertices: &mut Vertices, alloc: Global, key: u32) -> Result<(), Memory>
+    requires absent { holds vertices.old key ≡ false }
+    requires rises { Rises vertices.old }
+    ensures rises { Rises vertices.new }
+    ensures keys { OnOk result ((q : ℕ) → holds vertices.new q ≡ ((key == q) || holds vertices.old q)) }
+    ensures weights { (a b : ℕ) → weight_held vertices.new a b ≡ weight_held vertices.old a b }
+    ensures stays { OnErr result ((q : ℕ) → holds vertices.new q ≡ holds vertices.old q) }
+{
+    match vertices.insert(key, BTreeMap::new(alloc)) {
+        Ok(_) => Ok(()),
+        Err(_) => Err(Memory),
+    }
+}
+
+/// Puts an edge out of a vertex, or its new weight. O(log V + log E).
+pub fn insert_edge(vertices: &mut Vertices, from: u32, to: u32, weight: u32) -> Result<(), Memory>
+    requires there { holds vertices.old from ≡ true }
+    requires rises { Rises vertices.old }
+    ensures rises { Rises vertices.new }
+    ensures keys { (q : ℕ) → holds vertices.new q ≡ holds vertices.old q }
+    ensures weights { OnOk result ((a b : ℕ)
+        → weight_held vertices.new a b ≡ cond ((from == a) && (to == b)) (Some weight) (weight_held vertices.old a b)) }
+    ensures stays { OnErr result ((a b : ℕ) → weight_held vertices.new a b ≡ weight_held vertices.old a b) }
+{
+    match vertices.get_mut(&from) {
+        Some(edges) => match edges.insert(to, weight) {
+            Ok(_) => Ok(()),
+            Err(_) => Err(Memory),
+        },
+        None => unreachable!(),
+    }
+}
+
+/// Takes out an edge, if there is one. O(log V + log E).
+pub fn remove_edge(vertices: &mut Vertices, from: u32, to: u32)
+    requires { Rises vertices.old }
+    ensures rises { Rises vertices.new }
+    ensures keys { (q : ℕ) → holds vertices.new q ≡ holds vertices.old q }
+    ensures weights { (a b : ℕ)
+        → weight_held vertices.new a b ≡ cond ((from == a) && (to == b)) None (weight_held vertices.old a b) }
+{
+    if let Some(edges) = vertices.get_mut(&from) {
+        edges.remove(&to);
+    }
+}
+
+/// Takes out the edge to a key. It answers `true` always, so that it keeps the vertex in a `retain`.
+fn forget(edges: &mut Edges, key: u32) -> bool
+    ensures kept { result ≡ true }
+    ensures rises { IsOrdered nat_cmp edges.new }
+    ensures weights { (b : ℕ) → get nat_cmp edges.new b ≡ cond (key == b) None (get nat_cmp edges.old b) }
+{
+    edges.remove(&key);
+    true
+}
+
+/// Takes out a vertex with its edges, and the edge to it of each other vertex. O(V log E).
+pub fn remove_vertex(vertices: &mut Vertices, key: u32)
+    requires { Rises vertices.old }
+    ensures rises { Rises vertices.new }
+    ensures keys { (q : ℕ) → holds vertices.new q ≡ cond (key == q) false (holds vertices.old q) }
+    ensures weights { (a b : ℕ)
+        → weight_held vertices.new a b ≡ cond ((key == a) || (key == b)) None (weight_held vertices.old a b) }
+{
+    vertices.remove(&key);
+    vertices.retain(|_, edges| forget(edges, key));
+}

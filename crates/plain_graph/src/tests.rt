@@ -1,0 +1,182 @@
+ghost use Rattle.std.specs.Prelude.{◌+◌, ◌<◌, All, IsTrue};
+ghost use Rattle.graph_kinds.specs.Graph.{key_count, pair_count};
+ghost use Rattle.graph_kinds.specs.Answer.{IsWellMade};
+ghost use Rattle.graph_kinds.specs.declared.call.Row.{Row as RowValue};
+ghost use Rattle.graph_kinds.specs.Answer.{IsPathCall};
+
+use crate::{PlainGraph, replay};
+use graph_kinds::{Call, MemSink, Outcome, Row};
+use std::process::Abort;
+use std::test::Fail;
+
+// What `replay` asks of a call.
+fn is_fit(call: &Call) -> bool
+    ensures well_made { IsTrue result → IsWellMade call.now }
+    ensures update { IsTrue result → ¬ (IsPathCall call.now) }
+{
+    match *call {
+        Call::AddEdge { weight, .. } => weight >= 1,
+        Call::Reach { .. } | Call::Levels { .. } | Call::Cheapest { .. } => false,
+        _ => true,
+    }
+}
+
+fn are_fit(rows: &[Row]) -> bool
+    ensures well_made { IsTrue result → All (λ row. IsWellMade row.call) rows.now }
+    ensures updates { IsTrue result → All (λ row. ¬ (IsPathCall row.call)) rows.now }
+{
+    rows.iter().all(|row| is_fit(&row.call))
+}
+
+fn add_vertex(key: u32) -> Call {
+    Call::AddVertex { key }
+}
+
+fn remove_vertex(key: u32) -> Call {
+    Call::RemoveVertex { key }
+}
+
+fn has_vertex(key: u32) -> Call {
+    Call::HasVertex { key }
+}
+
+fn add_edge(from: u32, to: u32, weight: u32) -> Call {
+    Call::AddEdge { from, to, weight }
+}
+
+fn remove_edge(from: u32, to: u32) -> Call {
+    Call::RemoveEdge { from, to }
+}
+
+fn has_edge(from: u32, to: u32) -> Call {
+    Call::HasEdge { from, to }
+}
+
+// Compares the text of the graph, given in pieces of 3 bytes.
+fn assert_text<R: Abort + AllocGlobal>(rt: &R, graph: &PlainGraph, text: &str) -> Result<(), Fail> {
+    let mut sink = MemSink::new(rt.alloc(), 100, 3, Vec::new(rt.alloc()))?;
+    graph.write_graph(&mut sink)?;
+    assert_eq!(rt; sink.bytes(), text.as_bytes());
+    Ok(())
+}
+
+// Replays the calls, and compares each outcome with the one beside it.
+fn replayed<R: Abort + AllocGlobal>(rt: &R, table: &[(Call, Outcome)]) -> Result<PlainGraph, Fail> {
+    let mut rows = Vec::new(rt.alloc());
+    for (call, _) in table {
+        rows.push(Row {
+            caller: 0,
+            call: *call,
+        })?;
+    }
+    assert!(rt; rows.len() <= 65_536 && are_fit(&rows));
+    let (answers, graph) = replay(rt.alloc(), &rows)?;
+    assert_eq!(rt; answers.len(), table.len());
+    for (answer, (call, outcome)) in answers.iter().zip(table) {
+        assert_eq!(rt; answer.outcome, *outcome, "at {call:?}");
+        assert!(rt; answer.keys.as_slice().is_empty() && answer.ends.as_slice().is_empty());
+    }
+    Ok(graph)
+}
+
+#[test]
+fn vertices_come_and_go(rt: HostRuntime) -> Result<(), Fail> {
+    let graph = replayed(
+        &rt,
+        &[
+            (add_vertex(5), Outcome::Added),
+            (add_vertex(5), Outcome::Present(0)),
+            (has_vertex(5), Outcome::Yes),
+            (remove_vertex(5), Outcome::Removed(0)),
+            (remove_vertex(5), Outcome::Absent),
+            (has_vertex(5), Outcome::No),
+        ],
+    )?;
+    assert_eq!(rt; (graph.vertex_count(), graph.edge_count()), (0, 0));
+    assert_text(&rt, &graph, "vertices\n")
+}
+
+#[test]
+fn edges_ask_for_both_ends(rt: HostRuntime) -> Result<(), Fail> {
+    let graph = replayed(
+        &rt,
+        &[
+            (add_edge(1, 2, 5), Outcome::NoVertex),
+            (add_vertex(2), Outcome::Added),
+            (add_edge(1, 2, 5), Outcome::NoVertex),
+            (add_edge(2, 1, 5), Outcome::NoVertex),
+            (remove_edge(2, 1), Outcome::NoVertex),
+            (has_edge(1, 2), Outcome::NoVertex),
+        ],
+    )?;
+    assert_eq!(rt; (graph.vertex_count(), graph.edge_count()), (1, 0));
+    assert!(rt; graph.has(2) && !graph.has(1));
+    assert_text(&rt, &graph, "vertices 2\n")
+}
+
+#[test]
+fn a_vertex_that_comes_back_has_no_edges(rt: HostRuntime) -> Result<(), Fail> {
+    let graph = replayed(
+        &rt,
+        &[
+            (add_vertex(1), Outcome::Added),
+            (add_vertex(2), Outcome::Added),
+            (add_vertex(3), Outcome::Added),
+            (add_edge(1, 2, 5), Outcome::Added),
+            (add_edge(2, 3, 6), Outcome::Added),
+            (remove_vertex(2), Outcome::Removed(0)),
+            (add_vertex(2), Outcome::Added),
+            (has_edge(1, 2), Outcome::NoEdge),
+            (has_edge(2, 3), Outcome::NoEdge),
+            (add_edge(1, 2, 8), Outcome::Added),
+            (has_edge(1, 2), Outcome::Edge(8)),
+            (add_edge(1, 2, 9), Outcome::Present(8)),
+            (remove_edge(1, 2), Outcome::Removed(8)),
+            (remove_edge(1, 2), Outcome::NoEdge),
+        ],
+    )?;
+    assert_eq!(rt; (graph.vertex_count(), graph.edge_count()), (3, 0));
+    assert_text(&rt, &graph, "vertices 1 2 3\n")
+}
+
+// What the two `put` calls ask of the graph.
+fn has_room(graph: &PlainGraph) -> bool
+    ensures { IsTrue result → key_count graph.now + pair_count graph.now < 65536 }
+{
+    graph.vertex_count() + graph.edge_count() < 65_536
+}
+
+#[test]
+fn a_graph_is_built_without_calls(rt: HostRuntime) -> Result<(), Fail> {
+    let mut graph = PlainGraph::new(rt.alloc());
+    for key in [9, 7] {
+        assert!(rt; has_room(&graph));
+        graph.put_vertex(key)?;
+    }
+    for (from, to, weight) in [(7, 7, 3), (7, 9, 4), (7, 7, 5)] {
+        assert!(rt; has_room(&graph) && graph.has(from) && graph.has(to) && weight >= 1);
+        graph.put_edge(from, to, weight)?;
+    }
+    assert_eq!(rt; (graph.vertex_count(), graph.edge_count()), (2, 2));
+    let weights = [
+        graph.weight(7, 7),
+        graph.weight(7, 9),
+        graph.weight(9, 7),
+        graph.weight(1, 7),
+    ];
+    assert_eq!(rt; weights, [Some(5), Some(4), None, None]);
+    assert_text(&rt, &graph, "vertices 7 9\nedge 7 7 5\nedge 7 9 4\n")
+}
+
+#[test]
+fn a_failed_write_leaves_a_first_part(rt: HostRuntime) -> Result<(), Fail> {
+    let mut graph = PlainGraph::new(rt.alloc());
+    assert!(rt; has_room(&graph));
+    graph.put_vertex(12)?;
+    for (failing, text) in [(1, ""), (3, "vertices "), (5, "vertices 12\n")] {
+        let mut sink = MemSink::new(rt.alloc(), 100, 9, vec![in rt.alloc(); failing]?)?;
+        assert_eq!(rt; graph.write_graph(&mut sink).is_ok(), failing > 4);
+        assert_eq!(rt; sink.bytes(), text.as_bytes());
+    }
+    Ok(())
+}
