@@ -1,0 +1,31 @@
+-- The words of the worked journals, computed.
+use Rattle.std.proofs.Common.{◌≡◌, refl, [], ◌∷◌}
+use Rattle.core_journal.specs.Machine.{opening_words, machine}
+use Rattle.core_journal.specs.State.{state}
+use Rattle.core_journal.specs.History.{}
+use Rattle.core_journal.specs.FirstVertex.{tiny, words_before, words_after, eight_events}
+use Rattle.core_journal.specs.Worked.{small}
+use Rattle.core_journal.specs.TwoHands.{hands_journal, hands_words}
+
+pub words_first : opening_words tiny ≡ words_before
+words_first = refl
+
+pub words_last : machine tiny eight_events ≡ words_after
+unfolding machine
+words_last = refl
+
+pub words_hands : machine small hands_journal ≡ hands_words
+unfolding machine
+words_hands = refl
+
+pub edges_hands : (state small hands_journal).edges 0 ≡ 2 ∷ []
+unfolding state
+edges_hands = refl
+
+pub bucket_hands : (state small hands_journal).bucket 0 ≡ 0 ∷ []
+unfolding state
+bucket_hands = refl
+
+pub free_hands : (state small hands_journal).free ≡ 3 ∷ 4 ∷ 5 ∷ 6 ∷ 7 ∷ []
+unfolding state
+free_hands = refl

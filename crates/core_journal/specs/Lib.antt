@@ -1,0 +1,15 @@
+pub mod Event
+pub mod Prefix
+pub mod Machine
+pub mod State
+pub mod Life
+pub mod GraphOf
+pub mod History
+pub mod Order
+pub mod Foreign
+pub mod Right
+pub mod Reuse
+pub mod Changes
+pub mod Worked
+pub mod TwoHands
+pub mod FirstVertex

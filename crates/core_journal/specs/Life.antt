@@ -1,0 +1,38 @@
+-- The lives of a journal: which were linked, marked and unlinked in it, and as what.
+use Rattle.std.specs.Prelude.{ℕ, Bool, ◌&&◌, List, Option, find, option_map}
+use Rattle.std.specs.List.{list_any}
+use Rattle.packed_link.specs.declared.link.Life.{Life}
+use Rattle.core_journal.specs.declared.event.Event.{Event}
+use Rattle.core_journal.specs.Event.{same_life, links_vertex, marks_vertex, links_edge, marks_edge, unlinks, freezes_head}
+
+-- the life was linked as a vertex
+abbrev pub vertex_linked : List Event → Life → Bool
+vertex_linked journal x = list_any (λ (e : Event). links_vertex e.kind && same_life x e.life) journal
+
+-- the life was marked as a vertex
+abbrev pub vertex_marked : List Event → Life → Bool
+vertex_marked journal x = list_any (λ (e : Event). marks_vertex e.kind && same_life x e.life) journal
+
+-- the life was linked as an edge
+abbrev pub edge_linked : List Event → Life → Bool
+edge_linked journal x = list_any (λ (e : Event). links_edge e.kind && same_life x e.life) journal
+
+-- the life was marked as an edge
+abbrev pub edge_marked : List Event → Life → Bool
+edge_marked journal x = list_any (λ (e : Event). marks_edge e.kind && same_life x e.life) journal
+
+-- the life was taken off its list
+abbrev pub unlinked : List Event → Life → Bool
+unlinked journal x = list_any (λ (e : Event). unlinks e.kind && same_life x e.life) journal
+
+-- the list of the life's edges was closed at its head
+abbrev pub head_frozen : List Event → Life → Bool
+head_frozen journal x = list_any (λ (e : Event). freezes_head e.kind && same_life x e.life) journal
+
+-- the key with which a vertex life was linked
+unfoldable pub key_of : List Event → Life → Option ℕ
+key_of journal x = option_map (λ (e : Event). e.key) (find (λ (e : Event). links_vertex e.kind && same_life x e.life) journal)
+
+-- the event that linked an edge life
+unfoldable pub link_of : List Event → Life → Option Event
+link_of journal x = find (λ (e : Event). links_edge e.kind && same_life x e.life) journal

@@ -1,0 +1,42 @@
+-- The order of a history: by place, then silent before late before own, then by caller.
+use Rattle.std.specs.Prelude.{◌≡◌, ℕ, ◌+◌, ◌<◌, ◌≤◌, ◌⊎◌, List, [], ◌∷◌, ◌++◌, map}
+use Rattle.graph_kinds.specs.History.{Item, Every}
+use Rattle.graph_kinds.specs.declared.entry.Class.{Class}
+use Rattle.graph_kinds.specs.declared.entry.Class.TheVariants.{Silent, Late, Own}
+use Rattle.core_journal.specs.declared.book.Book.{Book}
+use Rattle.core_journal.specs.History.{Turn, entries_at, or_running}
+
+-- an item with its place and class; an item without answer is own, at its event's place
+pub record Placed : Type 0 where
+  pub place : ℕ
+  pub class : Class
+  pub item : Item
+
+abbrev pub placed : ℕ → Class → List Item → List Placed
+placed p c items = map (λ (i : Item). record { place = p; class = c; item = i }) items
+
+-- the items of a history with their places and classes
+abbrev pub placed_from : ℕ → List Turn → List Book → List Placed
+placed_from p [] books = placed p Silent (entries_at Silent p books) ++ (placed p Late (entries_at Late p books) ++ placed p Own (entries_at Own p books))
+placed_from p (t ∷ ts) books =
+    (placed p Silent (entries_at Silent p books) ++ (placed p Late (entries_at Late p books) ++ placed p Own (or_running t (entries_at Own p books))))
+    ++ placed_from (p + 1) ts books
+
+abbrev pub rank : Class → ℕ
+rank Silent = 0
+rank Late = 1
+rank Own = 2
+
+-- one item stands before another: at an earlier place, or there in an earlier class, or there by no greater caller
+abbrev pub Before : Placed → Placed → Type 0
+Before x y = (x.place < y.place) ⊎ ((x.place ≡ y.place) × ((rank x.class < rank y.class) ⊎ ((rank x.class ≡ rank y.class) × (x.item.caller ≤ y.item.caller))))
+
+-- each item stands before all later ones
+abbrev pub InOrder : List Placed → Type 0
+InOrder [] = Unit {0}
+InOrder (x ∷ xs) = Every (Before x) xs × InOrder xs
+
+-- the books stand by rising caller
+abbrev pub CallersRise : List Book → Type 0
+CallersRise [] = Unit {0}
+CallersRise (b ∷ bs) = Every (λ (c : Book). b.caller < c.caller) bs × CallersRise bs
