@@ -7,6 +7,15 @@
 
 mod book;
 mod event;
+mod history;
+mod lives;
+mod words;
 
 pub use book::Book;
 pub use event::{Event, Kind};
+pub use history::{
+    a_call_extends_its_book, books_of_fronts_stay, closed_history_is_answered, history_is_in_order,
+    history_is_legal, history_keeps_orders,
+};
+pub use lives::{fronts_are_journals, marks_and_links_stay, prefixes_chain};
+pub use words::{events_change_the_state, events_write_their_words};

@@ -1,0 +1,48 @@
+//! The laws of prefixes and lives: what a front shows stays true.
+
+ghost use Rattle.std.specs.Prelude.{◌≡◌, ℕ, ◌≤◌, List, ◌∷◌, [], ◌++◌, Option, Some, true, length, take};
+ghost use Rattle.packed_link.specs.Layout.{Sizes};
+ghost use Rattle.packed_link.specs.declared.link.Life.{Life};
+ghost use Rattle.core_journal.specs.declared.event.Event.{Event};
+ghost use Rattle.core_journal.specs.Prefix.{IsPrefix};
+ghost use Rattle.core_journal.specs.Life.{vertex_linked, vertex_marked, edge_linked, edge_marked};
+ghost use Rattle.core_journal.specs.Life.{unlinked, head_frozen, key_of, link_of};
+ghost use Rattle.core_journal.specs.GraphOf.{IsRegular};
+ghost use Rattle.core_journal.specs.Reuse.{ReusesSafely};
+
+/// Prefixes: a journal is one of itself, a prefix of a prefix is one, one more event leaves one, and so does each length.
+pub fn prefixes_chain()
+    ensures same { (journal : List Event) → IsPrefix journal journal }
+    ensures longer { (short middle long : List Event) → IsPrefix short middle → IsPrefix middle long
+        → IsPrefix short long }
+    ensures next { (journal : List Event) (e : Event) → IsPrefix journal (journal ++ e ∷ []) }
+    ensures taken { (journal : List Event) (n : ℕ) → IsPrefix (take n journal) journal }
+    ensures shorter { (front journal : List Event) → IsPrefix front journal → length front ≤ length journal }
+{}
+
+/// A front of a regular journal is regular, and a front of one that reuses safely reuses safely.
+pub fn fronts_are_journals()
+    ensures regular { (front journal : List Event) → IsPrefix front journal → IsRegular journal → IsRegular front }
+    ensures reuse { (sizes : Sizes) (front journal : List Event) → IsPrefix front journal
+        → ReusesSafely sizes journal → ReusesSafely sizes front }
+{}
+
+/// Links, marks and unlinks stay, with the key and the edge that were linked.
+pub fn marks_and_links_stay()
+    ensures vertex_linked { (front journal : List Event) (x : Life) → IsPrefix front journal
+        → vertex_linked front x ≡ true → vertex_linked journal x ≡ true }
+    ensures vertex_marked { (front journal : List Event) (x : Life) → IsPrefix front journal
+        → vertex_marked front x ≡ true → vertex_marked journal x ≡ true }
+    ensures edge_linked { (front journal : List Event) (x : Life) → IsPrefix front journal
+        → edge_linked front x ≡ true → edge_linked journal x ≡ true }
+    ensures edge_marked { (front journal : List Event) (x : Life) → IsPrefix front journal
+        → edge_marked front x ≡ true → edge_marked journal x ≡ true }
+    ensures unlinked { (front journal : List Event) (x : Life) → IsPrefix front journal
+        → unlinked front x ≡ true → unlinked journal x ≡ true }
+    ensures frozen { (front journal : List Event) (x : Life) → IsPrefix front journal
+        → head_frozen front x ≡ true → head_frozen journal x ≡ true }
+    ensures key { (front journal : List Event) (x : Life) (key : ℕ) → IsPrefix front journal
+        → key_of front x ≡ Some key → key_of journal x ≡ Some key }
+    ensures edge { (front journal : List Event) (x : Life) (link : Event) → IsPrefix front journal
+        → link_of front x ≡ Some link → link_of journal x ≡ Some link }
+{}
