@@ -1,16 +1,19 @@
 -- What calls change, as far as a history needs it.
-use Rattle.std.proofs.Common.{◌≡◌, ◌≢◌, ℕ, Bool, true, false, cond, not, ◌&&◌, ◌||◌, ◌==◌, ◌⊎◌, inl, inr, Option, Some, None, List, [], ◌∷◌, map, refl, sym, ap, ◌∙◌, true≢false, arith, ne_eqb, eqb-true}
+use Rattle.std.proofs.Common.{◌≡◌, ◌≢◌, ℕ, Bool, true, false, cond, not, ◌&&◌, ◌||◌, ◌==◌, ◌⊎◌, inl, inr, Option, Some, None, List, refl, sym, ap, ◌∙◌, true≢false, arith, ne_eqb, eqb-true}
 use mathlib.Core.Logic.{dite}
 use native.Mathlib.Decide.{ℕ_discrete}
 use Rattle.std.specs.Prelude.{Decides, nat_eq}
 use Rattle.std.specs.Cmp.Lexicographic.{pointwise, pointwise_decides, bytes_decides}
 use Rattle.std.specs.FinMap as map
 use Rattle.std.specs.FinSet as set
+use Rattle.std.specs.Ordering.{nat_cmp, eq_by_cmp}
+use Rattle.std.specs.Cmp.{nat_cmp_total}
+use Rattle.std.specs.List.{list_any}
 use Rattle.graph_kinds.specs.declared.call.Call.{Call}
 use Rattle.graph_kinds.specs.declared.call.Call.TheVariants.{AddVertex, RemoveVertex, HasVertex, AddEdge, RemoveEdge, HasEdge, Reach, Levels, Cheapest}
 use Rattle.graph_kinds.specs.declared.outcome.Outcome.{Outcome}
 use Rattle.graph_kinds.specs.declared.outcome.Outcome.TheVariants as out
-use Rattle.graph_kinds.specs.Graph.{Graph, has, weight_of, sorted_keys}
+use Rattle.graph_kinds.specs.Graph.{Graph, has, weight_of}
 use Rattle.graph_kinds.specs.Answer.{answer, alters, after, change, without, is_change, plain, by_weight, by_path, by_levels, by_cost}
 use Rattle.graph_kinds.specs.Levels.{reach_path, levels_of}
 use Rattle.graph_kinds.specs.Path.{least_cost, cheapest_path}
@@ -269,29 +272,19 @@ same_pairs x y = (
     own : same_pair x x ≡ true
     own = ap (λ b. b && ((x.0.1 == x.0.1) && (x.1 == x.1))) (set_same x.0.0) ∙ (ap (λ b. b && (x.1 == x.1)) (set_same x.0.1) ∙ set_same x.1)
 
--- a set is its keys
-same_entries : (xs ys : List (ℕ × Unit {0})) → map (λ e. e.0) xs ≡ map (λ e. e.0) ys → xs ≡ ys
-same_entries [] [] e = refl
-same_entries [] (y ∷ ys) e = absurd (cc)
-same_entries (x ∷ xs) [] e = absurd (cc)
-same_entries (x ∷ xs) (y ∷ ys) e =
-    let k : x.0 ≡ y.0 = cc in
-    let rest : map (λ (e : ℕ × Unit {0}). e.0) xs ≡ map (λ e. e.0) ys = cc in
-    λ i. (k i, tt) ∷ same_entries xs ys rest i
-
 pub same_graph_is : (g h : Graph) → same_graph g h ≡ true → g ≡ h
 unfolding same_graph
 same_graph_is g h e =
-    let keys = (bytes_decides (sorted_keys g) (sorted_keys h)).0 (and_left (pointwise nat_eq (sorted_keys g) (sorted_keys h)) (pointwise same_pair (map.entries g.pairs) (map.entries h.pairs)) e) in
-    let pairs = (pointwise_decides same_pairs (map.entries g.pairs) (map.entries h.pairs)).0 (and_right (pointwise nat_eq (sorted_keys g) (sorted_keys h)) (pointwise same_pair (map.entries g.pairs) (map.entries h.pairs)) e) in
-    let k = map.same_entries_map g.keys h.keys (same_entries (map.entries g.keys) (map.entries h.keys) keys) in
+    let items = (bytes_decides (set.items g.keys) (set.items h.keys)).0 (and_left (pointwise nat_eq (set.items g.keys) (set.items h.keys)) (pointwise same_pair (map.entries g.pairs) (map.entries h.pairs)) e) in
+    let pairs = (pointwise_decides same_pairs (map.entries g.pairs) (map.entries h.pairs)).0 (and_right (pointwise nat_eq (set.items g.keys) (set.items h.keys)) (pointwise same_pair (map.entries g.pairs) (map.entries h.pairs)) e) in
+    let k = set.same_set nat_cmp_total map.nat_cmp-IsAntisymmetric g.keys h.keys (λ q. set.contains-items g.keys q ∙ (ap (list_any (eq_by_cmp nat_cmp q)) items ∙ sym (set.contains-items h.keys q))) in
     let p = map.same_entries_map g.pairs h.pairs pairs in
     λ i. record { keys = k i; pairs = p i }
 
 pub same_graph_self : (g : Graph) → same_graph g g ≡ true
 unfolding same_graph
 same_graph_self g =
-    let keys = (bytes_decides (sorted_keys g) (sorted_keys g)).1 refl in
+    let keys = (bytes_decides (set.items g.keys) (set.items g.keys)).1 refl in
     let pairs = (pointwise_decides same_pairs (map.entries g.pairs) (map.entries g.pairs)).1 refl in
     λ i. keys i && pairs i
 

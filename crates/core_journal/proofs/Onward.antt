@@ -51,6 +51,7 @@ silent_more Full sizes front rest caller e w h =
     }
 silent_more Again sizes front rest caller e w h = record {
   reply = h.reply;
+  place = h.place;
   lost = subst (λ (l : List Event). e.tries ≤ length (filter (λ (x : Event). counted x.kind && not (x.caller == caller)) (drop e.start l))) (sym (take_front front rest e.end w.end)) h.lost;
 }
 silent_more _ sizes front rest caller e w h = subst (λ (l : List Event). IsAnswer (graph_of l) e) (sym (take_front front rest e.place w.place)) h

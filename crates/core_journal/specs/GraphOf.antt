@@ -3,7 +3,7 @@ use Rattle.std.specs.Prelude.{◌≡◌, ℕ, Bool, true, cond, not, ◌&&◌, �
 use Rattle.std.specs.Cmp.Lexicographic.{pointwise}
 use Rattle.std.specs.FinMap as map
 use Rattle.std.specs.FinSet as set
-use Rattle.graph_kinds.specs.Graph.{Graph, sorted_keys}
+use Rattle.graph_kinds.specs.Graph.{Graph}
 use Rattle.graph_kinds.specs.Answer.{alters, after}
 use Rattle.graph_kinds.specs.declared.call.Call.{Call}
 use Rattle.graph_kinds.specs.declared.call.Call.TheVariants.{AddVertex, RemoveVertex, AddEdge, RemoveEdge}
@@ -74,7 +74,7 @@ same_pair x y = (x.0.0 == y.0.0) && ((x.0.1 == y.0.1) && (x.1 == y.1))
 
 -- whether two graphs are one: the same keys, and the same pairs with the same weights
 unfoldable pub same_graph : Graph → Graph → Bool
-same_graph g h = pointwise nat_eq (sorted_keys g) (sorted_keys h) && pointwise same_pair (map.entries g.pairs) (map.entries h.pairs)
+same_graph g h = pointwise nat_eq (set.items g.keys) (set.items h.keys) && pointwise same_pair (map.entries g.pairs) (map.entries h.pairs)
 
 -- whether an event changes the graph
 unfoldable pub changes : List Event → Event → Bool

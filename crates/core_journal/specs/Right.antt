@@ -64,9 +64,10 @@ pub record IsFull (sizes : Sizes) (journal : List Event) (e : Entry) : Type 0 wh
   pub until : number ≤ e.end
   pub none : NoneFree sizes (take number journal)
 
--- in the call at least as many foreign events fell as it had tries
+-- in the call at least as many foreign events fell as it had tries; its place is its end
 pub record IsAgain (journal : List Event) (caller : ℕ) (e : Entry) : Type 0 where
   pub reply : e.answer ≡ plain Again
+  pub place : e.place ≡ e.end
   pub lost : e.tries ≤ foreign journal caller e.start e.end
 
 -- a silent entry is right, by its outcome
