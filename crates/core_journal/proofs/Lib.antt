@@ -13,3 +13,7 @@ pub mod Sorted
 pub mod Onward
 pub mod Fronts
 pub mod Laws
+pub mod Snoc
+pub mod GraphRows
+pub mod LivesOf
+pub mod Regular

@@ -23,9 +23,13 @@ both _ _ = None
 abbrev pub present_key : List Event → Life → Option ℕ
 present_key journal x = cond (vertex_marked journal x) None (key_of journal x)
 
+-- a pair of keys with a weight
+abbrev pub weighed : ℕ → Option (ℕ × ℕ) → Option ((ℕ × ℕ) × ℕ)
+weighed w ends = option_map (λ p. (p, w)) ends
+
 -- the keys and the weight of an edge that was linked by this event, where its source and target are present
 abbrev pub pair_between : List Event → Event → Option ((ℕ × ℕ) × ℕ)
-pair_between journal link = option_map (λ p. (p, link.weight)) (both (present_key journal link.source) (present_key journal link.target))
+pair_between journal link = weighed link.weight (both (present_key journal link.source) (present_key journal link.target))
 
 -- the keys and the weight of an edge life that is linked and not marked, where its source and target are present
 abbrev pub present_pair : List Event → Life → Option ((ℕ × ℕ) × ℕ)

@@ -6,12 +6,14 @@
 #![tactic(auto)]
 
 mod book;
+mod changes;
 mod event;
 mod history;
 mod lives;
 mod words;
 
 pub use book::Book;
+pub use changes::{kinds_change_the_graph, rows_are_regular, the_graph_is_of_lives};
 pub use event::{Event, Kind};
 pub use history::{
     a_call_extends_its_book, books_of_fronts_stay, closed_history_is_answered, history_is_in_order,
