@@ -1,4 +1,4 @@
-mod WorkedWords
+pub mod WorkedWords
 pub mod Lists
 pub mod MachineWords
 pub mod States
@@ -17,3 +17,8 @@ pub mod Snoc
 pub mod GraphRows
 pub mod LivesOf
 pub mod Regular
+pub mod Computed
+pub mod Reuses
+pub mod WorkedReuse
+pub mod WorkedBooks
+pub mod HandsBooks

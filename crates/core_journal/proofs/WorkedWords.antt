@@ -5,6 +5,7 @@ use Rattle.core_journal.specs.State.{state}
 use Rattle.core_journal.specs.History.{}
 use Rattle.core_journal.specs.FirstVertex.{tiny, words_before, words_after, eight_events}
 use Rattle.core_journal.specs.Worked.{small}
+use Rattle.core_journal.specs.SecondLife.{second_life, words_again}
 use Rattle.core_journal.specs.TwoHands.{hands_journal, hands_words}
 
 pub words_first : opening_words tiny ≡ words_before
@@ -29,3 +30,19 @@ bucket_hands = refl
 pub free_hands : (state small hands_journal).free ≡ 3 ∷ 4 ∷ 5 ∷ 6 ∷ 7 ∷ []
 unfolding state
 free_hands = refl
+
+pub words_second : machine tiny second_life ≡ words_again
+unfolding machine
+words_second = refl
+
+pub tag_second : ((state tiny second_life).node 0).tag ≡ 2
+unfolding state
+tag_second = refl
+
+pub ended_second : ((state tiny second_life).node 0).ended ≡ 12
+unfolding state
+ended_second = refl
+
+pub since_second : ((state tiny second_life).pass 0).since ≡ 18
+unfolding state
+since_second = refl

@@ -13,3 +13,4 @@ pub mod Changes
 pub mod Worked
 pub mod TwoHands
 pub mod FirstVertex
+pub mod SecondLife

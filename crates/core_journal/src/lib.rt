@@ -11,6 +11,7 @@ mod event;
 mod history;
 mod lives;
 mod words;
+mod worked;
 
 pub use book::Book;
 pub use changes::{kinds_change_the_graph, rows_are_regular, the_graph_is_of_lives};
@@ -21,3 +22,7 @@ pub use history::{
 };
 pub use lives::{fronts_are_journals, marks_and_links_stay, prefixes_chain};
 pub use words::{events_change_the_state, events_write_their_words};
+pub use worked::{
+    a_late_edge_is_legal, a_second_life_is_safe, an_overtaken_edge_is_legal,
+    eight_events_write_these_words,
+};

@@ -1,0 +1,63 @@
+//! The definitions computed on worked journals, so that none of the laws speaks of nothing.
+//!
+//! `specs/FirstVertex.antt` has the first eight events of a table, `specs/Worked.antt` an edge that is overtaken before its call
+//! ends, and `specs/TwoHands.antt` one that is linked too late, with all words of the table.
+
+ghost use Rattle.std.specs.Prelude.{◌≡◌, [], ◌∷◌};
+ghost use Rattle.graph_kinds.specs.History.{Every, IsLegal};
+ghost use Rattle.core_journal.specs.FirstVertex.{tiny, eight_events, words_before, words_after};
+ghost use Rattle.core_journal.specs.GraphOf.{graph_of, IsRegular};
+ghost use Rattle.core_journal.specs.History.{history, IsClosed};
+ghost use Rattle.core_journal.specs.Machine.{opening_words, machine};
+ghost use Rattle.core_journal.specs.Reuse.{ReusesSafely};
+ghost use Rattle.core_journal.specs.Right.{IsBookOf, CallersApart, Right, RightLate};
+ghost use Rattle.core_journal.specs.SecondLife.{second_life, words_again};
+ghost use Rattle.core_journal.specs.State.{state};
+ghost use Rattle.core_journal.specs.TwoHands.{hands_journal, hands_books, hands_history, hands_words, late_entry};
+ghost use Rattle.core_journal.specs.Worked.{small, worked_journal, worked_books, worked_history, one_key};
+
+/// The words of the smallest table before and after its first eight events, which add a vertex.
+pub fn eight_events_write_these_words()
+    ensures before { opening_words tiny ≡ words_before }
+    ensures after { machine tiny eight_events ≡ words_after }
+{}
+
+/// A node is given back and taken for a second life, which is safe: its first life is over, and the pass that is open was
+/// announced after the end.
+pub fn a_second_life_is_safe()
+    ensures words { machine tiny second_life ≡ words_again }
+    ensures node { ((state tiny second_life).node 0).tag ≡ 2 }
+    ensures ended { ((state tiny second_life).node 0).ended ≡ 12 }
+    ensures pass { ((state tiny second_life).pass 0).since ≡ 18 }
+    ensures reuse { ReusesSafely tiny second_life }
+{}
+
+/// An edge is linked, and its target is removed before the call ends: the journal is regular, its books are true, their
+/// history is as worked out by hand and legal, and the graph has the one key 1.
+pub fn an_overtaken_edge_is_legal()
+    ensures regular { IsRegular worked_journal }
+    ensures apart { CallersApart worked_books }
+    ensures books { Every (IsBookOf small worked_journal) worked_books }
+    ensures closed { IsClosed worked_journal worked_books }
+    ensures graph { graph_of worked_journal ≡ one_key }
+    ensures history { history worked_journal worked_books ≡ worked_history }
+    ensures legal { IsLegal worked_history one_key }
+{}
+
+/// Two hands, from the opening on: an edge is linked to a vertex that is already removed. The words, the lists and the graph
+/// are as worked out by hand, the books are true, one of them by a late entry, and their history is legal.
+pub fn a_late_edge_is_legal()
+    ensures words { machine small hands_journal ≡ hands_words }
+    ensures free { (state small hands_journal).free ≡ 3 ∷ 4 ∷ 5 ∷ 6 ∷ 7 ∷ [] }
+    ensures bucket { (state small hands_journal).bucket 0 ≡ 0 ∷ [] }
+    ensures edges { (state small hands_journal).edges 0 ≡ 2 ∷ [] }
+    ensures regular { IsRegular hands_journal }
+    ensures reuse { ReusesSafely small hands_journal }
+    ensures apart { CallersApart hands_books }
+    ensures late { RightLate hands_journal 0 late_entry }
+    ensures books { Every (IsBookOf small hands_journal) hands_books }
+    ensures closed { IsClosed hands_journal hands_books }
+    ensures graph { graph_of hands_journal ≡ one_key }
+    ensures history { history hands_journal hands_books ≡ hands_history }
+    ensures legal { IsLegal hands_history one_key }
+{}
