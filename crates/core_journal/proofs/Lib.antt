@@ -9,6 +9,7 @@ pub mod Places
 pub mod Walk
 pub mod Bridge
 pub mod Orders
+pub mod Standing
 pub mod Sorted
 pub mod Onward
 pub mod Fronts

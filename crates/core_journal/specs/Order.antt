@@ -1,10 +1,12 @@
 -- The order of a history: by place, then silent before late before own, then by caller.
-use Rattle.std.specs.Prelude.{◌≡◌, ℕ, ◌+◌, ◌<◌, ◌≤◌, ◌⊎◌, List, [], ◌∷◌, ◌++◌, map}
+use Rattle.std.specs.Prelude.{◌≡◌, ℕ, ◌+◌, ◌<◌, ◌≤◌, ◌⊎◌, List, [], ◌∷◌, ◌++◌, map, Some, slice_get}
 use Rattle.graph_kinds.specs.History.{Item, Every}
+use Rattle.graph_kinds.specs.declared.call.Call.{Call}
 use Rattle.graph_kinds.specs.declared.entry.Class.{Class}
 use Rattle.graph_kinds.specs.declared.entry.Class.TheVariants.{Silent, Late, Own}
+use Rattle.graph_kinds.specs.declared.entry.Entry.{Entry}
 use Rattle.core_journal.specs.declared.book.Book.{Book}
-use Rattle.core_journal.specs.History.{Turn, entries_at, or_running}
+use Rattle.core_journal.specs.History.{Turn, item, running, entries_at, or_running}
 
 -- an item with its place and class; an item without answer is own, at its event's place
 pub record Placed : Type 0 where
@@ -40,3 +42,29 @@ InOrder (x ∷ xs) = Every (Before x) xs × InOrder xs
 abbrev pub CallersRise : List Book → Type 0
 CallersRise [] = Unit {0}
 CallersRise (b ∷ bs) = Every (λ (c : Book). b.caller < c.caller) bs × CallersRise bs
+
+-- the item of an entry of one of the books, at the entry's place and in its class
+pub record IsEntryOf (books : List Book) (x : Placed) : Type 0 where
+  pub number : ℕ
+  pub book : Book
+  pub book_at : slice_get books number ≡ Some book
+  pub row : ℕ
+  pub entry : Entry
+  pub entry_at : slice_get book.entries row ≡ Some entry
+  pub item : x.item ≡ item book.caller entry
+  pub place : x.place ≡ entry.place
+  pub class : x.class ≡ entry.class
+
+-- the item of an event that changes the graph, where no own entry of the books stands
+pub record IsRunningOf (turns : List Turn) (books : List Book) (x : Placed) : Type 0 where
+  pub turn : Turn
+  pub at : slice_get turns x.place ≡ Some turn
+  pub call : Call
+  pub carries : turn.call ≡ Some call
+  pub item : x.item ≡ running turn.caller call
+  pub class : x.class ≡ Own
+  pub alone : entries_at Own x.place books ≡ []
+
+-- a placed item is one of the two
+abbrev pub IsPlaced : List Turn → List Book → Placed → Type 0
+IsPlaced turns books x = IsEntryOf books x ⊎ IsRunningOf turns books x

@@ -4,15 +4,18 @@
 //! history explains all answers follows Herlihy and Wing (1990).
 
 ghost use Rattle.std.specs.Prelude.{◌≡◌, ℕ, ◌≤◌, List, [], ◌∷◌, ◌++◌, true, false, Some, map, length, take, slice_get};
-ghost use Rattle.graph_kinds.specs.History.{Every, IsLegal, items_of};
+ghost use Rattle.graph_kinds.specs.History.{Every, IsLegal, IsInterleaving, answered, items_of};
+ghost use Rattle.graph_kinds.specs.declared.answer.Answer.{Answer};
+ghost use Rattle.graph_kinds.specs.declared.call.Call.{Call};
+ghost use Rattle.graph_kinds.specs.declared.call.Row.{Row};
 ghost use Rattle.graph_kinds.specs.declared.entry.Class.TheVariants.{Own};
 ghost use Rattle.graph_kinds.specs.declared.entry.Entry.{Entry};
 ghost use Rattle.packed_link.specs.Layout.{Sizes};
 ghost use Rattle.core_journal.specs.declared.book.Book.{Book};
 ghost use Rattle.core_journal.specs.declared.event.Event.{Event};
 ghost use Rattle.core_journal.specs.GraphOf.{graph_of, changes, IsRegular};
-ghost use Rattle.core_journal.specs.History.{history, item, turns, IsClosed, IsAnswered};
-ghost use Rattle.core_journal.specs.Order.{Placed, placed_from, InOrder, CallersRise};
+ghost use Rattle.core_journal.specs.History.{Turn, entries_at, history, item, running, turns, HasBook, IsClosed, IsAnswered};
+ghost use Rattle.core_journal.specs.Order.{Placed, placed_from, InOrder, CallersRise, IsPlaced};
 ghost use Rattle.core_journal.specs.Right.{IsBookOf, CallersApart, InFrame, Right, StandsAt};
 
 /// The history of a regular journal and of true books of its callers is legal and ends in the graph of the journal; so is that
@@ -40,12 +43,29 @@ pub fn closed_history_is_answered()
         → Every IsAnswered (history journal books) }
 {}
 
-/// A history stands by place, then silent before late before own, then by caller.
+/// So it is an interleaving of rows of these callers that were answered as the books say.
+pub fn closed_history_interleaves()
+    ensures { (sizes : Sizes) (journal : List Event) (books : List Book) (rows : List Row) (replies : List Answer)
+        → IsRegular journal → CallersApart books → Every (IsBookOf sizes journal) books → IsClosed journal books
+        → length replies ≡ length rows → Every (λ (r : Row). HasBook r.caller books) rows
+        → Every (λ (b : Book). map (item b.caller) b.entries ≡ items_of b.caller (answered rows replies)) books
+        → IsInterleaving rows replies (history journal books) }
+{}
+
+/// A history stands by place, then silent before late before own, then by caller. Each item is that of an entry, at the entry's
+/// place and in its class, or that of an event that changes the graph where no own entry stands; and each such event has
+/// its item.
 pub fn history_is_in_order()
     ensures items { (journal : List Event) (books : List Book)
         → map (λ (x : Placed). x.item) (placed_from 0 (turns journal) books) ≡ history journal books }
     ensures order { (journal : List Event) (books : List Book) → CallersRise books
         → InOrder (placed_from 0 (turns journal) books) }
+    ensures stands { (journal : List Event) (books : List Book)
+        → Every (IsPlaced (turns journal) books) (placed_from 0 (turns journal) books) }
+    ensures running { (journal : List Event) (books : List Book) (p : ℕ) (t : Turn) (c : Call)
+        → slice_get (turns journal) p ≡ Some t → t.call ≡ Some c → entries_at Own p books ≡ []
+        → (n : ℕ) × (slice_get (placed_from 0 (turns journal) books) n
+            ≡ Some (record { place = p; class = Own; item = running t.caller c })) }
 {}
 
 /// A book that is true of a front is true of each longer journal in which its caller changes the graph no more.

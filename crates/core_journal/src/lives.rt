@@ -1,6 +1,6 @@
 //! The laws of prefixes and lives: what a front shows stays true.
 
-ghost use Rattle.std.specs.Prelude.{◌≡◌, ℕ, ◌≤◌, List, ◌∷◌, [], ◌++◌, Option, Some, true, length, take};
+ghost use Rattle.std.specs.Prelude.{◌≡◌, ℕ, ◌≤◌, List, ◌∷◌, [], ◌++◌, Option, Some, true, length, slice_get, take};
 ghost use Rattle.packed_link.specs.Layout.{Sizes};
 ghost use Rattle.packed_link.specs.declared.link.Life.{Life};
 ghost use Rattle.core_journal.specs.declared.event.Event.{Event};
@@ -8,7 +8,8 @@ ghost use Rattle.core_journal.specs.Prefix.{IsPrefix};
 ghost use Rattle.core_journal.specs.Life.{vertex_linked, vertex_marked, edge_linked, edge_marked};
 ghost use Rattle.core_journal.specs.Life.{unlinked, head_frozen, key_of, link_of};
 ghost use Rattle.core_journal.specs.GraphOf.{IsRegular};
-ghost use Rattle.core_journal.specs.Reuse.{ReusesSafely};
+ghost use Rattle.core_journal.specs.Reuse.{IsOver, ReusesSafely};
+ghost use Rattle.core_journal.specs.declared.event.Kind.TheVariants.{PopFree};
 
 /// Prefixes: a journal is one of itself, a prefix of a prefix is one, one more event leaves one, and so does each length.
 pub fn prefixes_chain()
@@ -25,6 +26,15 @@ pub fn fronts_are_journals()
     ensures regular { (front journal : List Event) → IsPrefix front journal → IsRegular journal → IsRegular front }
     ensures reuse { (sizes : Sizes) (front journal : List Event) → IsPrefix front journal
         → ReusesSafely sizes journal → ReusesSafely sizes front }
+{}
+
+/// Safe reuse goes on with one more event, where a node is taken only if each life for which it was taken before is over.
+pub fn reuse_goes_on()
+    ensures opening { (sizes : Sizes) → ReusesSafely sizes [] }
+    ensures next { (sizes : Sizes) (past : List Event) (e : Event) → ReusesSafely sizes past
+        → (e.kind ≡ PopFree → (k : ℕ) (earlier : Event) → slice_get past k ≡ Some earlier
+            → earlier.kind ≡ PopFree → earlier.life.index ≡ e.life.index → IsOver sizes past earlier.life)
+        → ReusesSafely sizes (past ++ e ∷ []) }
 {}
 
 /// Links, marks and unlinks stay, with the key and the edge that were linked.
