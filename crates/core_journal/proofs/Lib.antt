@@ -21,5 +21,6 @@ pub mod Regular
 pub mod Computed
 pub mod Reuses
 pub mod WorkedReuse
+pub mod WorkedList
 pub mod WorkedBooks
 pub mod HandsBooks

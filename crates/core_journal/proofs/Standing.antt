@@ -1,8 +1,7 @@
 -- Where the items of a history come from: entries of the books at their places, and events that no own entry is of.
-use Rattle.std.proofs.Common.{◌≡◌, ◌≢◌, ℕ, zero, suc, ◌+◌, Bool, true, false, cond, ◌==◌, List, [], ◌∷◌, ◌++◌, length, map, filter, Option, Some, None, refl, sym, ap, ◌∙◌, subst, arith, append_assoc, length-append, inl, inr, ◌⊎◌, eqb-true, ne_eqb, true≢false}
+use Rattle.std.proofs.Common.{◌≡◌, ℕ, zero, suc, ◌+◌, Bool, true, false, ◌==◌, List, [], ◌∷◌, ◌++◌, length, Option, Some, None, refl, sym, ap, ◌∙◌, subst, arith, append_assoc, length-append, inl, inr, ◌⊎◌, eqb-true, true≢false}
 use Rattle.std.specs.Prelude.{slice_get}
-use Rattle.std.specs.List.{zip}
-use Rattle.graph_kinds.specs.History.{Item, Every, items_of, answered, item_by, IsInterleaving}
+use Rattle.graph_kinds.specs.History.{Item, Every, items_of, answered, IsInterleaving}
 use Rattle.graph_kinds.specs.declared.answer.Answer.{Answer}
 use Rattle.graph_kinds.specs.declared.call.Call.{Call}
 use Rattle.graph_kinds.specs.declared.call.Row.{Row}
@@ -11,7 +10,7 @@ use Rattle.graph_kinds.specs.declared.entry.Class.TheVariants.{Silent, Late, Own
 use Rattle.graph_kinds.specs.declared.entry.Entry.{Entry}
 use Rattle.core_journal.specs.declared.book.Book.{Book}
 use Rattle.core_journal.specs.History.{Turn, item, running, entries_at, or_running, items_at, history_from, HasBook}
-use Rattle.core_journal.specs.Order.{Placed, placed, placed_from, IsEntryOf, IsRunningOf, IsPlaced}
+use Rattle.core_journal.specs.Order.{Placed, placed, placed_from, IsEntryOf, IsPlaced}
 use Rattle.core_journal.specs.Right.{StandsAt}
 use Rattle.core_journal.proofs.Lists.{every_append, every_map, every_all, every_mapped, every_none, every_filter, get_here}
 use Rattle.core_journal.proofs.Turns.{each_at, or_running_each}

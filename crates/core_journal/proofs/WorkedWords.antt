@@ -1,9 +1,11 @@
 -- The words of the worked journals, computed.
 use Rattle.std.proofs.Common.{◌≡◌, refl, [], ◌∷◌}
 use Rattle.core_journal.specs.Machine.{opening_words, machine}
-use Rattle.core_journal.specs.State.{state}
+use Rattle.core_journal.specs.State.{state, Linked}
+use Rattle.core_journal.specs.GraphOf.{graph_of}
+use Rattle.core_journal.specs.Life.{key_of, link_of}
 use Rattle.core_journal.specs.History.{}
-use Rattle.core_journal.specs.FirstVertex.{tiny, words_before, words_after, eight_events}
+use Rattle.core_journal.specs.FirstVertex.{tiny, words_before, words_after, eight_events, key_seven}
 use Rattle.core_journal.specs.Worked.{small}
 use Rattle.core_journal.specs.SecondLife.{second_life, words_again}
 use Rattle.core_journal.specs.TwoHands.{hands_journal, hands_words}
@@ -46,3 +48,23 @@ ended_second = refl
 pub since_second : ((state tiny second_life).pass 0).since ≡ 18
 unfolding state
 since_second = refl
+
+pub free_eight : (state tiny eight_events).free ≡ 1 ∷ []
+unfolding state
+free_eight = refl
+
+pub bucket_eight : (state tiny eight_events).bucket 0 ≡ 0 ∷ []
+unfolding state
+bucket_eight = refl
+
+pub node_eight : ((state tiny eight_events).node 0).mode ≡ Linked
+unfolding state
+node_eight = refl
+
+pub pass_eight : ((state tiny eight_events).pass 0).since ≡ 1
+unfolding state
+pass_eight = refl
+
+pub graph_eight : graph_of eight_events ≡ key_seven
+unfolding graph_of key_of link_of
+graph_eight = refl

@@ -1,5 +1,8 @@
 -- The first eight events of a table for one caller, with two nodes and one bucket: the caller adds the vertex of key 7.
 use Rattle.std.specs.Prelude.{ℕ, List, [], ◌∷◌}
+use Rattle.std.specs.FinMap as map
+use Rattle.std.specs.FinSet as set
+use Rattle.graph_kinds.specs.Graph.{Graph}
 use Rattle.packed_link.specs.Layout.{Sizes}
 use Rattle.core_journal.specs.declared.event.Kind.TheVariants.{DrawNumber, PopFree, StorePrivate, LinkVertex, Announce}
 use Rattle.core_journal.specs.declared.event.Event.{Event}
@@ -29,3 +32,7 @@ eight_events =
 -- the words after them
 abbrev pub words_after : List ℕ
 words_after = 0 ∷ 1 ∷ 0 ∷ 33554433 ∷ 1 ∷ 0 ∷ 7 ∷ 50331647 ∷ 50331647 ∷ 0 ∷ 0 ∷ 33554431 ∷ 0 ∷ 0 ∷ []
+
+-- the graph with the one key 7
+abbrev pub key_seven : Graph
+key_seven = record { keys = set.from_list (7 ∷ []); pairs = map.empty }

@@ -14,3 +14,4 @@ pub mod Worked
 pub mod TwoHands
 pub mod FirstVertex
 pub mod SecondLife
+pub mod ClosedList

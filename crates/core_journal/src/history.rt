@@ -65,7 +65,7 @@ pub fn history_is_in_order()
     ensures running { (journal : List Event) (books : List Book) (p : ℕ) (t : Turn) (c : Call)
         → slice_get (turns journal) p ≡ Some t → t.call ≡ Some c → entries_at Own p books ≡ []
         → (n : ℕ) × (slice_get (placed_from 0 (turns journal) books) n
-            ≡ Some (record { place = p; class = Own; item = running t.caller c })) }
+        ≡ Some (record { place = p; class = Own; item = running t.caller c })) }
 {}
 
 /// A book that is true of a front is true of each longer journal in which its caller changes the graph no more.

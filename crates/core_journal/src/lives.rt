@@ -33,7 +33,7 @@ pub fn reuse_goes_on()
     ensures opening { (sizes : Sizes) → ReusesSafely sizes [] }
     ensures next { (sizes : Sizes) (past : List Event) (e : Event) → ReusesSafely sizes past
         → (e.kind ≡ PopFree → (k : ℕ) (earlier : Event) → slice_get past k ≡ Some earlier
-            → earlier.kind ≡ PopFree → earlier.life.index ≡ e.life.index → IsOver sizes past earlier.life)
+        → earlier.kind ≡ PopFree → earlier.life.index ≡ e.life.index → IsOver sizes past earlier.life)
         → ReusesSafely sizes (past ++ e ∷ []) }
 {}
 

@@ -5,21 +5,27 @@
 
 ghost use Rattle.std.specs.Prelude.{◌≡◌, [], ◌∷◌};
 ghost use Rattle.graph_kinds.specs.History.{Every, IsLegal};
-ghost use Rattle.core_journal.specs.FirstVertex.{tiny, eight_events, words_before, words_after};
+ghost use Rattle.core_journal.specs.ClosedList.{closing, closed_list};
+ghost use Rattle.core_journal.specs.FirstVertex.{tiny, eight_events, key_seven, words_before, words_after};
 ghost use Rattle.core_journal.specs.GraphOf.{graph_of, IsRegular};
 ghost use Rattle.core_journal.specs.History.{history, IsClosed};
 ghost use Rattle.core_journal.specs.Machine.{opening_words, machine};
-ghost use Rattle.core_journal.specs.Reuse.{ReusesSafely};
-ghost use Rattle.core_journal.specs.Right.{IsBookOf, CallersApart, Right, RightLate};
+ghost use Rattle.core_journal.specs.Reuse.{EndsAt, ReusesSafely};
+ghost use Rattle.core_journal.specs.Right.{IsBookOf, CallersApart, RightLate};
 ghost use Rattle.core_journal.specs.SecondLife.{second_life, words_again};
-ghost use Rattle.core_journal.specs.State.{state};
+ghost use Rattle.core_journal.specs.State.{state, Linked, Spent};
 ghost use Rattle.core_journal.specs.TwoHands.{hands_journal, hands_books, hands_history, hands_words, late_entry};
-ghost use Rattle.core_journal.specs.Worked.{small, worked_journal, worked_books, worked_history, one_key};
+ghost use Rattle.core_journal.specs.Worked.{first_life, small, worked_journal, worked_books, worked_history, one_key};
 
-/// The words of the smallest table before and after its first eight events, which add a vertex.
+/// The words of a small table before and after its first eight events, which add the vertex of key 7, and what they mean.
 pub fn eight_events_write_these_words()
     ensures before { opening_words tiny ≡ words_before }
     ensures after { machine tiny eight_events ≡ words_after }
+    ensures free { (state tiny eight_events).free ≡ 1 ∷ [] }
+    ensures bucket { (state tiny eight_events).bucket 0 ≡ 0 ∷ [] }
+    ensures node { ((state tiny eight_events).node 0).mode ≡ Linked }
+    ensures pass { ((state tiny eight_events).pass 0).since ≡ 1 }
+    ensures graph { graph_of eight_events ≡ key_seven }
 {}
 
 /// A node is given back and taken for a second life, which is safe: its first life is over, and the pass that is open was
@@ -30,6 +36,18 @@ pub fn a_second_life_is_safe()
     ensures ended { ((state tiny second_life).node 0).ended ≡ 12 }
     ensures pass { ((state tiny second_life).pass 0).since ≡ 18 }
     ensures reuse { ReusesSafely tiny second_life }
+{}
+
+/// The edges of a removed vertex are handed over once its list is frozen up to them: the second edge, which another caller marked,
+/// stays linked until the first is frozen, and is then spent by the caller who unlinked the vertex. Its life ended before that.
+pub fn a_closed_list_is_handed_over()
+    ensures edges { (state small closed_list).edges 0 ≡ 3 ∷ 4 ∷ [] }
+    ensures bucket { (state small closed_list).bucket 0 ≡ 1 ∷ 2 ∷ [] }
+    ensures before { ((state small closing).node 4).mode ≡ Linked }
+    ensures spent { ((state small closed_list).node 4).mode ≡ Spent }
+    ensures who { ((state small closed_list).node 4).who ≡ 1 }
+    ensures ended { ((state small closed_list).node 4).ended ≡ 11 }
+    ensures ends { EndsAt closed_list (first_life 4) 9 }
 {}
 
 /// An edge is linked, and its target is removed before the call ends: the journal is regular, its books are true, their
