@@ -28,6 +28,7 @@ use Rattle.core_journal.proofs.Lists.{every_map, get_short}
 use Rattle.core_journal.proofs.KeptLives.{key_more}
 use Rattle.graph_kinds.specs.declared.answer.Answer.{Answer}
 
+-- an event that does not change the graph leaves it
 pub unchanged : (past : List Event) (e : Event) → changes past e ≡ false → graph_of past ≡ graph_of (past ++ e ∷ [])
 unfolding changes
 unchanged past e h = same_graph_is (graph_of past) (graph_of (past ++ e ∷ [])) (turned (same_graph (graph_of past) (graph_of (past ++ e ∷ []))) h)
@@ -66,6 +67,7 @@ graph_first : graph_of [] ≡ empty_graph
 unfolding graph_of
 graph_first = refl
 
+-- the turns up to a place give the graph at that place
 pub graph_turns : (journal : List Event) (p : ℕ) → IsRegular journal → graph_at (turns journal) p ≡ graph_of (take p journal)
 unfolding turns
 graph_turns journal p r = ap (λ (g : Graph). replayed g (take p (turns_from [] journal))) (sym graph_first) ∙ graph_from [] journal p r.steps
@@ -74,6 +76,7 @@ length_from : (past rest : List Event) → length (turns_from past rest) ≡ len
 length_from past [] = refl
 length_from past (e ∷ es) = omega (arith, length_from (past ++ e ∷ []) es)
 
+-- there is one turn for each event
 pub length_turns : (journal : List Event) → length (turns journal) ≡ length journal
 unfolding turns
 length_turns journal = length_from [] journal
@@ -82,9 +85,11 @@ take_whole : {A : Type 0} (xs : List A) → take (length xs) xs ≡ xs
 take_whole [] = refl
 take_whole (x ∷ xs) = ap (λ l. x ∷ l) (take_whole xs)
 
+-- all turns give the graph of the journal
 pub last_turns : (journal : List Event) → IsRegular journal → replayed empty_graph (turns journal) ≡ graph_of journal
 last_turns journal r = ap (replayed empty_graph) (sym (take_whole (turns journal))) ∙ (graph_turns journal (length (turns journal)) r ∙ ap graph_of (ap (λ n. take n journal) (length_turns journal) ∙ take_whole journal))
 
+-- each call of a turn alters the graph before it
 pub runs_turns : (journal : List Event) → IsRegular journal → RunsFrom empty_graph (turns journal)
 unfolding turns
 runs_turns journal r = subst (λ (g : Graph). RunsFrom g (turns_from [] journal)) graph_first (runs_from [] journal r.steps)
@@ -94,6 +99,7 @@ regular_from past [] p e r at = absurd (cc)
 regular_from past (d ∷ es) zero e r at = let same : d ≡ e = cc in subst (λ (l : List Event). IsRegularEvent l e) (sym (append-nil past)) (subst (IsRegularEvent past) same r.0)
 regular_from past (d ∷ es) (suc p) e r at = subst (λ (l : List Event). IsRegularEvent l e) (append_assoc past (d ∷ []) (take p es)) (regular_from (past ++ d ∷ []) es p e r.1 at)
 
+-- each event of a regular journal is regular after those before it
 pub regular_at : (journal : List Event) (p : ℕ) (e : Event) → IsRegular journal → slice_get journal p ≡ Some e → IsRegularEvent (take p journal) e
 regular_at journal p e r at = regular_from [] journal p e r.steps at
 
@@ -102,6 +108,7 @@ turn_from past [] p e at = absurd (cc)
 turn_from past (d ∷ es) zero e at = let same : d ≡ e = cc in ap Some (ap (turn past) same ∙ ap (λ (l : List Event). turn l e) (sym (append-nil past)))
 turn_from past (d ∷ es) (suc p) e at = turn_from (past ++ d ∷ []) es p e at ∙ ap (λ (l : List Event). Some (turn l e)) (append_assoc past (d ∷ []) (take p es))
 
+-- the turn of the event at a place
 pub turn_at : (journal : List Event) (p : ℕ) (e : Event) → slice_get journal p ≡ Some e → slice_get (turns journal) p ≡ Some (turn (take p journal) e)
 unfolding turns
 turn_at journal p e at = turn_from [] journal p e at
@@ -273,8 +280,10 @@ book_in sizes journal b r h = record {
         let f = event_of journal p t c at is in
         h.covers p f.event f.at (f.by ∙ by) f.turns
 
+-- books that are true of a journal are true of its turns
 pub books_in : (sizes : Sizes) (journal : List Event) (books : List Book) → IsRegular journal → CallersApart books → Every (IsBookOf sizes journal) books → BooksIn (turns journal) books
 books_in sizes journal books r apart h = record { apart = apart; each = every_map (IsBookOf sizes journal) (BookIn (turns journal)) (λ b k. book_in sizes journal b r k) books h }
 
+-- in a closed journal each call of a turn is of a caller with a book
 pub closed_turns : (journal : List Event) (books : List Book) → IsClosed journal books → (p : ℕ) (t : Turn) (c : Call) → slice_get (turns journal) p ≡ Some t → t.call ≡ Some c → HasBook t.caller books
 closed_turns journal books h p t c at is = let f = event_of journal p t c at is in subst (λ (n : ℕ). HasBook n books) f.by (h.has p f.event f.at f.turns)

@@ -35,20 +35,22 @@ and_false : (t : Bool) → (t && false) ≡ false
 and_false true = refl
 and_false false = refl
 
--- vertices
-
+-- to remove a key that is there alters the graph
 pub removes_there : (g : Graph) (k : ℕ) → has g k ≡ true → alters g (RemoveVertex k) ≡ true
 unfolding alters answer
 removes_there g k h = ap (λ b. is_change (cond b (out.Removed 0) out.Absent)) h
 
+-- and is answered Removed
 pub answers_removed : (g : Graph) (k : ℕ) → has g k ≡ true → (answer g (RemoveVertex k)).outcome ≡ out.Removed 0
 unfolding answer
 answers_removed g k h = ap (λ b. cond b (out.Removed 0) out.Absent) h
 
+-- two graphs with a key answer its removal alike
 pub same_removal : (x z : Graph) (k : ℕ) → has x k ≡ true → has z k ≡ true → answer x (RemoveVertex k) ≡ answer z (RemoveVertex k)
 unfolding answer
 same_removal x z k hx hz = ap (λ b. plain (cond b (out.Removed 0) out.Absent)) (hx ∙ sym hz)
 
+-- a removal that alters the graph finds its key
 pub there_removed : (g : Graph) (k : ℕ) → alters g (RemoveVertex k) ≡ true → has g k ≡ true
 unfolding alters answer
 there_removed g k e = by (has g k) e
@@ -57,9 +59,11 @@ there_removed g k e = by (has g k) e
     by true e = refl
     by false e = absurd (cc)
 
+-- the graph after a removal
 pub after_removal : (g : Graph) (k : ℕ) → has g k ≡ true → after g (RemoveVertex k) ≡ without g k
 after_removal g k h = after_change g (RemoveVertex k) (removes_there g k h)
 
+-- to add a key that is not there alters the graph
 pub adds_vertex : (g : Graph) (k : ℕ) → has g k ≡ false → alters g (AddVertex k) ≡ true
 unfolding alters answer
 adds_vertex g k h = ap (λ b. is_change (cond b (out.Present 0) out.Added)) h
@@ -149,10 +153,9 @@ alike_edge k x (Reach a b) h t = absurd t
 alike_edge k x (Levels a) h t = absurd t
 alike_edge k x (Cheapest a b) h t = absurd t
 
+-- graphs alike for a key, one after the other
 pub alike_trans : (k : ℕ) (x y z : Graph) → AlikeFor k x y → AlikeFor k y z → AlikeFor k x z
 alike_trans k x y z f g = record { there = g.there; left = g.left ∙ f.left }
-
--- pairs
 
 abbrev pub pair_of : Call → ℕ × ℕ
 pair_of (AddEdge a b w) = (a, b)
@@ -172,10 +175,12 @@ remove_alters true None e = absurd (cc)
 remove_alters true (Some w) e = (refl, λ f. absurd (cc))
 remove_alters false w e = absurd (cc)
 
+-- to add a pair that is not there alters the graph
 pub adds_edge : (g : Graph) (a b w : ℕ) → has g a ≡ true → has g b ≡ true → weight_of g a b ≡ None → alters g (AddEdge a b w) ≡ true
 unfolding alters answer
 adds_edge g a b w ha hb none = λ i. is_change (cond (ha i && hb i) (by_weight (none i) out.Present out.Added) (plain out.NoVertex)).outcome
 
+-- to remove a pair that is there alters the graph
 pub removes_edge : (g : Graph) (a b w : ℕ) → has g a ≡ true → has g b ≡ true → weight_of g a b ≡ Some w → alters g (RemoveEdge a b) ≡ true
 unfolding alters answer
 removes_edge g a b w ha hb there = λ i. is_change (cond (ha i && hb i) (by_weight (there i) out.Removed out.NoEdge) (plain out.NoVertex)).outcome
@@ -189,6 +194,7 @@ pub record IsEdgeChange (x : Graph) (c : Call) : Type 0 where
 itself : (a b : ℕ) → ((a == a) && (b == b)) ≡ true
 itself a b = ap (λ t. t && (b == b)) (set_same a) ∙ set_same b
 
+-- an edge call that alters the graph finds its keys and changes its pair
 pub edge_change : (x : Graph) (c : Call) → IsEdgeCall c → alters x c ≡ true → IsEdgeChange x c
 unfolding alters answer
 edge_change x (AddEdge a b w) h e =
@@ -234,6 +240,7 @@ one_pair x c d hc hd does same = by (((pair_of d).0 == (pair_of c).0) && ((pair_
         λ i. (f i, s i)
     by false e = absurd ((edge_change x d hd does).turned (ap (λ (g : Graph). pair_weight g d) (sym same) ∙ edge_else x c (pair_of d).0 (pair_of d).1 hc e))
 
+-- an edge call is on its first key
 pub touches_first : (c : Call) (k : ℕ) → IsEdgeCall c → k ≡ (pair_of c).0 → Touches c k
 touches_first (AddEdge a b w) k h e = inl e
 touches_first (RemoveEdge a b) k h e = inl e
@@ -245,6 +252,7 @@ touches_first (Reach a b) k h e = absurd h
 touches_first (Levels a) k h e = absurd h
 touches_first (Cheapest a b) k h e = absurd h
 
+-- and on its second
 pub touches_second : (c : Call) (k : ℕ) → IsEdgeCall c → k ≡ (pair_of c).1 → Touches c k
 touches_second (AddEdge a b w) k h e = inr e
 touches_second (RemoveEdge a b) k h e = inr e
@@ -255,8 +263,6 @@ touches_second (HasEdge a b) k h e = absurd h
 touches_second (Reach a b) k h e = absurd h
 touches_second (Levels a) k h e = absurd h
 touches_second (Cheapest a b) k h e = absurd h
-
--- equal graphs
 
 same_pairs : (x y : (ℕ × ℕ) × ℕ) → Decides (same_pair x y) (x ≡ y)
 same_pairs x y = (
@@ -272,6 +278,7 @@ same_pairs x y = (
     own : same_pair x x ≡ true
     own = ap (λ b. b && ((x.0.1 == x.0.1) && (x.1 == x.1))) (set_same x.0.0) ∙ (ap (λ b. b && (x.1 == x.1)) (set_same x.0.1) ∙ set_same x.1)
 
+-- graphs that the test finds to be one are one
 pub same_graph_is : (g h : Graph) → same_graph g h ≡ true → g ≡ h
 unfolding same_graph
 same_graph_is g h e =
@@ -281,6 +288,7 @@ same_graph_is g h e =
     let p = map.same_entries_map g.pairs h.pairs pairs in
     λ i. record { keys = k i; pairs = p i }
 
+-- the test finds a graph to be itself
 pub same_graph_self : (g : Graph) → same_graph g g ≡ true
 unfolding same_graph
 same_graph_self g =

@@ -19,8 +19,6 @@ use Rattle.core_journal.proofs.Calls.{altered}
 use Rattle.core_journal.proofs.GraphRows.{idle_graph}
 use Rattle.core_journal.proofs.Regular.{changes_not, changes_yes, idle_regular}
 
--- idle stretches
-
 abbrev pub all_idle : List Event → Bool
 all_idle xs = list_all (λ (e : Event). is_idle e.kind) xs
 
@@ -31,6 +29,7 @@ split_idle e xs h = by (is_idle e.kind) refl h
     by true is h = (is, h)
     by false is h = absurd (cc)
 
+-- idle events may stand before regular ones
 pub idle_stretch : (past xs ys : List Event) → all_idle xs ≡ true → RegularFrom (past ++ xs) ys → RegularFrom past (xs ++ ys)
 idle_stretch past [] ys h r = subst (λ (l : List Event). RegularFrom l ys) (append-nil past) r
 idle_stretch past (x ∷ xs) ys h r =
@@ -41,34 +40,36 @@ idle_stretch past (x ∷ xs) ys h r =
 abbrev pub still : Event → Turn
 still e = record { caller = e.caller; call = None }
 
+-- the turn of an event that leaves the graph
 pub still_turn : (past : List Event) (e : Event) → graph_of (past ++ e ∷ []) ≡ graph_of past → turn past e ≡ still e
 still_turn past e same = ap (λ b. record { caller = e.caller; call = cond b (call_of past e) None }) (changes_not past e same)
 
+-- the turns of idle events
 pub idle_turns : (past xs ys : List Event) → all_idle xs ≡ true → turns_from past (xs ++ ys) ≡ map still xs ++ turns_from (past ++ xs) ys
 idle_turns past [] ys h = ap (λ (l : List Event). turns_from l ys) (sym (append-nil past))
 idle_turns past (x ∷ xs) ys h =
     let s = split_idle x xs h in
     (λ i. still_turn past x (idle_graph past x s.0) i ∷ idle_turns (past ++ x ∷ []) xs ys s.1 i) ∙ ap (λ (l : List Event). still x ∷ (map still xs ++ turns_from l ys)) (append_assoc past (x ∷ []) xs)
 
--- answers
-
+-- what an add of a new key is answered
 pub answers_added : (g : Graph) (k : ℕ) → has g k ≡ false → plain Added ≡ answer g (AddVertex k)
 unfolding answer
 answers_added g k h = sym (ap (λ b. plain (cond b (Present 0) Added)) h)
 
+-- what a removal of a key is answered
 pub answers_gone : (g : Graph) (k : ℕ) → has g k ≡ true → plain (Removed 0) ≡ answer g (RemoveVertex k)
 unfolding answer
 answers_gone g k h = sym (ap (λ b. plain (cond b (Removed 0) Absent)) h)
 
+-- what a look-up is answered where a key is missing
 pub answers_no_vertex : (g : Graph) (a b : ℕ) → (has g a && has g b) ≡ false → plain NoVertex ≡ answer g (HasEdge a b)
 unfolding answer
 answers_no_vertex g a b h = sym (ap (λ t. cond t (by_weight (weight_of g a b) Edge NoEdge) (plain NoVertex)) h)
 
+-- such a look-up alters nothing
 pub looks_only : (g : Graph) (a b : ℕ) → (has g a && has g b) ≡ false → alters g (HasEdge a b) ≡ false
 unfolding alters answer
 looks_only g a b h = ap (λ t. is_change (cond t (by_weight (weight_of g a b) Edge NoEdge) (plain NoVertex)).outcome) h
-
--- own entries
 
 -- an event that changes the graph as the entry's call does is its own
 pub own_right : (journal : List Event) (caller : ℕ) (e : Entry) (event : Event) → slice_get journal e.place ≡ Some event → event.caller ≡ caller → alters (graph_of (take e.place journal)) e.call ≡ true
@@ -81,8 +82,6 @@ own_right journal caller e event at by does leads reply =
       own = record { at = at; by = by; changing = changes_yes (take e.place journal) event (λ same. altered (graph_of (take e.place journal)) e.call does (sym to ∙ same)); leads = to };
       reply = reply;
     }
-
--- covering
 
 -- each event is idle, another caller's, that of one own entry, or at a place that is looked at by itself
 abbrev pub is_covered : ℕ → ℕ → List Entry → ℕ → Event → Bool
@@ -110,6 +109,7 @@ covered_at caller dull entries p (x ∷ xs) h (suc k) e at =
     rest true h = h
     rest false h = absurd (cc)
 
+-- a book covers a journal whose events pass the test
 pub covers_by : (journal : List Event) (caller dull : ℕ) (entries : List Entry) → all_covered caller dull entries 0 journal ≡ true → ((e : Event) → slice_get journal dull ≡ Some e → changes (take dull journal) e ≡ false)
     → (p : ℕ) (e : Event) → slice_get journal p ≡ Some e → e.caller ≡ caller → changes (take p journal) e ≡ true → length (filter (stands Own p) entries) ≡ 1
 covers_by journal caller dull entries h quiet p e at by does =
@@ -128,8 +128,6 @@ covers_by journal caller dull entries h quiet p e at by does =
         let here : p ≡ dull = eqb-true p dull k in
         absurd (true≢false (sym does ∙ subst (λ (q : ℕ). changes (take q journal) e ≡ false) (sym here) (quiet e (subst (λ (q : ℕ). slice_get journal q ≡ Some e) here at))))
     cases false true false false idle i j k t = absurd (true≢false (sym t))
-
--- closed journals
 
 -- each event is idle, or of a caller below a number
 abbrev pub all_below : ℕ → List Event → Bool

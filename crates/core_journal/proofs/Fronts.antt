@@ -12,6 +12,7 @@ use Rattle.core_journal.proofs.Onward.{regular_front}
 pub onward : (P : List Event → Type 0) → ((past more : List Event) → P past → P (past ++ more)) → (front journal : List Event) → IsPrefix front journal → P front → P journal
 onward P more front journal p h = subst P p.whole (more front p.rest h)
 
+-- a front of a regular journal is regular
 pub regular_prefix : (front journal : List Event) → IsPrefix front journal → IsRegular journal → IsRegular front
 regular_prefix front journal p r = regular_front front p.rest (subst IsRegular (sym p.whole) r)
 
@@ -22,5 +23,6 @@ reuse_front sizes front rest r = record {
       (r.each q e (get_front front rest q e at) kind k earlier less (get_front front rest k earlier was) pop same);
 }
 
+-- a front of a journal that reuses safely does so
 pub reuse_prefix : (sizes : Sizes) (front journal : List Event) → IsPrefix front journal → ReusesSafely sizes journal → ReusesSafely sizes front
 reuse_prefix sizes front journal p r = reuse_front sizes front p.rest (subst (ReusesSafely sizes) (sym p.whole) r)

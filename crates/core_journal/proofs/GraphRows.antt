@@ -86,9 +86,11 @@ gone_source past x gone = ap (cond (edge_marked past x) None) (by (link_of past 
     by None is = refl
     by (Some link) is = ap (λ b. weighed link.weight (both (cond b None (key_of past link.source)) (present_key past link.target))) (gone link is)
 
+-- an edge is frozen whose source is marked
 pub frozen_graph : (past : List Event) (e : Event) → IsFrozenEdge past e → graph_of (past ++ e ∷ []) ≡ graph_of past
 frozen_graph past e f = hidden_graph past e (ap marks_edge f.kind) (gone_source past e.life f.gone)
 
+-- a new vertex is linked: its key comes last of all
 pub new_vertex_graph : (past : List Event) (e : Event) → IsNewVertex past e → graph_of (past ++ e ∷ []) ≡ change (graph_of past) (AddVertex e.key)
 unfolding graph_of key_of
 new_vertex_graph past e n =
@@ -175,6 +177,7 @@ new_edge_keys past e n =
     filter_same _ (key_by past) (λ d. ap (λ o. cond (links_vertex d.kind) o None) (present_skip past e (ap links_vertex n.kind) (ap marks_vertex n.kind) d.life)) (past ++ e ∷ [])
     ∙ filter_skip (key_by past) past e (ap (λ k. cond (links_vertex k) (present_key past e.life) None) n.kind)
 
+-- an edge is linked between present vertices
 pub new_edge_graph : (past : List Event) (e : Event) (a b : ℕ) → IsNewEdge past e → present_key past e.source ≡ Some a → present_key past e.target ≡ Some b
     → graph_of (past ++ e ∷ []) ≡ change (graph_of past) (AddEdge a b e.weight)
 unfolding graph_of
@@ -183,6 +186,7 @@ new_edge_graph past e a b n s t =
     let p = new_pairs past e n ∙ (λ i. cons_option (weighed e.weight (both (s i) (t i))) (filter_map (pair_by past) (reverse past))) in
     λ i. record { keys = set.from_list (k i); pairs = map.from_entries (p i) }
 
+-- an edge is linked of which an end is not present
 pub no_edge_graph : (past : List Event) (e : Event) → IsNewEdge past e → pair_between past e ≡ None → graph_of (past ++ e ∷ []) ≡ graph_of past
 unfolding graph_of
 no_edge_graph past e n gone =
@@ -233,6 +237,7 @@ any_kept f g key each q (d ∷ xs) =
 abbrev sought : ℕ × ℕ → List ((ℕ × ℕ) × ℕ) → Option ℕ
 sought q ys = entry.find pair_cmp q ys
 
+-- pairs that tie are one
 pub tied : (p q : ℕ × ℕ) → eq_by_cmp pair_cmp p q ≡ true → p ≡ q
 tied p q e = pair_same p q ((Equal-is (pair_cmp p q)).0 e)
 
@@ -290,6 +295,7 @@ both_kept key w (Some a) (Some b) = by (a == key) (b == key)
     by false true = refl
     by false false = refl
 
+-- the only present vertex of its key is marked
 pub removed_vertex_graph : (past : List Event) (e : Event) (key : ℕ) → IsRemovedVertex past e key → graph_of (past ++ e ∷ []) ≡ change (graph_of past) (RemoveVertex key)
 removed_vertex_graph past e key r = graphs.same_graph (graph_of (past ++ e ∷ [])) (without (graph_of past) key) keys weights
   where
@@ -363,6 +369,7 @@ removed_vertex_graph past e key r = graphs.same_graph (graph_of (past ++ e ∷ [
 abbrev other_than : ℕ → ℕ → ℕ × ℕ → Bool
 other_than a b p = not ((p.0 == a) && (p.1 == b))
 
+-- the only present edge of its pair is marked
 pub removed_edge_graph : (past : List Event) (e : Event) (a b : ℕ) → IsRemovedEdge past e a b → graph_of (past ++ e ∷ []) ≡ change (graph_of past) (RemoveEdge a b)
 removed_edge_graph past e a b r = graphs.same_graph (graph_of (past ++ e ∷ [])) (change (graph_of past) (RemoveEdge a b)) keys weights
   where

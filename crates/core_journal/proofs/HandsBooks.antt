@@ -46,6 +46,7 @@ before n = take n hands_journal
 abbrev between : ℕ → ℕ → List Event
 between m n = drop m (take n hands_journal)
 
+-- computed: the graph
 pub hands_graph : graph_of hands_journal ≡ one_key
 unfolding graph_of key_of link_of
 hands_graph = refl
@@ -92,6 +93,7 @@ no_target : pair_between (before 29) link_edge ≡ None
 unfolding key_of
 no_target = refl
 
+-- each event is regular
 pub hands_regular : IsRegular hands_journal
 hands_regular = record {
   steps = idle_stretch [] (before 8) (drop 8 hands_journal) refl (
@@ -109,6 +111,7 @@ hands_regular = record {
   );
 }
 
+-- the books are of two callers
 pub hands_apart : CallersApart hands_books
 hands_apart = (((λ h. omega (arith, h)), tt), (tt, tt))
 
@@ -116,6 +119,7 @@ hands_apart = (((λ h. omega (arith, h)), tt), (tt, tt))
 dull_link : (e : Event) → ◌≡◌ {A = Option Event} (Some link_edge) (Some e) → changes (before 29) e ≡ false
 dull_link e at = let same : link_edge ≡ e = cc in subst (λ (d : Event). changes (before 29) d ≡ false) same (changes_not (before 29) link_edge (no_edge_graph (before 29) link_edge new_edge no_target))
 
+-- the late entry is right
 pub late_right : RightLate hands_journal 0 late_entry
 unfolding key_of
 late_right = record {
@@ -146,6 +150,7 @@ look_right =
     let none = and_no (has (graph_of (before 32)) 1) (has (graph_of (before 32)) 2) two_gone in
     record { reply = answers_no_vertex (graph_of (before 32)) 1 2 none; stays = looks_only (graph_of (before 32)) 1 2 none }
 
+-- the books are true
 pub hands_true : Every (IsBookOf small hands_journal) hands_books
 hands_true = (
   record {
@@ -203,12 +208,15 @@ turns_hands =
     ∙ ap (λ (l : List Turn). map still (between 17 22) ++ turn (before 22) mark_two ∷ l) (idle_turns (before 23) (between 23 29) (drop 29 hands_journal) refl
     ∙ (λ i. map still (between 23 29) ++ still_turn (before 29) link_edge (no_edge_graph (before 29) link_edge new_edge no_target) i ∷ idle_turns (before 30) (drop 30 hands_journal) [] refl i))))
 
+-- computed: the history
 pub hands_items : history hands_journal hands_books ≡ hands_history
 unfolding history_of
 hands_items = ap (λ ts. history_of ts hands_books) turns_hands
 
+-- so it is legal
 pub hands_legal : IsLegal hands_history one_key
 hands_legal = subst (λ h. IsLegal h one_key) hands_items (subst (IsLegal (history hands_journal hands_books)) hands_graph (history_legal small hands_journal hands_books hands_regular hands_apart hands_true))
 
+-- no other caller changes the graph
 pub hands_closed : IsClosed hands_journal hands_books
 hands_closed = closed_by hands_journal _ _ refl refl refl

@@ -7,6 +7,7 @@ use Rattle.core_journal.specs.Event.{same_life, links_vertex, marks_vertex, link
 use Rattle.core_journal.specs.Life.{vertex_linked, vertex_marked, edge_linked, edge_marked, unlinked, head_frozen, key_of, link_of}
 use Rattle.core_journal.proofs.Lists.{any_more, find_more}
 
+-- the key of a vertex life stays
 pub key_more : (past more : List Event) (x : Life) (key : ℕ) → key_of past x ≡ Some key → key_of (past ++ more) x ≡ Some key
 unfolding key_of
 key_more past more x key h = by (find (λ (e : Event). links_vertex e.kind && same_life x e.life) past) refl h
@@ -15,10 +16,12 @@ key_more past more x key h = by (find (λ (e : Event). links_vertex e.kind && sa
     by None e h = absurd (cc)
     by (Some d) e h = ap (option_map (λ (e : Event). e.key)) (find_more (λ (e : Event). links_vertex e.kind && same_life x e.life) past more d e) ∙ h
 
+-- the link of an edge life stays
 pub link_more : (past more : List Event) (x : Life) (link : Event) → link_of past x ≡ Some link → link_of (past ++ more) x ≡ Some link
 unfolding link_of
 link_more past more x link h = find_more (λ (e : Event). links_edge e.kind && same_life x e.life) past more link h
 
+-- what is linked, marked, unlinked or closed stays so
 pub vertex_linked_more : (past more : List Event) (x : Life) → vertex_linked past x ≡ true → vertex_linked (past ++ more) x ≡ true
 vertex_linked_more past more x h = any_more (λ (e : Event). links_vertex e.kind && same_life x e.life) past more h
 

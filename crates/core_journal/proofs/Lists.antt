@@ -6,6 +6,7 @@ use Rattle.graph_kinds.specs.History.{Every}
 use Rattle.core_journal.specs.Prefix.{IsPrefix}
 
 module _ {A : Type 0} where
+  -- a fact of each element of two lists, of one list, and of two facts
   pub every_append : (P : A → Type 0) (xs ys : List A) → Every P xs → Every P ys → Every P (xs ++ ys)
   every_append P [] ys f g = g
   every_append P (x ∷ xs) ys f g = (f.0, every_append P xs ys f.1 g)
@@ -41,29 +42,35 @@ module _ {A : Type 0} where
     | false ↦ λ e. every_filter P Q test f xs h.1
   ] refl
 
+  -- an element stands below the length
   pub get_short : (xs : List A) (k : ℕ) (x : A) → slice_get xs k ≡ Some x → k < length xs
   get_short [] k x e = absurd (cc)
   get_short (y ∷ ys) zero x e = omega arith
   get_short (y ∷ ys) (suc k) x e = omega (arith, get_short ys k x e)
 
+  -- the element behind a front
   pub get_here : (past : List A) (x : A) (rest : List A) → slice_get (past ++ x ∷ rest) (length past) ≡ Some x
   get_here [] x rest = refl
   get_here (y ∷ ys) x rest = get_here ys x rest
 
+  -- elements of a front stay where they are
   pub get_front : (xs ys : List A) (k : ℕ) (a : A) → slice_get xs k ≡ Some a → slice_get (xs ++ ys) k ≡ Some a
   get_front [] ys k a e = absurd (cc)
   get_front (x ∷ xs) ys zero a e = e
   get_front (x ∷ xs) ys (suc k) a e = get_front xs ys k a e
 
+  -- below its length a front has the same elements
   pub get_back : (xs ys : List A) (k : ℕ) → k < length xs → slice_get (xs ++ ys) k ≡ slice_get xs k
   get_back [] ys k h = absurd (omega arith)
   get_back (x ∷ xs) ys zero h = refl
   get_back (x ∷ xs) ys (suc k) h = get_back xs ys k (omega arith)
 
+  -- the front that was cut off
   pub take_here : (past rest : List A) → take (length past) (past ++ rest) ≡ past
   take_here [] rest = refl
   take_here (y ∷ ys) rest = ap (λ l. y ∷ l) (take_here ys rest)
 
+  -- a front of a front
   pub take_front : (xs ys : List A) (p : ℕ) → p ≤ length xs → take p (xs ++ ys) ≡ take p xs
   take_front xs ys zero h = refl
   take_front [] ys (suc p) h = absurd (omega arith)
@@ -83,24 +90,30 @@ module _ {A : Type 0} where
   pub prefix_refl : (xs : List A) → IsPrefix xs xs
   prefix_refl xs = record { rest = []; whole = append-nil xs }
 
+  -- a prefix of a prefix is one
   pub prefix_trans : (xs ys zs : List A) → IsPrefix xs ys → IsPrefix ys zs → IsPrefix xs zs
   prefix_trans xs ys zs p q = record { rest = p.rest ++ q.rest; whole = sym (append_assoc xs p.rest q.rest) ∙ (ap (λ (l : List A). l ++ q.rest) p.whole ∙ q.whole) }
 
+  -- one more element leaves a prefix
   pub prefix_snoc : (xs : List A) (x : A) → IsPrefix xs (xs ++ x ∷ [])
   prefix_snoc xs x = record { rest = x ∷ []; whole = refl }
 
+  -- the first elements are a prefix
   pub prefix_take : (xs : List A) (n : ℕ) → IsPrefix (take n xs) xs
   prefix_take xs zero = record { rest = xs; whole = refl }
   prefix_take [] (suc n) = record { rest = []; whole = refl }
   prefix_take (x ∷ xs) (suc n) = let p = prefix_take xs n in record { rest = p.rest; whole = ap (λ l. x ∷ l) p.whole }
 
+  -- a prefix is no longer
   pub prefix_length : (xs ys : List A) → IsPrefix xs ys → length xs ≤ length ys
   prefix_length xs ys p = omega (arith, length-append xs p.rest, ap length p.whole)
 
+-- facts of the elements of a mapped list
 pub every_mapped : {A B : Type 0} (P : A → Type 0) (Q : B → Type 0) (f : A → B) → ((x : A) → P x → Q (f x)) → (xs : List A) → Every P xs → Every Q (map f xs)
 every_mapped P Q f g [] h = tt
 every_mapped P Q f g (x ∷ xs) h = (g x h.0, every_mapped P Q f g xs h.1)
 
+-- facts of the elements of joined lists
 pub every_flat : {A B : Type 0} (P : A → Type 0) (Q : B → Type 0) (f : A → List B) → ((x : A) → P x → Every Q (f x)) → (xs : List A) → Every P xs → Every Q (flat_map f xs)
 every_flat P Q f g [] h = tt
 every_flat P Q f g (x ∷ xs) h = every_append Q (f x) (flat_map f xs) (g x h.0) (every_flat P Q f g xs h.1)

@@ -41,6 +41,7 @@ pub record IsJoined (journal : List Event) (x : Life) (a b w : ℕ) : Type 0 whe
   pub target : present_key journal link.target ≡ Some b
   pub weight : link.weight ≡ w
 
+-- a present edge life was linked, is unmarked, and has two present ends
 pub joined_is : (journal : List Event) (x : Life) (a b w : ℕ) → present_pair journal x ≡ Some ((a, b), w) → IsJoined journal x a b w
 joined_is journal x a b w h =
     let c = if_some (edge_marked journal x) (option_and_then (pair_between journal) (link_of journal x)) ((a, b), w) h in
@@ -66,8 +67,6 @@ found_test test (x ∷ xs) d e = elim (test x) as (λ b. test x ≡ b → cond b
   | true ↦ λ t f. let same : x ≡ d = cc in ap test (sym same) ∙ t
   | false ↦ λ t f. found_test test xs d f
 ] refl e
-
--- vertices
 
 key_case : (f : Event → Option ℕ) (P : Type 0) (k : ℕ) (d : Event) → (f d ≡ Some k → P) → (ks : List ℕ) → (list_any (λ y. y == k) ks ≡ true → P) → (o : Option ℕ) → f d ≡ o → list_any (λ y. y == k) (cons_option o ks) ≡ true → P
 key_case f P k d here ks rest None is e = rest e
@@ -102,6 +101,7 @@ pub life_of_key : (journal : List Event) (k : ℕ) → has (graph_of journal) k 
 life_of_key journal k h = key_listed (key_by journal) ((x : Life) × (present_key journal x ≡ Some k)) k
     (λ d e. (d.life, (when_some (links_vertex d.kind) (present_key journal d.life) k e).1)) journal (sym (has-graph journal k) ∙ h)
 
+-- the key of a present vertex life is one of the graph
 pub key_of_life : (journal : List Event) (x : Life) (k : ℕ) → present_key journal x ≡ Some k → has (graph_of journal) k ≡ true
 unfolding key_of
 key_of_life journal x k h = by (find (λ (e : Event). links_vertex e.kind && same_life x e.life) journal) refl (present_is journal x k h).1
@@ -114,8 +114,6 @@ key_of_life journal x k h = by (find (λ (e : Event). links_vertex e.kind && sam
         let same = same_is x d.life (and_right (links_vertex d.kind) (same_life x d.life) t) in
         has-graph journal k ∙ key_found (key_by journal) k (λ (e : Event). links_vertex e.kind && same_life x e.life) d
         (ap (λ b. cond b (present_key journal d.life) None) links ∙ (ap (present_key journal) (sym same) ∙ h)) journal is
-
--- pairs
 
 abbrev sought : ℕ × ℕ → List ((ℕ × ℕ) × ℕ) → Option ℕ
 sought q ys = entry.find pair_cmp q ys

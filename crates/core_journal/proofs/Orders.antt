@@ -171,6 +171,7 @@ walk_items ts books b k fits past (s ∷ ss) p here whole =
     ∙ ((λ j. fits Silent p j ++ (fits Late p j ++ own_at ts books b p s k at (fits Own p) j)) ∙ sym (items_in (item b.caller) p b.entries))) i ++ rest i)
     ∙ (sym (map_append (item b.caller) (parts p b.entries) (behind (p + 1) b.entries)) ∙ ap (map (item b.caller)) (sym (split (length ts) 0 p b.entries k.framed))))
 
+-- a caller's items are the entries of its book
 pub items_turns : (ts : List Turn) (books : List Book) (b : Book) → BookIn ts b → ((c : Class) (p : ℕ) → items_of b.caller (entries_at c p books) ≡ map (item b.caller) (filter (stands c p) b.entries))
     → items_of b.caller (history_from 0 ts books) ≡ map (item b.caller) b.entries
 items_turns ts books b k fits = walk_items ts books b k fits [] ts 0 refl refl ∙ ap (map (item b.caller)) (all_behind (length ts) 0 b.entries k.framed)
@@ -179,6 +180,7 @@ every_pi : (P : Class → ℕ → Book → Type 0) (books : List Book) → ((c :
 every_pi P [] f = tt
 every_pi P (b ∷ bs) f = (λ c p. (f c p).0, every_pi P bs (λ c p. (f c p).1))
 
+-- so for each book
 pub items_books : (ts : List Turn) (books : List Book) → BooksIn ts books → Every (λ (b : Book). items_of b.caller (history_from 0 ts books) ≡ map (item b.caller) b.entries) books
 items_books ts books h =
     every_map (λ (b : Book). BookIn ts b × ((c : Class) (p : ℕ) → items_of b.caller (entries_at c p books) ≡ map (item b.caller) (filter (stands c p) b.entries))) (λ (b : Book). items_of b.caller (history_from 0 ts books) ≡ map (item b.caller) b.entries)
@@ -217,5 +219,6 @@ answered_from ts books h has past (s ∷ ss) p here whole =
     (every_append IsAnswered (entries_at Silent p books) _ (answered_at Silent p books) (every_append IsAnswered (entries_at Late p books) _ (answered_at Late p books) (answered_own ts books p s at h (λ c is. has p s c at is))))
     (answered_from ts books h has (past ++ s ∷ []) ss (p + 1) (omega (arith, length-append past (s ∷ []), here)) (append_assoc past (s ∷ []) ss ∙ whole))
 
+-- each item has an answer where each call of a turn is of a caller with a book
 pub answered_all : (ts : List Turn) (books : List Book) → Every (BookIn ts) books → ((p : ℕ) (t : Turn) (c : Call) → slice_get ts p ≡ Some t → t.call ≡ Some c → HasBook t.caller books) → Every IsAnswered (history_from 0 ts books)
 answered_all ts books h has = answered_from ts books h has [] ts 0 refl refl

@@ -26,6 +26,7 @@ pub record IsQuiet (x : Graph) (i : Item) : Type 0 where
   pub meets : (later : List Item) → Meets i.reply x i later
   pub stays : next x i.call i.reply ≡ x
 
+-- items that change nothing are legal before legal ones
 pub silent_legal : (x last : Graph) (items later : List Item) → Every (IsQuiet x) items → LegalFrom x later last → LegalFrom x (items ++ later) last
 silent_legal x last [] later q l = l
 silent_legal x last (i ∷ items) later q l = (q.0.meets (items ++ later), subst (λ (g : Graph). LegalFrom g (items ++ later) last) (sym q.0.stays) (silent_legal x last items later q.1 l))
@@ -45,6 +46,7 @@ quiet_by o x caller e out s = (λ later. (plain_item o x caller e later out s.re
 quiet_entry : (x : Graph) (caller : ℕ) (e : Entry) → SilentBy e.answer.outcome x e → IsQuiet x (item caller e)
 quiet_entry x caller e s = let both = quiet_by e.answer.outcome x caller e refl s in record { meets = both.0; stays = both.1 }
 
+-- silent entries are such items
 pub silent_items : (ts : List Turn) (books : List Book) (p : ℕ) → Every (λ (b : Book). Every (EntryIn ts books b.caller) b.entries) books → Every (IsQuiet (graph_at ts p)) (entries_at Silent p books)
 silent_items ts books p h = each_at Silent p (λ (b : Book). Every (EntryIn ts books b.caller) b.entries) (IsQuiet (graph_at ts p))
     (λ b k. every_map (EntryIn ts books b.caller) (λ (e : Entry). StandsAt Silent p e → IsQuiet (graph_at ts p) (item b.caller e)) (λ e g s. one b.caller e g s) b.entries k) books h
@@ -102,6 +104,7 @@ own_turn_at : (ts : List Turn) (p : ℕ) (t : Turn) (b : Book) → slice_get ts 
 own_turn_at ts p t b at k = every_map (λ (e : Entry). StandsBy e.class ts b.caller e) (λ (e : Entry). StandsAt Own p e → IsTurnOf t b.caller ts e)
     (λ e g s. turn_of ts p t b.caller e at s.place (subst (λ (c : Class). StandsBy c ts b.caller e) s.class g)) b.entries k.right
 
+-- no entry of a class stands where none may
 pub none_filtered : (c : Class) (p : ℕ) (es : List Entry) → Every (λ (e : Entry). StandsAt c p e → ⊥) es → filter (stands c p) es ≡ []
 none_filtered c p es h = every_none (filter (stands c p) es) (every_filter (λ (e : Entry). StandsAt c p e → ⊥) (λ _. ⊥) (stands c p) (λ e f s. f (stands_at c p e s)) es h)
 
@@ -144,6 +147,7 @@ pub record IsOne (ts : List Turn) (books : List Book) (p : ℕ) (t : Turn) (c : 
   pub list : or_running t (entries_at Own p books) ≡ it ∷ []
   pub kind : (it ≡ running t.caller c) ⊎ IsOwnItem ts books p t c it
 
+-- where a turn makes a call, one item stands
 pub one_here : (ts : List Turn) (books : List Book) (p : ℕ) (t : Turn) (c : Call) → BooksIn ts books → slice_get ts p ≡ Some t → t.call ≡ Some c → IsOne ts books p t c
 one_here ts books p t c k at is =
     by (entries_at Own p books)
@@ -156,6 +160,7 @@ one_here ts books p t c k at is =
     by (i ∷ []) own few e = record { it = i; list = ap (or_running t) e; kind = inr own.0 }
     by (i ∷ j ∷ xs) own few e = absurd (omega arith)
 
+-- where it makes none, none stands
 pub none_here : (ts : List Turn) (books : List Book) (p : ℕ) (t : Turn) → BooksIn ts books → slice_get ts p ≡ Some t → t.call ≡ None → or_running t (entries_at Own p books) ≡ []
 none_here ts books p t k at is =
     let empty : entries_at Own p books ≡ [] = every_none (entries_at Own p books) (each_at Own p (BookIn ts) (λ _. ⊥)
@@ -184,12 +189,14 @@ not_cut : (o : Outcome) (ts : List Turn) (caller k : ℕ) (e : Entry) (x : Graph
 not_cut Overtaken ts caller k e x call r = absurd (subst (λ (c : Call). Touches c r.cut.key) call r.cut.touched)
 not_cut _ ts caller k e x call r = r
 
+-- the item at a removal removes the key
 pub removal_here : (ts : List Turn) (books : List Book) (p : ℕ) (t : Turn) (k : ℕ) (i : Item) → has (graph_at ts p) k ≡ true → (i ≡ running t.caller (RemoveVertex k)) ⊎ IsOwnItem ts books p t (RemoveVertex k) i → IsRemoval k i
 removal_here ts books p t k i h (inl e) = subst (IsRemoval k) (sym e) (record { call = refl; done = tt; meets = λ z there later. removes_there z k there; leads = λ z. refl })
 removal_here ts books p t k i h (inr o) =
     let call = only_removal (graph_at ts p) o.entry.call k h o.leads in
     subst (IsRemoval k) (sym o.is) (own_removal (graph_at ts p) k t.caller o.entry h call (not_cut o.entry.answer.outcome ts t.caller k o.entry (graph_at ts p) call o.reply))
 
+-- the item at a turn is its caller's
 pub item_by : (ts : List Turn) (books : List Book) (p : ℕ) (t : Turn) (c : Call) (i : Item) → (i ≡ running t.caller c) ⊎ IsOwnItem ts books p t c i → i.caller ≡ t.caller
 item_by ts books p t c i (inl e) = ap (λ (j : Item). j.caller) e
 item_by ts books p t c i (inr o) = ap (λ (j : Item). j.caller) o.is
@@ -203,9 +210,11 @@ pub record Found (caller : ℕ) (k : ℕ) (later : List Item) : Type 0 where
   pub other : removal.caller ≢ caller
   pub removes : IsRemoval k removal
 
+-- an entry is overtaken by a removal that is found later
 pub overtaken : (x : Graph) (caller : ℕ) (call : Call) (k : ℕ) (later : List Item) → Touches call k → has x k ≡ true → Found caller k later → IsOvertaken x caller call later
 overtaken x caller call k later t h f = record { between = f.between; removal = f.removal; beyond = f.beyond; whole = f.whole; alone = f.alone; other = f.other; key = k; removes = f.removes.call; touched = t; there = h; done = f.removes.done }
 
+-- a removal is found before the caller's next item
 pub found : (ts : List Turn) (books : List Book) → BooksIn ts books → RunsFrom empty_graph ts → (caller k q : ℕ) (t : Turn) → slice_get ts q ≡ Some t → t.call ≡ Some (RemoveVertex k) → t.caller ≢ caller
     → (past ss : List Turn) (p : ℕ) → p ≡ length past → past ++ ss ≡ ts → p ≤ q
     → ((r : ℕ) (s : Turn) → p ≤ r → r ≤ q → slice_get ts r ≡ Some s → Every (λ (i : Item). i.caller ≢ caller) (items_at r s books))

@@ -16,10 +16,12 @@ use Rattle.core_journal.proofs.Snoc.{idle_is, cuts_is}
 use Rattle.core_journal.proofs.GraphRows.{idle_graph, hidden_graph, new_vertex_graph, removed_vertex_graph, new_edge_graph, no_edge_graph, removed_edge_graph}
 use Rattle.core_journal.proofs.LivesOf.{present_is, joined_is, key_of_life, only_pair}
 
+-- an event that leaves the graph does not change it
 pub changes_not : (past : List Event) (e : Event) → graph_of (past ++ e ∷ []) ≡ graph_of past → changes past e ≡ false
 unfolding changes
 changes_not past e same = ap not (ap (same_graph (graph_of past)) same ∙ same_graph_self (graph_of past))
 
+-- an event after which the graph differs changes it
 pub changes_yes : (past : List Event) (e : Event) → graph_of (past ++ e ∷ []) ≢ graph_of past → changes past e ≡ true
 unfolding changes
 changes_yes past e ne = by (same_graph (graph_of past) (graph_of (past ++ e ∷ []))) refl
@@ -44,24 +46,29 @@ regular_call past e c is does leads =
       carried = λ changed. record { call = c; is = is; alters = does; leads = to };
     }
 
+-- a new vertex is linked whose key is not there
 pub new_vertex_regular : (past : List Event) (e : Event) → IsNewVertex past e → has (graph_of past) e.key ≡ false → IsRegularEvent past e
 new_vertex_regular past e n absent =
     regular_call past e (AddVertex e.key) (ap (λ (k : Kind). call_by k past e) n.kind) (adds_vertex (graph_of past) e.key absent) (new_vertex_graph past e n)
 
+-- the only present vertex of its key is marked
 pub removed_vertex_regular : (past : List Event) (e : Event) (key : ℕ) → IsRemovedVertex past e key → IsRegularEvent past e
 removed_vertex_regular past e key r =
     regular_call past e (RemoveVertex key) (ap (λ (k : Kind). call_by k past e) r.kind ∙ ap (option_map RemoveVertex) (present_is past e.life key r.there).1)
     (removes_there (graph_of past) key (key_of_life past e.life key r.there)) (removed_vertex_graph past e key r)
 
+-- an edge is linked between present vertices whose pair is not there
 pub new_edge_regular : (past : List Event) (e : Event) (a b : ℕ) → IsNewEdge past e → present_key past e.source ≡ Some a → present_key past e.target ≡ Some b → weight_of (graph_of past) a b ≡ None → IsRegularEvent past e
 new_edge_regular past e a b n s t absent =
     regular_call past e (AddEdge a b e.weight)
     (ap (λ (k : Kind). call_by k past e) n.kind ∙ (λ i. option_map (λ (p : ℕ × ℕ). AddEdge p.0 p.1 e.weight) (both ((present_is past e.source a s).1 i) ((present_is past e.target b t).1 i))))
     (adds_edge (graph_of past) a b e.weight (key_of_life past e.source a s) (key_of_life past e.target b t) absent) (new_edge_graph past e a b n s t)
 
+-- an edge is linked of which an end is not present
 pub no_edge_regular : (past : List Event) (e : Event) → IsNewEdge past e → pair_between past e ≡ None → IsRegularEvent past e
 no_edge_regular past e n gone = regular_still past e (no_edge_graph past e n gone) (ap marks_vertex n.kind)
 
+-- the only present edge of its pair is marked
 pub removed_edge_regular : (past : List Event) (e : Event) (a b : ℕ) → IsRemovedEdge past e a b → IsRegularEvent past e
 removed_edge_regular past e a b r =
     let j = joined_is past e.life a b r.weight r.there in
@@ -71,9 +78,11 @@ removed_edge_regular past e a b r =
     (removes_edge (graph_of past) a b r.weight (key_of_life past j.link.source a j.source) (key_of_life past j.link.target b j.target) (only_pair past e.life a b r.weight r.there r.only))
     (removed_edge_graph past e a b r)
 
+-- an edge is marked whose pair is not there
 pub hidden_regular : (past : List Event) (e : Event) → marks_edge e.kind ≡ true → present_pair past e.life ≡ None → IsRegularEvent past e
 hidden_regular past e cuts hidden = regular_still past e (hidden_graph past e cuts hidden) (cuts_is e.kind cuts).1
 
+-- an event neither links nor marks
 pub idle_regular : (past : List Event) (e : Event) → is_idle e.kind ≡ true → IsRegularEvent past e
 idle_regular past e idle = regular_still past e (idle_graph past e idle) (idle_is e.kind idle).marks
 

@@ -42,10 +42,9 @@ reuse_snoc sizes past e r over = record { each = λ q f at kind k earlier less w
         subst (λ (l : List Event). IsOver sizes l earlier.life) (sym here)
         (over (ap (λ (d : Event). d.kind) new.1 ∙ kind) k earlier (within q k earlier less (omega (arith, new.0)) was) pop (same ∙ ap (λ (d : Event). d.life.index) (sym new.1)))
 
+-- the empty journal reuses safely
 pub reuse_nil : (sizes : Sizes) → ReusesSafely sizes []
 reuse_nil sizes = record { each = λ q e at kind k earlier less was pop same. absurd (cc) }
-
--- stretches in which no node is taken
 
 abbrev pub takes : Kind → Bool
 takes PopFree = true
@@ -54,6 +53,7 @@ takes _ = false
 abbrev pub none_taken : List Event → Bool
 none_taken xs = list_all (λ (e : Event). not (takes e.kind)) xs
 
+-- events that take no node go on safely
 pub quiet_stretch : (sizes : Sizes) (past xs : List Event) → none_taken xs ≡ true → ReusesSafely sizes past → ReusesSafely sizes (past ++ xs)
 quiet_stretch sizes past [] h r = subst (ReusesSafely sizes) (sym (append-nil past)) r
 quiet_stretch sizes past (x ∷ xs) h r =

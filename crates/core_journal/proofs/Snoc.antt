@@ -25,17 +25,18 @@ no_and : (a b : Bool) → b ≡ false → (a && b) ≡ false
 no_and true b h = h
 no_and false b h = refl
 
--- lives
-
+-- lives that the test finds to be one are one
 pub same_is : (x y : Life) → same_life x y ≡ true → x ≡ y
 same_is x y h =
     let i : x.index ≡ y.index = eqb-true x.index y.index (and_left (x.index == y.index) (x.tag == y.tag) h) in
     let t : x.tag ≡ y.tag = eqb-true x.tag y.tag (and_right (x.index == y.index) (x.tag == y.tag) h) in
     λ j. record { index = i j; tag = t j }
 
+-- the test finds a life to be itself
 pub same_self : (x : Life) → same_life x x ≡ true
 same_self x = ap (λ b. b && (x.tag == x.tag)) (equal x.index) ∙ equal x.tag
 
+-- lives that are not one fail the test
 pub differs : (x y : Life) → x ≢ y → same_life x y ≡ false
 differs x y ne = by (same_life x y) refl
   where
@@ -43,15 +44,16 @@ differs x y ne = by (same_life x y) refl
     by true e = absurd (ne (same_is x y e))
     by false e = refl
 
+-- and the other way round
 pub unlike : (x y : Life) → same_life x y ≡ false → x ≢ y
 unlike x y h e = true≢false (sym (ap (same_life x) (sym e) ∙ ap (λ b. b) (same_self x)) ∙ h)
 
--- lists
-
+-- one more element that fails a test changes no outcome of it
 pub any_skip : {A : Type 0} (test : A → Bool) (xs : List A) (x : A) → test x ≡ false → list_any test (xs ++ x ∷ []) ≡ list_any test xs
 any_skip test [] x h = ap (λ b. b || false) h
 any_skip test (y ∷ ys) x h = ap (λ b. test y || b) (any_skip test ys x h)
 
+-- one more element that passes makes it pass
 pub any_last : {A : Type 0} (test : A → Bool) (xs : List A) (x : A) → test x ≡ true → list_any test (xs ++ x ∷ []) ≡ true
 any_last test [] x h = ap (λ b. b || false) h
 any_last test (y ∷ ys) x h = ap (λ b. test y || b) (any_last test ys x h) ∙ or_true (test y)
@@ -60,30 +62,37 @@ any_last test (y ∷ ys) x h = ap (λ b. test y || b) (any_last test ys x h) ∙
     or_true true = refl
     or_true false = refl
 
+-- one more element that fails is not found
 pub find_skip : {A : Type 0} (test : A → Bool) (xs : List A) (x : A) → test x ≡ false → find test (xs ++ x ∷ []) ≡ find test xs
 find_skip test [] x h = ap (λ b. cond b (Some x) None) h
 find_skip test (y ∷ ys) x h = ap (λ o. cond (test y) (Some y) o) (find_skip test ys x h)
 
+-- one more element that passes is found where none was
 pub find_last : {A : Type 0} (test : A → Bool) (xs : List A) (x : A) → find test xs ≡ None → test x ≡ true → find test (xs ++ x ∷ []) ≡ Some x
 find_last test [] x none h = ap (λ b. cond b (Some x) None) h
 find_last test (y ∷ ys) x none h = elim (test y) as (λ b. cond b (Some y) (find test ys) ≡ None → cond b (Some y) (find test (ys ++ x ∷ [])) ≡ Some x) [ true ↦ λ e. absurd (cc) | false ↦ λ e. find_last test ys x e h ] none
 
+-- where none is found each fails
 pub none_found : {A : Type 0} (test : A → Bool) (xs : List A) → find test xs ≡ None → Every (λ x. test x ≡ false) xs
 none_found test [] h = tt
 none_found test (x ∷ xs) h = elim (test x) as (λ b. test x ≡ b → cond b (Some x) (find test xs) ≡ None → Every (λ y. test y ≡ false) (x ∷ xs)) [ true ↦ λ e f. absurd (cc) | false ↦ λ e f. (e, none_found test xs f) ] refl h
 
+-- two functions that agree give one list
 pub filter_same : {A B : Type 0} (f g : A → Option B) → ((x : A) → f x ≡ g x) → (xs : List A) → filter_map f xs ≡ filter_map g xs
 filter_same f g same [] = refl
 filter_same f g same (x ∷ xs) = λ i. cons_option (same x i) (filter_same f g same xs i)
 
+-- so where they agree on the elements
 pub filter_each : {A B : Type 0} (f g : A → Option B) (xs : List A) → Every (λ x. f x ≡ g x) xs → filter_map f xs ≡ filter_map g xs
 filter_each f g [] h = refl
 filter_each f g (x ∷ xs) h = λ i. cons_option (h.0 i) (filter_each f g xs h.1 i)
 
+-- one more element that gives nothing
 pub filter_skip : {A B : Type 0} (f : A → Option B) (xs : List A) (x : A) → f x ≡ None → filter_map f (xs ++ x ∷ []) ≡ filter_map f xs
 filter_skip f [] x h = ap (λ o. cons_option o []) h
 filter_skip f (y ∷ ys) x h = ap (cons_option (f y)) (filter_skip f ys x h)
 
+-- one more element that gives something
 pub filter_last : {A B : Type 0} (f : A → Option B) (xs : List A) (x : A) (y : B) → f x ≡ Some y → filter_map f (xs ++ x ∷ []) ≡ filter_map f xs ++ y ∷ []
 filter_last f [] x y h = ap (λ o. cons_option o []) h
 filter_last {B = B} f (z ∷ zs) x y h = ap (cons_option (f z)) (filter_last f zs x y h) ∙ onto (f z) (filter_map f zs)
@@ -96,11 +105,10 @@ filter_last {B = B} f (z ∷ zs) x y h = ap (cons_option (f z)) (filter_last f z
 pub filter_reverse : {B : Type 0} (f : Event → Option B) (past : List Event) (e : Event) → filter_map f (reverse (past ++ e ∷ [])) ≡ cons_option (f e) (filter_map f (reverse past))
 filter_reverse f past e = ap (filter_map f) (reverse-append past (e ∷ []))
 
+-- a fact of each element of a reversed list
 pub every_reverse : {A : Type 0} (P : A → Type 0) (xs : List A) → Every P xs → Every P (reverse xs)
 every_reverse P [] h = tt
 every_reverse P (x ∷ xs) h = subst (Every P) (sym (reverse-append (x ∷ []) xs)) (every_append P (reverse xs) (x ∷ []) (every_reverse P xs h.1) (h.0, tt))
-
--- kinds
 
 -- an idle kind neither links nor marks
 pub record IsIdle (k : Kind) : Type 0 where
@@ -109,6 +117,7 @@ pub record IsIdle (k : Kind) : Type 0 where
   pub joins : links_edge k ≡ false
   pub cuts : marks_edge k ≡ false
 
+-- what an idle kind does not do
 pub idle_is : (k : Kind) → is_idle k ≡ true → IsIdle k
 idle_is LinkVertex h = absurd (true≢false (sym h))
 idle_is MarkVertex h = absurd (true≢false (sym h))
@@ -123,9 +132,8 @@ cuts_is MarkEdge h = (refl, refl, refl)
 cuts_is FreezeEdge h = (refl, refl, refl)
 cuts_is _ h = absurd (true≢false (sym h))
 
--- lives after one more event
-
 module _ (past : List Event) (e : Event) where
+  -- keys and links of lives, where the event links nothing or is about another life
   pub key_skip : links_vertex e.kind ≡ false → (x : Life) → key_of (past ++ e ∷ []) x ≡ key_of past x
   unfolding key_of
   key_skip h x = ap (option_map (λ (d : Event). d.key)) (find_skip _ past e (and_no (links_vertex e.kind) (same_life x e.life) h))
@@ -142,6 +150,7 @@ module _ (past : List Event) (e : Event) where
   unfolding link_of
   link_else x h = find_skip _ past e (no_and (links_edge e.kind) (same_life x e.life) h)
 
+  -- marks of lives likewise, and the mark that the event makes
   pub marked_skip : marks_vertex e.kind ≡ false → (x : Life) → vertex_marked (past ++ e ∷ []) x ≡ vertex_marked past x
   marked_skip h x = any_skip _ past e (and_no (marks_vertex e.kind) (same_life x e.life) h)
 
@@ -164,6 +173,7 @@ module _ (past : List Event) (e : Event) where
   pub present_skip : links_vertex e.kind ≡ false → marks_vertex e.kind ≡ false → (x : Life) → present_key (past ++ e ∷ []) x ≡ present_key past x
   present_skip l m x = λ i. cond (marked_skip m x i) None (key_skip l x i)
 
+  -- so where the event is about another life
   pub present_else : (x : Life) → same_life x e.life ≡ false → present_key (past ++ e ∷ []) x ≡ present_key past x
   present_else x h = λ i. cond (marked_else x h i) None (key_else x h i)
 

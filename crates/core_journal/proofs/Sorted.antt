@@ -23,6 +23,7 @@ items_three : (p : ℕ) (silent late own : List Item) → map (λ (x : Placed). 
 items_three p silent late own = map_append (λ (x : Placed). x.item) (placed p Silent silent) (placed p Late late ++ placed p Own own)
     ∙ (λ i. items_placed_at p Silent silent i ++ (map_append (λ (x : Placed). x.item) (placed p Late late) (placed p Own own) ∙ (λ j. items_placed_at p Late late j ++ items_placed_at p Own own j)) i)
 
+-- the placed items are those of the history
 pub items_placed : (p : ℕ) (ts : List Turn) (books : List Book) → map (λ (x : Placed). x.item) (placed_from p ts books) ≡ history_from p ts books
 items_placed p [] books = items_three p (entries_at Silent p books) (entries_at Late p books) (entries_at Own p books)
 items_placed p (t ∷ ts) books = map_append (λ (x : Placed). x.item) _ (placed_from (p + 1) ts books)
@@ -91,6 +92,7 @@ placed_since p (t ∷ ts) books = every_append (λ (x : Placed). p ≤ x.place) 
     (three_all p (λ (x : Placed). p ≤ x.place) (λ c i. omega arith) (entries_at Silent p books) (entries_at Late p books) (or_running t (entries_at Own p books)))
     (every_map (λ (x : Placed). p + 1 ≤ x.place) (λ (x : Placed). p ≤ x.place) (λ x h. omega (arith, h)) (placed_from (p + 1) ts books) (placed_since (p + 1) ts books))
 
+-- and stand in order
 pub placed_in_order : (p : ℕ) (ts : List Turn) (books : List Book) → CallersRise books → InOrder (placed_from p ts books)
 placed_in_order p [] books rise = order_three p (entries_at Silent p books) (entries_at Late p books) (entries_at Own p books) (rising_entries Silent p books rise) (rising_entries Late p books rise) (rising_entries Own p books rise)
 placed_in_order p (t ∷ ts) books rise =

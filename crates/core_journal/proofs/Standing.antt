@@ -55,8 +55,6 @@ placed_walk ts books past (s ∷ ss) p here whole =
 pub all_stand : (ts : List Turn) (books : List Book) → Every (IsPlaced ts books) (placed_from 0 ts books)
 all_stand ts books = placed_walk ts books [] ts 0 refl refl
 
--- callers with books
-
 own_books : (bs : List Book) → Every (λ (b : Book). HasBook b.caller bs) bs
 own_books [] = tt
 own_books (b ∷ bs) = (inl refl, every_map (λ (c : Book). HasBook c.caller bs) (λ (c : Book). HasBook c.caller (b ∷ bs)) (λ c h. inr h) bs (own_books bs))
@@ -129,8 +127,6 @@ agree_all books xs ys each hx hy caller = by (has_or_not caller books)
 pub rows_interleave : (books : List Book) (h : List Item) (rows : List Row) (replies : List Answer) → length replies ≡ length rows → Every (λ (r : Row). HasBook r.caller books) rows
     → Every (λ (b : Book). items_of b.caller h ≡ items_of b.caller (answered rows replies)) books → Every (λ (i : Item). HasBook i.caller books) h → IsInterleaving rows replies h
 rows_interleave books h rows replies long has each booked = record { one_each = long; in_order = agree_all books h (answered rows replies) each booked (rows_booked books rows replies has) }
-
--- membership
 
 abbrev Among : Placed → List Placed → Type 0
 Among x [] = ⊥

@@ -10,6 +10,7 @@ from-append : (sizes : Sizes) (s : State) (xs ys : List Event) → state_from si
 from-append sizes s [] ys = refl
 from-append sizes s (e ∷ es) ys = from-append sizes (state_by e.kind sizes e s) es ys
 
+-- the state of the empty journal
 pub state-nil : (sizes : Sizes) → state sizes [] ≡ opening sizes
 unfolding state
 state-nil sizes = refl

@@ -36,11 +36,13 @@ abbrev pub RunsFrom : Graph → List Turn → Type 0
 RunsFrom g [] = Unit {0}
 RunsFrom g (t ∷ ts) = Does g t.call × RunsFrom (applied g t.call) ts
 
+-- a call of a turn alters the graph at it
 pub runs_at : (g : Graph) (ts : List Turn) (p : ℕ) (t : Turn) → RunsFrom g ts → slice_get ts p ≡ Some t → Does (replayed g (take p ts)) t.call
 runs_at g [] p t r e = absurd (cc)
 runs_at g (s ∷ ts) zero t r e = let same : s ≡ t = cc in subst (λ (x : Turn). Does g x.call) same r.0
 runs_at g (s ∷ ts) (suc p) t r e = runs_at (applied g s.call) ts p t r.1 e
 
+-- one more turn
 pub replayed-snoc : (g : Graph) (ts : List Turn) (t : Turn) → replayed g (ts ++ t ∷ []) ≡ applied (replayed g ts) t.call
 replayed-snoc g [] t = refl
 replayed-snoc g (s ∷ ts) t = replayed-snoc (applied g s.call) ts t
@@ -108,6 +110,7 @@ class_is Own Silent e = absurd (cc)
 class_is Own Late e = absurd (cc)
 class_is Own Own e = refl
 
+-- an entry that passes the test stands there
 pub stands_at : (c : Class) (p : ℕ) (e : Entry) → stands c p e ≡ true → StandsAt c p e
 stands_at c p e h = by (same_class c e.class) (p == e.place) refl refl h
   where
@@ -155,6 +158,7 @@ apart_grid (b ∷ bs) h = (
       (every_both (λ (c : Book). c.caller ≢ b.caller) (λ (c : Book). Every (IsElse c) bs) bs h.0 (apart_grid bs h.1)),
 )
 
+-- facts of the own items, or of the one that runs
 pub or_running_each : (P : Item → Type 0) (t : Turn) (xs : List Item) → Every P xs → ((c : Call) → t.call ≡ Some c → P (running t.caller c)) → Every P (or_running t xs)
 or_running_each P t (i ∷ xs) h f = h
 or_running_each P t [] h f = elim t.call as (λ o. t.call ≡ o → Every P (elim o as (λ _. List Item) [ None ↦ [] | Some c ↦ running t.caller c ∷ [] ])) [
@@ -199,6 +203,7 @@ pub record BooksIn (ts : List Turn) (books : List Book) : Type 0 where
   pub apart : CallersApart books
   pub each : Every (BookIn ts) books
 
+-- what is known of each entry of true books
 pub entries_in : (ts : List Turn) (books : List Book) → BooksIn ts books → Every (λ (b : Book). Every (EntryIn ts books b.caller) b.entries) books
 entries_in ts books h =
     every_map (λ (b : Book). BookIn ts b × Every (IsElse b) books) (λ (b : Book). Every (EntryIn ts books b.caller) b.entries) (λ b k. one b k.0 k.1) books

@@ -193,5 +193,6 @@ walk ts books h runs past (s ∷ ss) p here whole =
           one.kind (subst (λ (o : Option Call). LegalFrom (applied (graph_at ts p) o) (history_from (p + 1) ss books) (replayed empty_graph ts)) is rest))
     ] refl))
 
+-- the history of true books over turns is legal
 pub legal_turns : (ts : List Turn) (books : List Book) → BooksIn ts books → RunsFrom empty_graph ts → LegalFrom empty_graph (history_from 0 ts books) (replayed empty_graph ts)
 legal_turns ts books h runs = walk ts books h runs [] ts 0 refl refl

@@ -40,11 +40,10 @@ past2 = e0 ∷ e1 ∷ []
 abbrev past3 : List Event
 past3 = e0 ∷ e1 ∷ e2 ∷ []
 
+-- computed: the graph
 pub worked_graph : graph_of worked_journal ≡ one_key
 unfolding graph_of key_of link_of
 worked_graph = refl
-
--- which keys are there
 
 no_one : has (graph_of []) 1 ≡ false
 unfolding key_of
@@ -69,8 +68,6 @@ no_pair = weight-graph past2 1 2
 two_three : has (graph_of past3) 2 ≡ true
 unfolding key_of
 two_three = has-graph past3 2
-
--- the rows of the four events
 
 new0 : IsNewVertex [] e0
 unfolding key_of link_of
@@ -103,15 +100,15 @@ removed3 : IsRemovedVertex past3 e3 2
 unfolding key_of
 removed3 = record { kind = refl; there = refl; only = λ x is. second_only x (same_life x (first_life 0)) (same_life x (first_life 1)) refl refl is }
 
+-- each event is regular
 pub worked_regular : IsRegular worked_journal
 worked_regular = record {
   steps = (new_vertex_regular [] e0 new0 no_one, (new_vertex_regular (e0 ∷ []) e1 new1 no_two, (new_edge_regular past2 e2 1 2 new2 source2 target2 no_pair, (removed_vertex_regular past3 e3 2 removed3, tt))));
 }
 
+-- the books are of two callers
 pub worked_apart : CallersApart worked_books
 worked_apart = (((λ h. omega (arith, h)), tt), (tt, tt))
-
--- the books
 
 marked_after : IsMarkedAfter worked_journal 0 (own (AddEdge 1 2 5) Overtaken 2 2 4) e2
 marked_after = record {
@@ -157,15 +154,19 @@ second_true = record {
   covers = covers_by worked_journal 1 4 second_book.entries refl (λ e at. absurd (cc));
 }
 
+-- the books are true
 pub worked_true : Every (IsBookOf small worked_journal) worked_books
 worked_true = (first_true, (second_true, tt))
 
+-- computed: the history
 pub worked_items : history worked_journal worked_books ≡ worked_history
 unfolding history_of turns
 worked_items = refl
 
+-- so it is legal
 pub worked_legal : IsLegal worked_history one_key
 worked_legal = subst (λ h. IsLegal h one_key) worked_items (subst (IsLegal (history worked_journal worked_books)) worked_graph (history_legal small worked_journal worked_books worked_regular worked_apart worked_true))
 
+-- no other caller changes the graph
 pub worked_closed : IsClosed worked_journal worked_books
 worked_closed = closed_by worked_journal first_book second_book refl refl refl

@@ -17,11 +17,15 @@ pub record Placed : Type 0 where
 abbrev pub placed : ℕ → Class → List Item → List Placed
 placed p c items = map (λ (i : Item). record { place = p; class = c; item = i }) items
 
+-- the items of one place: silent, late and own
+abbrev pub placed_at : ℕ → List Item → List Item → List Item → List Placed
+placed_at p silent late own = placed p Silent silent ++ (placed p Late late ++ placed p Own own)
+
 -- the items of a history with their places and classes
 abbrev pub placed_from : ℕ → List Turn → List Book → List Placed
-placed_from p [] books = placed p Silent (entries_at Silent p books) ++ (placed p Late (entries_at Late p books) ++ placed p Own (entries_at Own p books))
+placed_from p [] books = placed_at p (entries_at Silent p books) (entries_at Late p books) (entries_at Own p books)
 placed_from p (t ∷ ts) books =
-    (placed p Silent (entries_at Silent p books) ++ (placed p Late (entries_at Late p books) ++ placed p Own (or_running t (entries_at Own p books))))
+    placed_at p (entries_at Silent p books) (entries_at Late p books) (or_running t (entries_at Own p books))
     ++ placed_from (p + 1) ts books
 
 abbrev pub rank : Class → ℕ
@@ -29,9 +33,13 @@ rank Silent = 0
 rank Late = 1
 rank Own = 2
 
--- one item stands before another: at an earlier place, or there in an earlier class, or there by no greater caller
+-- at one place, an item stands before another: in an earlier class, or in the same one by no greater caller
+abbrev pub BeforeThere : Placed → Placed → Type 0
+BeforeThere x y = (rank x.class < rank y.class) ⊎ ((rank x.class ≡ rank y.class) × (x.item.caller ≤ y.item.caller))
+
+-- one item stands before another: at an earlier place, or before it at the same one
 abbrev pub Before : Placed → Placed → Type 0
-Before x y = (x.place < y.place) ⊎ ((x.place ≡ y.place) × ((rank x.class < rank y.class) ⊎ ((rank x.class ≡ rank y.class) × (x.item.caller ≤ y.item.caller))))
+Before x y = (x.place < y.place) ⊎ ((x.place ≡ y.place) × BeforeThere x y)
 
 -- each item stands before all later ones
 abbrev pub InOrder : List Placed → Type 0

@@ -1,7 +1,7 @@
 //! The table of changes: what each kind of event does to the graph, and that each row is regular.
 //!
-//! The premises of the rows (`specs/Changes.antt`) speak of lives alone. A key is there by a present vertex life, a pair by
-//! a present edge life; no list is walked.
+//! The premises of the rows (`specs/Changes.antt`) speak of lives alone. A key is there by a present vertex
+//! life, a pair by a present edge life; no list is walked.
 
 ghost use Rattle.std.specs.Prelude.{◌≡◌, ℕ, List, [], ◌∷◌, ◌++◌, ◌↔◌, true, false, Some, None};
 ghost use Rattle.graph_kinds.specs.Graph.{has, weight_of};
@@ -15,8 +15,8 @@ ghost use Rattle.core_journal.specs.GraphOf.{IsRegular, IsRegularEvent};
 ghost use Rattle.core_journal.specs.Changes.{is_idle, IsNewVertex, IsRemovedVertex};
 ghost use Rattle.core_journal.specs.Changes.{IsNewEdge, IsRemovedEdge, IsFrozenEdge};
 
-/// The keys of the graph are those of the present vertex lives. A weight is that of a present edge life of the pair, each
-/// present edge life has its pair, and both ends of a pair are keys.
+/// The keys of the graph are those of the present vertex lives. A weight is that of a present edge life of the
+/// pair, each present edge life has its pair, and both ends of a pair are keys.
 pub fn the_graph_is_of_lives()
     ensures keys { (journal : List Event) (key : ℕ)
         → (has (graph_of journal) key ≡ true) ↔ ((x : Life) × (present_key journal x ≡ Some key)) }
@@ -31,9 +31,10 @@ pub fn the_graph_is_of_lives()
         → (has (graph_of journal) a ≡ true) × (has (graph_of journal) b ≡ true) }
 {}
 
-/// The table of changes. A vertex that is linked adds its key, without pairs; a vertex that is marked takes away its key and all
-/// pairs of it; an edge that is linked adds its pair where both ends are present, and else nothing; an edge that is marked
-/// takes away its pair where it is there, and else nothing; an edge is frozen, and all other events are made, without a change.
+/// The table of changes. A vertex that is linked adds its key, without pairs; a vertex that is marked takes
+/// away its key and all pairs of it; an edge that is linked adds its pair where both ends are present, and else
+/// nothing; an edge that is marked takes away its pair where it is there, and else nothing; an edge is frozen,
+/// and all other events are made, without a change.
 pub fn kinds_change_the_graph()
     ensures link_vertex { (past : List Event) (e : Event) → IsNewVertex past e
         → graph_of (past ++ e ∷ []) ≡ change (graph_of past) (AddVertex e.key) }
@@ -54,8 +55,8 @@ pub fn kinds_change_the_graph()
         → graph_of (past ++ e ∷ []) ≡ graph_of past }
 {}
 
-/// Each row of the table is regular, where a vertex is linked whose key isn't there and an edge whose pair isn't there; and a
-/// regular journal with one more regular event is regular.
+/// Each row of the table is regular, where a vertex is linked whose key isn't there and an edge whose pair
+/// isn't there; and a regular journal with one more regular event is regular.
 pub fn rows_are_regular()
     ensures link_vertex { (past : List Event) (e : Event) → IsNewVertex past e
         → has (graph_of past) e.key ≡ false → IsRegularEvent past e }

@@ -11,7 +11,8 @@ ghost use Rattle.core_journal.specs.GraphOf.{IsRegular};
 ghost use Rattle.core_journal.specs.Reuse.{IsOver, ReusesSafely};
 ghost use Rattle.core_journal.specs.declared.event.Kind.TheVariants.{PopFree};
 
-/// Prefixes: a journal is one of itself, a prefix of a prefix is one, one more event leaves one, and so does each length.
+/// Prefixes: a journal is one of itself, a prefix of a prefix is one, one more event leaves one, and so does
+/// each length.
 pub fn prefixes_chain()
     ensures same { (journal : List Event) → IsPrefix journal journal }
     ensures longer { (short middle long : List Event) → IsPrefix short middle → IsPrefix middle long
@@ -28,7 +29,8 @@ pub fn fronts_are_journals()
         → ReusesSafely sizes journal → ReusesSafely sizes front }
 {}
 
-/// Safe reuse goes on with one more event, where a node is taken only if each life for which it was taken before is over.
+/// Safe reuse goes on with one more event, where a node is taken only if each life for which it was taken
+/// before is over.
 pub fn reuse_goes_on()
     ensures opening { (sizes : Sizes) → ReusesSafely sizes [] }
     ensures next { (sizes : Sizes) (past : List Event) (e : Event) → ReusesSafely sizes past

@@ -8,7 +8,8 @@ ghost use Rattle.core_journal.specs.declared.event.Event.{Event};
 ghost use Rattle.core_journal.specs.Machine.{machine, opening_word, word_at};
 ghost use Rattle.core_journal.specs.State.{state, state_by, opening};
 
-/// The words of the table: each has its opening word at first, an event writes the word at its place, and keeps any other.
+/// The words of the table: each has its opening word at first, an event writes the word at its place, and keeps
+/// any other.
 pub fn events_write_their_words()
     ensures opening { (sizes : Sizes) (p : Place) → IsPlace sizes p
         → word_at sizes [] (place_of sizes p) ≡ opening_word sizes p }
@@ -20,7 +21,8 @@ pub fn events_write_their_words()
         → length (machine sizes journal) ≡ word_count sizes }
 {}
 
-/// The state: the opening state at first, and one more event changes it as its kind says; its count is the number of events.
+/// The state: the opening state at first, and one more event changes it as its kind says; its count is the
+/// number of events.
 pub fn events_change_the_state()
     ensures opening { (sizes : Sizes) → state sizes [] ≡ opening sizes }
     ensures next { (sizes : Sizes) (journal : List Event) (e : Event)

@@ -1,7 +1,8 @@
 //! The definitions computed on worked journals, so that none of the laws speaks of nothing.
 //!
-//! `specs/FirstVertex.antt` has the first eight events of a table, `specs/Worked.antt` an edge that is overtaken before its call
-//! ends, and `specs/TwoHands.antt` one that is linked too late, with all words of the table.
+//! `specs/FirstVertex.antt` has the first eight events of a table, `specs/Worked.antt` an edge that is
+//! overtaken before its call ends, and `specs/TwoHands.antt` one that is linked too late, with all words of the
+//! table.
 
 ghost use Rattle.std.specs.Prelude.{◌≡◌, [], ◌∷◌};
 ghost use Rattle.graph_kinds.specs.History.{Every, IsLegal};
@@ -17,7 +18,8 @@ ghost use Rattle.core_journal.specs.State.{state, Linked, Spent};
 ghost use Rattle.core_journal.specs.TwoHands.{hands_journal, hands_books, hands_history, hands_words, late_entry};
 ghost use Rattle.core_journal.specs.Worked.{first_life, small, worked_journal, worked_books, worked_history, one_key};
 
-/// The words of a small table before and after its first eight events, which add the vertex of key 7, and what they mean.
+/// The words of a small table before and after its first eight events, which add the vertex of key 7, and what
+/// they mean.
 pub fn eight_events_write_these_words()
     ensures before { opening_words tiny ≡ words_before }
     ensures after { machine tiny eight_events ≡ words_after }
@@ -28,8 +30,8 @@ pub fn eight_events_write_these_words()
     ensures graph { graph_of eight_events ≡ key_seven }
 {}
 
-/// A node is given back and taken for a second life, which is safe: its first life is over, and the pass that is open was
-/// announced after the end.
+/// A node is given back and taken for a second life, which is safe: its first life is over, and the pass that
+/// is open was announced after the end.
 pub fn a_second_life_is_safe()
     ensures words { machine tiny second_life ≡ words_again }
     ensures node { ((state tiny second_life).node 0).tag ≡ 2 }
@@ -38,8 +40,9 @@ pub fn a_second_life_is_safe()
     ensures reuse { ReusesSafely tiny second_life }
 {}
 
-/// The edges of a removed vertex are handed over once its list is frozen up to them: the second edge, which another caller marked,
-/// stays linked until the first is frozen, and is then spent by the caller who unlinked the vertex. Its life ended before that.
+/// The edges of a removed vertex are handed over once its list is frozen up to them: the second edge, which
+/// another caller marked, stays linked until the first is frozen, and is then spent by the caller who unlinked
+/// the vertex. Its life ended before that.
 pub fn a_closed_list_is_handed_over()
     ensures edges { (state small closed_list).edges 0 ≡ 3 ∷ 4 ∷ [] }
     ensures bucket { (state small closed_list).bucket 0 ≡ 1 ∷ 2 ∷ [] }
@@ -50,8 +53,8 @@ pub fn a_closed_list_is_handed_over()
     ensures ends { EndsAt closed_list (first_life 4) 9 }
 {}
 
-/// An edge is linked, and its target is removed before the call ends: the journal is regular, its books are true, their
-/// history is as worked out by hand and legal, and the graph has the one key 1.
+/// An edge is linked, and its target is removed before the call ends: the journal is regular, its books are
+/// true, their history is as worked out by hand and legal, and the graph has the one key 1.
 pub fn an_overtaken_edge_is_legal()
     ensures regular { IsRegular worked_journal }
     ensures apart { CallersApart worked_books }
@@ -62,8 +65,9 @@ pub fn an_overtaken_edge_is_legal()
     ensures legal { IsLegal worked_history one_key }
 {}
 
-/// Two hands, from the opening on: an edge is linked to a vertex that is already removed. The words, the lists and the graph
-/// are as worked out by hand, the books are true, one of them by a late entry, and their history is legal.
+/// Two hands, from the opening on: an edge is linked to a vertex that is already removed. The words, the lists
+/// and the graph are as worked out by hand, the books are true, one of them by a late entry, and their history
+/// is legal.
 pub fn a_late_edge_is_legal()
     ensures words { machine small hands_journal ≡ hands_words }
     ensures free { (state small hands_journal).free ≡ 3 ∷ 4 ∷ 5 ∷ 6 ∷ 7 ∷ [] }
