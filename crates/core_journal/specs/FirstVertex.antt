@@ -9,6 +9,7 @@ use Rattle.core_journal.specs.declared.event.Event.{Event}
 use Rattle.core_journal.specs.Event.{blank}
 use Rattle.core_journal.specs.Worked.{first_life}
 
+-- a table for one caller, with two nodes and one bucket
 abbrev pub tiny : Sizes
 tiny = record { callers = 1; nodes = 2; buckets = 1 }
 

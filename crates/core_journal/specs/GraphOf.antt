@@ -35,9 +35,11 @@ pair_between journal link = weighed link.weight (both (present_key journal link.
 abbrev pub present_pair : List Event → Life → Option ((ℕ × ℕ) × ℕ)
 present_pair journal x = cond (edge_marked journal x) None (option_and_then (pair_between journal) (link_of journal x))
 
+-- the key that a vertex link leaves in the graph
 abbrev pub key_by : List Event → Event → Option ℕ
 key_by journal e = cond (links_vertex e.kind) (present_key journal e.life) None
 
+-- the pair that an edge link leaves in the graph
 abbrev pub pair_by : List Event → Event → Option ((ℕ × ℕ) × ℕ)
 pair_by journal e = cond (links_edge e.kind) (present_pair journal e.life) None
 
@@ -53,15 +55,17 @@ graph_of journal = record {
 abbrev pub ends_of : List Event → Event → Option (ℕ × ℕ)
 ends_of past link = both (key_of past link.source) (key_of past link.target)
 
--- the event that linked the edge which an edge event is about
+-- the event that linked an edge, by the kind of an event on it
 abbrev pub edge_by : Kind → List Event → Event → Option Event
 edge_by LinkEdge past e = Some e
 edge_by MarkEdge past e = link_of past e.life
 edge_by _ past e = None
 
+-- the event that linked the edge which an edge event is about
 abbrev pub edge_of : List Event → Event → Option Event
 edge_of past e = edge_by e.kind past e
 
+-- the call of an event of each kind
 abbrev pub call_by : Kind → List Event → Event → Option Call
 call_by LinkVertex past e = Some (AddVertex e.key)
 call_by MarkVertex past e = option_map RemoveVertex (key_of past e.life)
@@ -73,6 +77,7 @@ call_by _ past e = None
 abbrev pub call_of : List Event → Event → Option Call
 call_of past e = call_by e.kind past e
 
+-- whether two pairs with their weights are one
 abbrev pub same_pair : (ℕ × ℕ) × ℕ → (ℕ × ℕ) × ℕ → Bool
 same_pair x y = (x.0.0 == y.0.0) && ((x.0.1 == y.0.1) && (x.1 == y.1))
 
@@ -96,6 +101,7 @@ pub record IsRegularEvent (past : List Event) (e : Event) : Type 0 where
   pub removal : marks_vertex e.kind ≡ true → changes past e ≡ true
   pub carried : changes past e ≡ true → CarriesOut past e
 
+-- events that are regular behind others
 abbrev pub RegularFrom : List Event → List Event → Type 0
 RegularFrom past [] = Unit {0}
 RegularFrom past (e ∷ es) = IsRegularEvent past e × RegularFrom (past ++ e ∷ []) es

@@ -14,9 +14,11 @@ pub record Turn : Type 0 where
   pub caller : ℕ
   pub call : Option Call
 
+-- the turn of an event behind others
 abbrev pub turn : List Event → Event → Turn
 turn past e = record { caller = e.caller; call = cond (changes past e) (call_of past e) None }
 
+-- the turns of events behind others
 abbrev pub turns_from : List Event → List Event → List Turn
 turns_from past [] = []
 turns_from past (e ∷ es) = turn past e ∷ turns_from (past ++ e ∷ []) es
@@ -25,6 +27,7 @@ turns_from past (e ∷ es) = turn past e ∷ turns_from (past ++ e ∷ []) es
 unfoldable pub turns : List Event → List Turn
 turns journal = turns_from [] journal
 
+-- whether two classes are one
 abbrev pub same_class : Class → Class → Bool
 same_class Silent Silent = true
 same_class Late Late = true
@@ -61,6 +64,7 @@ abbrev pub history_from : ℕ → List Turn → List Book → List Item
 history_from p [] books = entries_at Silent p books ++ (entries_at Late p books ++ entries_at Own p books)
 history_from p (t ∷ ts) books = items_at p t books ++ history_from (p + 1) ts books
 
+-- the history of turns and books
 unfoldable pub history_of : List Turn → List Book → List Item
 history_of turns books = history_from 0 turns books
 

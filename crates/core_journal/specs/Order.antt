@@ -14,6 +14,7 @@ pub record Placed : Type 0 where
   pub class : Class
   pub item : Item
 
+-- items with one place and class
 abbrev pub placed : ℕ → Class → List Item → List Placed
 placed p c items = map (λ (i : Item). record { place = p; class = c; item = i }) items
 
@@ -28,6 +29,7 @@ placed_from p (t ∷ ts) books =
     placed_at p (entries_at Silent p books) (entries_at Late p books) (or_running t (entries_at Own p books))
     ++ placed_from (p + 1) ts books
 
+-- silent comes before late, and late before own
 abbrev pub rank : Class → ℕ
 rank Silent = 0
 rank Late = 1

@@ -25,6 +25,7 @@ use Rattle.core_journal.specs.History.{stands}
 abbrev pub graph_at : List Event → ℕ → Graph
 graph_at journal p = graph_of (take p journal)
 
+-- whether a class is that of silent entries
 abbrev pub is_silent : Class → Bool
 is_silent Silent = true
 is_silent _ = false
@@ -38,6 +39,7 @@ pub record InFrame (n least : ℕ) (e : Entry) : Type 0 where
   pub within : e.end ≤ n
   pub before : is_silent e.class ≡ false → e.place < e.end
 
+-- entries that are framed behind a number, in a journal of n events
 abbrev pub FramedFrom : ℕ → ℕ → List Entry → Type 0
 FramedFrom n least [] = Unit {0}
 FramedFrom n least (e ∷ es) = InFrame n least e × FramedFrom n e.end es
@@ -135,6 +137,7 @@ pub record RightLate (journal : List Event) (caller : ℕ) (e : Entry) : Type 0 
   pub made_by : made.caller ≡ caller
   pub made_call : call_of (take number journal) made ≡ Some e.call
 
+-- an entry is right as one of a class
 abbrev pub RightAs : Class → Sizes → List Event → ℕ → Entry → Type 0
 RightAs Silent sizes journal caller e = RightSilent e.answer.outcome sizes journal caller e
 RightAs Late sizes journal caller e = RightLate journal caller e

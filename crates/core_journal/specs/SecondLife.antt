@@ -27,6 +27,7 @@ given_back =
 abbrev pub taken_again : Event
 taken_again = record blank { kind = PopFree; place = 3; word = 100663297; life = record { index = 0; tag = 2 } }
 
+-- all events
 abbrev pub second_life : List Event
 second_life = (eight_events ++ given_back) ++ taken_again ∷ []
 

@@ -53,6 +53,7 @@ pub record State : Type 0 where
   pub edges : ℕ → List ℕ
   pub frozen : ℕ → Bool
 
+-- whether a node is linked
 abbrev pub is_linked : Mode → Bool
 is_linked Linked = true
 is_linked _ = false
@@ -189,6 +190,7 @@ opening sizes = record {
   frozen = λ x. false;
 }
 
+-- a state with events behind it
 abbrev pub state_from : Sizes → State → List Event → State
 state_from sizes s [] = s
 state_from sizes s (e ∷ es) = state_from sizes (state_by e.kind sizes e s) es

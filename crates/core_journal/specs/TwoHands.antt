@@ -81,6 +81,7 @@ overtaken_edge =
     ∷ withdraws 1
     ∷ []
 
+-- all events
 abbrev pub hands_journal : List Event
 hands_journal = two_vertices ++ overtaken_edge
 
@@ -92,6 +93,7 @@ late_entry = record { call = AddEdge 1 2 5; tries = 1; answer = plain Overtaken;
 abbrev pub look_up : Entry
 look_up = record { call = HasEdge 1 2; tries = 1; answer = plain NoVertex; class = Silent; place = 32; start = 29; end = 33 }
 
+-- the calls of the two callers
 abbrev pub hands_books : List Book
 hands_books =
     record { caller = 0; entries = own (AddVertex 1) Added 8 1 10 ∷ own (AddVertex 2) Added 16 10 18 ∷ late_entry ∷ [] }

@@ -51,6 +51,7 @@ first_book = record {
 abbrev pub second_book : Book
 second_book = record { caller = 1; entries = own (RemoveVertex 2) (Removed 0) 3 0 4 ∷ [] }
 
+-- the books of both
 abbrev pub worked_books : List Book
 worked_books = first_book ∷ second_book ∷ []
 
