@@ -1,6 +1,7 @@
 -- What was linked, marked or unlinked stays so in a longer journal.
-use Rattle.std.proofs.Common.{◌≡◌, ℕ, true, ◌&&◌, List, ◌++◌, Option, Some, None, find, refl, ap, ◌∙◌}
-use Rattle.std.specs.Prelude.{option_map}
+use Rattle.std.proofs.Common.{◌≡◌, ℕ, Bool, true, false, cond, ◌&&◌, ◌||◌, List, [], ◌∷◌, ◌++◌, Option, Some, None, find, refl, ap, ◌∙◌}
+use Rattle.std.specs.Prelude.{option_map, is_some}
+use Rattle.std.specs.List.{list_any}
 use Rattle.packed_link.specs.declared.link.Life.{Life}
 use Rattle.core_journal.specs.declared.event.Event.{Event}
 use Rattle.core_journal.specs.Event.{same_life, links_vertex, marks_vertex, links_edge, marks_edge, unlinks, freezes_head}
@@ -39,3 +40,21 @@ unlinked_more past more x h = any_more (λ (e : Event). unlinks e.kind && same_l
 
 pub head_frozen_more : (past more : List Event) (x : Life) → head_frozen past x ≡ true → head_frozen (past ++ more) x ≡ true
 head_frozen_more past more x h = any_more (λ (e : Event). freezes_head e.kind && same_life x e.life) past more h
+
+any_found : {A : Type 0} (test : A → Bool) (xs : List A) → list_any test xs ≡ is_some (find test xs)
+any_found test [] = refl
+any_found test (x ∷ xs) = elim (test x) as (λ b. (b || list_any test xs) ≡ is_some (cond b (Some x) (find test xs))) [ true ↦ refl | false ↦ any_found test xs ]
+
+-- a vertex life is linked where it has a key
+pub linked-key : (journal : List Event) (x : Life) → vertex_linked journal x ≡ is_some (key_of journal x)
+unfolding key_of
+linked-key journal x = any_found (λ (e : Event). links_vertex e.kind && same_life x e.life) journal ∙ by (find (λ (e : Event). links_vertex e.kind && same_life x e.life) journal)
+  where
+    by : (o : Option Event) → is_some o ≡ is_some (option_map (λ (e : Event). e.key) o)
+    by None = refl
+    by (Some e) = refl
+
+-- an edge life is linked where it has a link
+pub linked-link : (journal : List Event) (x : Life) → edge_linked journal x ≡ is_some (link_of journal x)
+unfolding link_of
+linked-link journal x = any_found (λ (e : Event). links_edge e.kind && same_life x e.life) journal

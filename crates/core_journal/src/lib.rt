@@ -21,7 +21,9 @@ pub use history::{
     a_call_extends_its_book, books_of_fronts_stay, closed_history_interleaves,
     closed_history_is_answered, history_is_in_order, history_is_legal, history_keeps_orders,
 };
-pub use lives::{fronts_are_journals, marks_and_links_stay, prefixes_chain, reuse_goes_on};
+pub use lives::{
+    fronts_are_journals, links_are_found, marks_and_links_stay, prefixes_chain, reuse_goes_on,
+};
 pub use words::{events_change_the_state, events_write_their_words};
 pub use worked::{
     a_closed_list_is_handed_over, a_late_edge_is_legal, a_second_life_is_safe,

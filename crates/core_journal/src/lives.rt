@@ -1,6 +1,6 @@
 //! The laws of prefixes and lives: what a front shows stays true.
 
-ghost use Rattle.std.specs.Prelude.{◌≡◌, ℕ, ◌≤◌, List, ◌∷◌, [], ◌++◌, Option, Some, true, length, slice_get, take};
+ghost use Rattle.std.specs.Prelude.{◌≡◌, ℕ, ◌≤◌, List, ◌∷◌, [], ◌++◌, Option, Some, true, length, slice_get, take, is_some};
 ghost use Rattle.packed_link.specs.Layout.{Sizes};
 ghost use Rattle.packed_link.specs.declared.link.Life.{Life};
 ghost use Rattle.core_journal.specs.declared.event.Event.{Event};
@@ -57,4 +57,10 @@ pub fn marks_and_links_stay()
         → key_of front x ≡ Some key → key_of journal x ≡ Some key }
     ensures edge { (front journal : List Event) (x : Life) (link : Event) → IsPrefix front journal
         → link_of front x ≡ Some link → link_of journal x ≡ Some link }
+{}
+
+/// A vertex life is linked where it has a key, and an edge life where it has a link.
+pub fn links_are_found()
+    ensures vertex { (journal : List Event) (x : Life) → vertex_linked journal x ≡ is_some (key_of journal x) }
+    ensures edge { (journal : List Event) (x : Life) → edge_linked journal x ≡ is_some (link_of journal x) }
 {}
