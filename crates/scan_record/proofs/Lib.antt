@@ -1,0 +1,4 @@
+pub mod Edges
+pub mod Places
+pub mod Starts
+pub mod Vertices
