@@ -30,7 +30,7 @@ all_places P s k is h all p from to =
     let inside : n < (row_at s k).count = omega arith in
     let place : (row_at s k).first + n ≡ p = omega arith in
     subst (λ (q : ℕ). P (edge_at s q)) place (subst P (get_or-edges_of s (row_at s k) n inside)
-      (All-get_or P (edges_of s (row_at s k)) n blank_edge (rw (length-edges_of s k is h) inside) all))
+    (All-get_or P (edges_of s (row_at s k)) n blank_edge (rw (length-edges_of s k is h) inside) all))
 
 -- the row started last as it is after the push
 abbrev pub longer_row : ScanValue → VertexRow
@@ -56,9 +56,9 @@ IsScan-with_edge s edge is room some weighed target rising key_fits weight_fits 
     let none_past : (k : ℕ) → s.next ≤ k → k < length s.rows → (row_at s k).count ≡ 0 = λ k past h. ap (λ (r : VertexRow). r.count) (is.not_started k past h) in
     let ends : (row_at s i).first + (row_at s i).count ≡ length s.edges = is.last_ends some in
     let written = λ (P : ℕ → VertexRow → Type 0) (others : (k : ℕ) → k < length s.rows → k ≢ i → P k (row_at s k)) (this : P i row).
-      each_written P s.rows i row (new_row blank_life 0) inside others this in
+    each_written P s.rows i row (new_row blank_life 0) inside others this in
     let pushed = λ (P : ℕ → EdgeRow → Type 0) (olds : (p : ℕ) → p < length s.edges → P p (edge_at s p)) (this : P (length s.edges) edge).
-      each_pushed P s.edges edge blank_edge olds this in
+    each_pushed P s.edges edge blank_edge olds this in
     record {
       few_nodes = is.few_nodes;
       rows_fit = omega (arith, is.rows_fit);
@@ -78,45 +78,45 @@ IsScan-with_edge s edge is room some weighed target rising key_fits weight_fits 
       edges_end = written (λ k r. r.first + r.count ≤ length (s.edges ++ edge ∷ [])) (λ k h _. let e = is.edges_end k h in omega arith) (omega arith);
       last_ends = λ _. rw here (omega arith);
       apart = λ j k lt h more_than_none. written (λ n r. j < n → 0 < r.count → (row_at (with_edge s edge) j).first + (row_at (with_edge s edge) j).count ≤ r.first)
-        (λ n within other l c. elim (cases_eq j i) as (λ _. (row_at (with_edge s edge) j).first + (row_at (with_edge s edge) j).count ≤ (row_at s n).first) [
-          | inl this ↦ let none : (row_at s n).count ≡ 0 = none_past n (omega arith) within in absurd (omega arith)
-          | inr apart ↦ rw (there j apart) (is.apart j n l within c)
-        ])
-        (λ l c. rw (there j (omega arith)) (elim (cases_lt 0 (row_at s i).count) as (λ _. (row_at s j).first + (row_at s j).count ≤ (row_at s i).first) [
-          | inl held ↦ is.apart j i l inside held
-          | inr none ↦ let before = is.edges_end j (omega arith) in omega arith
-        ])) k h lt more_than_none;
+          (λ n within other l c. elim (cases_eq j i) as (λ _. (row_at (with_edge s edge) j).first + (row_at (with_edge s edge) j).count ≤ (row_at s n).first) [
+            | inl this ↦ let none : (row_at s n).count ≡ 0 = none_past n (omega arith) within in absurd (omega arith)
+            | inr apart ↦ rw (there j apart) (is.apart j n l within c)
+          ])
+          (λ l c. rw (there j (omega arith)) (elim (cases_lt 0 (row_at s i).count) as (λ _. (row_at s j).first + (row_at s j).count ≤ (row_at s i).first) [
+            | inl held ↦ is.apart j i l inside held
+            | inr none ↦ let before = is.edges_end j (omega arith) in omega arith
+          ])) k h lt more_than_none;
       held = λ p h. elim (cases_lt p (length s.edges)) as (λ _. (k : ℕ) × (k < length (set s.rows i row)) × ((row_at (with_edge s edge) k).first ≤ p) × (p < (row_at (with_edge s edge) k).first + (row_at (with_edge s edge) k).count)) [
         | inl before ↦ let r = is.held p before in
-          elim (cases_eq r.0 i) as (λ _. (k : ℕ) × (k < length (set s.rows i row)) × ((row_at (with_edge s edge) k).first ≤ p) × (p < (row_at (with_edge s edge) k).first + (row_at (with_edge s edge) k).count)) [
-            | inl this ↦
-              let start : (row_at s i).first ≤ p = subst (λ (n : ℕ). (row_at s n).first ≤ p) this r.2 in
-              let end : p < (row_at s i).first + (row_at s i).count = subst (λ (n : ℕ). p < (row_at s n).first + (row_at s n).count) this r.3 in
-              (i, omega arith, subst (λ (v : VertexRow). v.first ≤ p) (sym here) start, subst (λ (v : VertexRow). p < v.first + v.count) (sym here) (omega arith))
-            | inr other ↦
-              (r.0, omega (arith, r.1), subst (λ (v : VertexRow). v.first ≤ p) (sym (there r.0 other)) r.2, subst (λ (v : VertexRow). p < v.first + v.count) (sym (there r.0 other)) r.3)
-          ]
+            elim (cases_eq r.0 i) as (λ _. (k : ℕ) × (k < length (set s.rows i row)) × ((row_at (with_edge s edge) k).first ≤ p) × (p < (row_at (with_edge s edge) k).first + (row_at (with_edge s edge) k).count)) [
+              | inl this ↦
+                  let start : (row_at s i).first ≤ p = subst (λ (n : ℕ). (row_at s n).first ≤ p) this r.2 in
+                  let end : p < (row_at s i).first + (row_at s i).count = subst (λ (n : ℕ). p < (row_at s n).first + (row_at s n).count) this r.3 in
+                  (i, omega arith, subst (λ (v : VertexRow). v.first ≤ p) (sym here) start, subst (λ (v : VertexRow). p < v.first + v.count) (sym here) (omega arith))
+              | inr other ↦
+                  (r.0, omega (arith, r.1), subst (λ (v : VertexRow). v.first ≤ p) (sym (there r.0 other)) r.2, subst (λ (v : VertexRow). p < v.first + v.count) (sym (there r.0 other)) r.3)
+            ]
         | inr past ↦ (i, omega arith, subst (λ (v : VertexRow). v.first ≤ p) (sym here) (omega arith), subst (λ (v : VertexRow). p < v.first + v.count) (sym here) (omega arith))
       ];
       rising = λ k p q h start lt end. written (λ n r. r.first ≤ p → q < r.first + r.count → (edge_at (with_edge s edge) p).key < (edge_at (with_edge s edge) q).key)
-        (λ n within _ f t. let e = is.edges_end n within in rw (old_edge p (omega arith), old_edge q (omega arith)) (is.rising n p q within f lt t))
-        (λ f t. elim (cases_lt q (length s.edges)) as (λ _. (edge_at (with_edge s edge) p).key < (edge_at (with_edge s edge) q).key) [
-          | inl before ↦ rw (old_edge p (omega arith), old_edge q before) (is.rising i p q inside f lt (omega arith))
-          | inr past ↦
-            let last : length s.edges ≡ q = omega arith in
-            let new : edge_at (with_edge s edge) q ≡ edge = get_or_push s.edges edge blank_edge q last in
-            rw (old_edge p (omega arith), new) (all_places (λ e. e.key < edge.key) s i is inside rising p f (omega arith))
-        ]) k h start end;
+          (λ n within _ f t. let e = is.edges_end n within in rw (old_edge p (omega arith), old_edge q (omega arith)) (is.rising n p q within f lt t))
+          (λ f t. elim (cases_lt q (length s.edges)) as (λ _. (edge_at (with_edge s edge) p).key < (edge_at (with_edge s edge) q).key) [
+            | inl before ↦ rw (old_edge p (omega arith), old_edge q before) (is.rising i p q inside f lt (omega arith))
+            | inr past ↦
+                let last : length s.edges ≡ q = omega arith in
+                let new : edge_at (with_edge s edge) q ≡ edge = get_or_push s.edges edge blank_edge q last in
+                rw (old_edge p (omega arith), new) (all_places (λ e. e.key < edge.key) s i is inside rising p f (omega arith))
+          ]) k h start end;
       edge_key_fits = pushed (λ p e. e.key < 2 ^ 32) is.edge_key_fits key_fits;
       weighed = pushed (λ p e. 1 ≤ e.weight) is.weighed weighed;
       weight_fits = pushed (λ p e. e.weight < 2 ^ 32) is.weight_fits weight_fits;
       targets_are_rows = λ p t h e. subst (λ (n : ℕ). t < n) (sym same)
-        (pushed (λ n v. v.target ≡ Some t → t < length s.rows) (λ n within to. is.targets_are_rows n t within to) (λ to. target_row edge.target (length s.rows) t target to) p h e)
+          (pushed (λ n v. v.target ≡ Some t → t < length s.rows) (λ n within to. is.targets_are_rows n t within to) (λ to. target_row edge.target (length s.rows) t target to) p h e);
     }
 
 -- what the fields hold after the push
 pub edge_stored : (a b : Inside) (s : ScanValue) (edge : EdgeRow) → IsStored a → scan_of a ≡ s → length s.edges < s.nodes → 0 < s.next → 1 ≤ edge.weight → ForSome edge.target (λ row. row < length s.rows) → All (λ e. e.key < edge.key) (last_edges s) → edge.key < 2 ^ 32 → edge.weight < 2 ^ 32
-  → scan_of b ≡ with_edge (scan_of a) edge → b.numbers.items ≡ a.numbers.items → HasRoom b → IsStored b
+    → scan_of b ≡ with_edge (scan_of a) edge → b.numbers.items ≡ a.numbers.items → HasRoom b → IsStored b
 edge_stored a b s edge stored is room some weighed target rising key_fits weight_fits now table there =
     let one : IsScan s = subst IsScan is stored.scan in
     let i : ℕ = a.next - 1 in
@@ -125,7 +125,7 @@ edge_stored a b s edge stored is room some weighed target rising key_fits weight
       scan = subst IsScan (ap (λ (v : ScanValue). with_edge v edge) (sym is) ∙ sym now) (IsScan-with_edge s edge one room some weighed target rising key_fits weight_fits);
       entries = ap length table ∙ stored.entries ∙ sym (ap (λ (v : ScanValue). v.nodes) now);
       known = subst (Knows b.numbers.items) (sym now) (subst (λ (numbers : List ℕ). Knows numbers (with_edge (scan_of a) edge)) (sym table)
-        (Knows-lives a.numbers.items (scan_of a) (set a.rows.items i row) (length-set a.rows.items i row)
+          (Knows-lives a.numbers.items (scan_of a) (set a.rows.items i row) (length-set a.rows.items i row)
           (told_written (λ (r : VertexRow). r.life) a.rows.items i row (new_row blank_life 0) refl) stored.known));
-      room = there
+      room = there;
     }

@@ -1,4 +1,7 @@
-pub mod Edges
 pub mod Places
-pub mod Starts
 pub mod Vertices
+pub mod Starts
+pub mod Edges
+pub mod Rising
+pub mod GraphOfScan
+pub mod IsGraphOfScan

@@ -9,9 +9,9 @@ pub each_pushed : {X : Type 0} (P : ℕ → X → Type 0) (xs : List X) (y d : X
 each_pushed P xs y d here there k h = elim (cases_lt k (length xs)) as (λ _. P k (get_or (xs ++ y ∷ []) k d)) [
   | inl lt ↦ subst (P k) (sym (get_or_append_left xs (y ∷ []) d k lt)) (here k lt)
   | inr ge ↦
-    let more : length (xs ++ y ∷ []) ≡ length xs + 1 = length_push xs y in
-    let last : length xs ≡ k = omega arith in
-    subst (P k) (sym (get_or_push xs y d k last)) (subst (λ (n : ℕ). P n y) last there)
+      let more : length (xs ++ y ∷ []) ≡ length xs + 1 = length_push xs y in
+      let last : length xs ≡ k = omega arith in
+      subst (P k) (sym (get_or_push xs y d k last)) (subst (λ (n : ℕ). P n y) last there)
 ]
 
 -- what holds at each other place of a list, and of an item at the place i, holds at each place after the write at i

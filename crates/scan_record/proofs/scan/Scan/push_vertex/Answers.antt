@@ -14,5 +14,5 @@ invariant_of-self c = vertex_stored c.self.inside _ c.args.self.now c.args.life 
       costs = omega arith;
       slot_zero = omega arith;
       slot_one = omega arith;
-      slot_two = omega arith
+      slot_two = omega arith;
     })
