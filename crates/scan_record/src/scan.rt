@@ -284,3 +284,112 @@ impl Scan {
         }
     }
 }
+
+#[cfg(test)]
+mod tests {
+    use super::*;
+    use std::test::Fail;
+
+    const FIRST: Life = Life { index: 3, tag: 1 };
+
+    const SECOND: Life = Life { index: 1, tag: 2 };
+
+    // 7 with an edge to 9 and one whose target is gone, and 9 with none.
+    fn worked(alloc: Global) -> Result<Scan, Memory> {
+        let mut scan = Scan::new(alloc, 5)?;
+        scan.push_vertex(FIRST, 7);
+        scan.push_vertex(SECOND, 9);
+        scan.start_edges(0, 11, 21);
+        scan.push_edge(EdgeRow {
+            life: FIRST,
+            link: 32,
+            key: 9,
+            weight: 5,
+            target: Some(1),
+        });
+        scan.push_edge(EdgeRow {
+            life: SECOND,
+            link: 34,
+            key: 12,
+            weight: 3,
+            target: None,
+        });
+        scan.start_edges(1, 12, 22);
+        Ok(scan)
+    }
+
+    #[test]
+    fn a_worked_scan_is_read_back(rt: HostRuntime) -> Result<(), Fail> {
+        let scan = worked(rt.alloc())?;
+        let rows = [
+            VertexRow {
+                life: FIRST,
+                key: 7,
+                counter: 11,
+                head: 21,
+                first: 0,
+                count: 2,
+            },
+            VertexRow {
+                life: SECOND,
+                key: 9,
+                counter: 12,
+                head: 22,
+                first: 2,
+                count: 0,
+            },
+        ];
+        let edges = [(32, 9, 5, Some(1)), (34, 12, 3, None)];
+        assert_eq!(rt; (scan.vertices(), scan.edges()), (2, 2));
+        for (row, expected) in (0..2).zip(rows) {
+            assert!(rt; row < scan.vertices());
+            assert_eq!(rt; scan.vertex(row), expected);
+        }
+        for (place, expected) in (0..2).zip(edges) {
+            assert!(rt; place < scan.edges());
+            let edge = scan.edge(place);
+            assert_eq!(rt; (edge.link, edge.key, edge.weight, edge.target), expected);
+        }
+        for (index, tag, row) in [
+            (3, 1, Some(0)),
+            (3, 2, None),
+            (1, 2, Some(1)),
+            (0, 1, None),
+            (9, 1, None),
+        ] {
+            assert_eq!(rt; scan.row_of(Life { index, tag }), row);
+        }
+        Ok(())
+    }
+
+    #[test]
+    fn a_cleared_scan_forgets_its_rows_and_answer(rt: HostRuntime) -> Result<(), Fail> {
+        let mut scan = Scan::new(rt.alloc(), 5)?;
+        scan.push_vertex(FIRST, 7);
+        scan.set_cost(0, 1 << 40);
+        scan.set_work(0, 0, 5);
+        scan.set_work(0, 1, 6);
+        scan.set_work(0, 2, 7);
+        assert_eq!(rt;
+            (
+                scan.cost(0),
+                scan.work(0, 0),
+                scan.work(0, 1),
+                scan.work(0, 2)
+            ),
+            (1 << 40, 5, 6, 7)
+        );
+        scan.put_key(7);
+        scan.put_end(1);
+        assert_eq!(rt;
+            (scan.keys(), scan.ends()),
+            ([7].as_slice(), [1].as_slice())
+        );
+        scan.clear();
+        assert!(rt; scan.keys().is_empty() && scan.ends().is_empty());
+        assert_eq!(rt; (scan.vertices(), scan.row_of(FIRST)), (0, None));
+        assert_eq!(rt; scan.push_vertex(SECOND, 9), 0);
+        assert_eq!(rt; (scan.row_of(FIRST), scan.row_of(SECOND)), (None, Some(0)));
+        Ok(())
+    }
+}
