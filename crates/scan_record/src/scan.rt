@@ -89,12 +89,11 @@ impl Scan {
     pub fn clear(&mut self)
         ensures { self.new ≡ empty_scan self.old.nodes }
     {
+        self.clear_answer();
         self.started = 0;
         self.next = 0;
         self.rows.clear();
         self.edges.clear();
-        self.keys.clear();
-        self.ends.clear();
         self.costs.clear();
         self.slot_zero.clear();
         self.slot_one.clear();
