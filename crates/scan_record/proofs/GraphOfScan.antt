@@ -1,7 +1,7 @@
 -- What the graph of a scan answers, by the rows and edges of the scan.
-use Rattle.std.proofs.Common.{◌≡◌, ◌≢◌, ℕ, zero, suc, ◌+◌, ◌<◌, ◌≤◌, ◌==◌, Bool, true, false, cond, ◌||◌, ◌&&◌, List, [], ◌∷◌, ◌++◌, length, get_or, map, filter_map, Option, Some, None, is_some, inl, inr, refl, sym, ap, subst, arith, ◌∙◌, true≢false}
+use Rattle.std.proofs.Common.{◌≡◌, ◌≢◌, ℕ, zero, suc, ◌+◌, ◌<◌, ◌==◌, true, false, cond, ◌||◌, ◌&&◌, List, [], ◌∷◌, ◌++◌, length, get_or, map, filter_map, Option, Some, None, is_some, inl, inr, refl, sym, ap, subst, arith, ◌∙◌}
 use Rattle.std.specs.Prelude.{All, find, flat_map, option_map}
-use Rattle.std.specs.List.{list_any, cons_option, AllPairs}
+use Rattle.std.specs.List.{list_any, cons_option}
 use Rattle.std.specs.List.Sorted.{IsStrictlyIncreasing}
 use Rattle.std.specs.declared.cmp.Ordering.{Ordering}
 use Rattle.std.specs.declared.cmp.Ordering.TheVariants.{Less, Equal, Greater}
@@ -10,18 +10,17 @@ use Rattle.std.specs.Cmp.{IsTotalOrder, then_total, on_total, nat_cmp_total, uns
 use Rattle.std.specs.FinMap as finmap
 use Rattle.std.specs.FinMap.Entries as entry
 use Rattle.std.specs.FinSet as set
-use Rattle.std.proofs.lemmas.Bool.{cases_eq, cases_lt, eqb-true, ne_eqb}
+use Rattle.std.proofs.lemmas.Bool.{cases_eq, cases_lt, ne_eqb}
 use Rattle.std.proofs.lemmas.List.{get_or_default}
 use Rattle.std.proofs.lemmas.List.Elements.{All-nil, All-cons, All-head, All-tail, All-weaker, All-append, All-from_get_or}
-use Rattle.std.proofs.lemmas.List.Folds.{list_any_at}
-use Rattle.graph_kinds.specs.Graph.{Graph, IsGraph, pair_cmp, has, weight_of, neighbours}
+use Rattle.graph_kinds.specs.Graph.{Graph, pair_cmp, has, weight_of, neighbours}
 use Rattle.graph_kinds.specs.Levels.{stands_in}
 use Rattle.scan_record.specs.declared.rows.VertexRow.{VertexRow}
 use Rattle.scan_record.specs.declared.rows.EdgeRow.{EdgeRow}
 use Rattle.scan_record.specs.Scan.{ScanValue, IsScan, IsComplete, row_at, edge_at, edges_of, new_row, blank_life, blank_edge}
-use Rattle.scan_record.specs.ScanGraph.{pair_of, pairs_of, graph_of_scan, target_key, target_keys, leads_to, weight_to}
+use Rattle.scan_record.specs.ScanGraph.{pair_of, pairs_of, graph_of_scan, target_keys, leads_to, weight_to}
 use Rattle.scan_record.proofs.Edges.{length-edges_of, get_or-edges_of}
-use Rattle.scan_record.proofs.Rising.{Chain, chain_pairs, Rises, rises, any_none, any_place, any_map, itself, same_rising}
+use Rattle.scan_record.proofs.Rising.{Chain, chain_pairs, Rises, rises, any_map, itself, same_rising}
 
 -- what is true at each place of a row is true of all its edges
 pub all_edges : (P : EdgeRow → Type 0) (s : ScanValue) (k : ℕ) → IsScan s → k < length s.rows → ((p : ℕ) → p < length s.edges → P (edge_at s p)) → All P (edges_of s (row_at s k))

@@ -1,15 +1,15 @@
 -- The graph of a complete scan is a graph.
-use Rattle.std.proofs.Common.{◌≡◌, ◌≢◌, ℕ, ◌+◌, ◌<◌, ◌≤◌, ◌==◌, Bool, true, false, cond, ◌&&◌, List, [], ◌∷◌, length, get_or, Option, Some, None, is_some, refl, sym, ap, subst, arith, ◌∙◌, true≢false}
+use Rattle.std.proofs.Common.{◌≡◌, ◌≢◌, ℕ, ◌<◌, ◌≤◌, ◌==◌, true, false, cond, ◌&&◌, List, [], ◌∷◌, length, Some, None, is_some, refl, sym, ap, subst, ◌∙◌, true≢false}
 use Rattle.std.specs.Prelude.{All, find, flat_map, option_map}
 use Rattle.std.specs.List.{list_any}
 use Rattle.std.specs.FinMap as finmap
 use Rattle.std.proofs.lemmas.Bool.{eqb-true}
 use Rattle.std.proofs.lemmas.List.Elements.{All-head, All-tail, All-weaker}
 use Rattle.std.proofs.lemmas.List.Folds.{list_any_at}
-use Rattle.graph_kinds.specs.Graph.{Graph, IsGraph, pair_cmp, has, weight_of}
+use Rattle.graph_kinds.specs.Graph.{IsGraph, weight_of}
 use Rattle.scan_record.specs.declared.rows.VertexRow.{VertexRow}
 use Rattle.scan_record.specs.declared.rows.EdgeRow.{EdgeRow}
-use Rattle.scan_record.specs.Scan.{ScanValue, IsScan, IsComplete, row_at, edge_at, edges_of, new_row, blank_life}
+use Rattle.scan_record.specs.Scan.{ScanValue, IsScan, IsComplete, row_at, edges_of, new_row, blank_life}
 use Rattle.scan_record.specs.ScanGraph.{pairs_of, graph_of_scan, leads_to, weight_to}
 use Rattle.scan_record.proofs.Rising.{any_none, any_place, itself}
 use Rattle.scan_record.proofs.GraphOfScan.{all_edges, pair_total, look_none, all_apart, weights_law, keys_law}

@@ -1,5 +1,5 @@
 -- The graph of a scan: the keys of its vertex rows, and an edge for each edge row that has a target.
-use Rattle.std.specs.Prelude.{ℕ, List, map, flat_map, filter_map, find, Bool, ◌&&◌, ◌==◌, is_some, Option, option_map, option_and_then}
+use Rattle.std.specs.Prelude.{ℕ, List, map, flat_map, filter_map, find, Bool, ◌&&◌, ◌==◌, is_some, Option, option_map}
 use Rattle.std.specs.FinMap as finmap
 use Rattle.std.specs.FinSet as set
 use Rattle.graph_kinds.specs.Graph.{Graph}

@@ -1,5 +1,4 @@
-use Rattle.std.proofs.Common.{ap, arith}
-use Rattle.std.proofs.Math.ListN.{set}
+use Rattle.std.proofs.Common.{arith}
 use Rattle.scan_record.proofs.Vertices.{vertex_stored}
 use Rattle.scan_record.proofs.scan.Scan.push_vertex.Goals as goal
 
