@@ -1,4 +1,7 @@
 //! Laws of the graph of a scan: each is a function that does nothing, and its contract is the law.
+//!
+//! A search over the rows of a complete scan (`IsComplete` of `specs/Scan.antt`) is by them a search over its
+//! graph.
 
 ghost use Rattle.std.specs.Prelude.{◌≡◌, ℕ, ◌<◌, ◌==◌, length};
 ghost use Rattle.std.specs.List.{list_any};

@@ -1,4 +1,7 @@
-//! Pushes that take no memory: each vector of a scan is made with all the room that it will need.
+//! A push that takes no memory.
+//!
+//! Each vector of a scan is made with all the room that it will need, and no call lets it hold more items than
+//! there are nodes: `HasRoom` of `specs/Storage.antt`.
 
 ghost use Rattle.std.specs.Prelude.{◌≡◌, ◌<◌, ◌≤◌, [], ◌∷◌, ◌++◌, vec_len, vec_capacity};
 
