@@ -1,0 +1,11 @@
+//! A region of fixed storage for one collected part of a graph: its rows, an answer and work room.
+#![tactic(auto)]
+
+mod laws;
+mod room;
+mod rows;
+mod scan;
+
+pub use laws::{complete_scans_are_graphs, scan_graph_looked_up};
+pub use rows::{EdgeRow, VertexRow};
+pub use scan::Scan;
