@@ -1,4 +1,5 @@
 pub mod Changes
+pub mod Counting
 pub mod Forgetting
 pub mod Held
 pub mod Outcomes

@@ -49,9 +49,10 @@ pub record Rises (m : Vertices) : Type 0 where
   pub outer : IsOrdered nat_cmp m
   pub inner : (k : ℕ) (edges : Edges) → get nat_cmp m k ≡ Some edges → IsOrdered nat_cmp edges
 
--- what the maps of a plain graph keep: their keys rise, and what they hold is a graph with at most 65,536
--- vertices and edges
-pub record IsKept (m : Vertices) : Type 0 where
+-- what the maps of a plain graph and the count beside them keep: keys rise, what the maps hold is a graph with at
+-- most 65,536 vertices and edges, and the count is that of its edges
+pub record IsKept (m : Vertices) (edges : ℕ) : Type 0 where
   pub rising : Rises m
   pub sound : IsGraph (graph_of m)
   pub few : key_count (graph_of m) + pair_count (graph_of m) ≤ 65536
+  pub counted : edges ≡ pair_count (graph_of m)

@@ -13,7 +13,8 @@ use crate::graph::PlainGraph;
 use graph_kinds::{Answer, Call, Keys, Memory, Outcome};
 
 impl PlainGraph {
-    /// Answers a call, and makes its change. O(V log E) for `RemoveVertex`, O(log V + log E) for the others.
+    /// Answers a call, and makes its change. O(log V + log E); `RemoveVertex` costs O(log V) and the vertex's
+    /// out-degree where no edge is left behind its own, else one look-up for each vertex, O(V log E).
     ///
     /// # Errors
     /// `Memory` where there is no room for a new vertex or edge; the graph is unchanged then.

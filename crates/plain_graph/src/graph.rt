@@ -1,7 +1,7 @@
 //! The graph of one caller, in ordered maps.
 //!
-//! A map has each vertex by its key with the map of its out-edges. Contracts see the graph that the maps hold
-//! (`graph_of`); what the maps keep is `IsKept`, both of `specs/Kept.antt`.
+//! A map has each vertex by its key with the map of its out-edges, and the edges are counted beside it. Contracts
+//! see the graph that the maps hold (`graph_of`); what maps and count keep is `IsKept`, both of `specs/Kept.antt`.
 
 ghost use Rattle.std.specs.Prelude.{◌≡◌, ℕ, ◌+◌, ◌≤◌, ◌<◌, true, OnOk, OnErr};
 ghost use Rattle.std.specs.BTreeMap.{keys};
@@ -21,6 +21,7 @@ use std::marker::Model;
 pub struct PlainGraph {
     alloc: Global,
     vertices: BTreeMap<u32, BTreeMap<u32, u32>>,
+    edges: u32,
 }
 
 impl Model for PlainGraph {
@@ -34,7 +35,7 @@ impl Model for PlainGraph {
 
     ghost view = { λ g. graph_of g.vertices };
 
-    ghost invariant = { λ g. IsKept g.vertices };
+    ghost invariant = { λ g. IsKept g.vertices g.edges };
 }
 
 impl PlainGraph {
@@ -45,6 +46,7 @@ impl PlainGraph {
         PlainGraph {
             alloc,
             vertices: BTreeMap::new(alloc),
+            edges: 0,
         }
     }
 
@@ -72,11 +74,11 @@ impl PlainGraph {
         self.vertices.len() as u32
     }
 
-    /// How many edges there are. O(V).
+    /// How many edges there are. O(1).
     pub fn edge_count(&self) -> u32
         ensures { result ≡ pair_count self.now }
     {
-        maps::edge_count(&self.vertices)
+        self.edges
     }
 
     /// Whether a vertex has the key. O(log V).
@@ -123,20 +125,26 @@ impl PlainGraph {
         ensures ok { OnOk result (self.new ≡ change self.old (Call.AddEdge from to weight)) }
         ensures err { OnErr result (self.new ≡ self.old) }
     {
-        maps::insert_edge(&mut self.vertices, from, to, weight)
+        if maps::insert_edge(&mut self.vertices, from, to, weight)?.is_none() {
+            self.edges += 1;
+        }
+        Ok(())
     }
 
-    /// Takes out a vertex with its edges and the edges to it. O(V log E).
+    /// Takes out a vertex with its edges and the edges to it. O(log V) and its out-degree where no edge is left behind
+    /// its own, else one look-up for each vertex, O(V log E).
     pub(crate) fn cut_vertex(&mut self, key: u32)
         ensures { self.new ≡ change self.old (Call.RemoveVertex key) }
     {
-        maps::remove_vertex(&mut self.vertices, key);
+        self.edges = maps::remove_vertex(&mut self.vertices, self.edges, key);
     }
 
     /// Takes out the edge between two keys. O(log V + log E).
     pub(crate) fn cut_edge(&mut self, from: u32, to: u32)
         ensures { self.new ≡ change self.old (Call.RemoveEdge from to) }
     {
-        maps::remove_edge(&mut self.vertices, from, to);
+        if maps::remove_edge(&mut self.vertices, from, to).is_some() {
+            self.edges -= 1;
+        }
     }
 }

@@ -14,7 +14,7 @@ use graph_kinds::{Answer, Memory, Row};
 use std::alloc::Global;
 
 /// The answers to the rows in their order, from the empty graph, and the graph after the last.
-/// O(n V log E) for n rows.
+/// O(n V log E) for n rows, O(n log n) where none of them adds an edge.
 ///
 /// # Errors
 /// `Memory` where there is no room for the graph or the answers.

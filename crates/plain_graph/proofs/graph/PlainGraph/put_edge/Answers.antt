@@ -1,23 +1,34 @@
-use Rattle.std.proofs.Common.{ap, sym, ◌∙◌}
-use Rattle.std.proofs.lemmas.Result.{on_ok_weaker, on_err_weaker}
+use Rattle.std.proofs.Common.{◌+◌, cond, ap, sym, ◌∙◌, is_some}
+use Rattle.std.proofs.lemmas.Result.{err_from_is_err_and}
 use Rattle.graph_kinds.specs.Graph.{Graph, has}
 use Rattle.plain_graph.proofs.Held.{has-held}
-use Rattle.plain_graph.proofs.Steps.{view-stays, view-add_edge, kept-add_edge}
+use Rattle.plain_graph.proofs.Steps.{view-stays, kept-stays, view-add_edge, kept-add_edge}
 use Rattle.plain_graph.proofs.graph.PlainGraph.put_edge.Goals as goal
 
 pub insert_edge-requires-clause-there : goal.insert_edge-requires-clause-there
 insert_edge-requires-clause-there c = sym (has-held c.self.inside.vertices c.args.from) ∙ (ap (λ (g : Graph). has g c.args.from) c.self.view_is ∙ c.requires.from_key)
 
 pub invariant_of-self : goal.invariant_of-self
-invariant_of-self c = kept-add_edge c.self.inside.vertices c.insert_edge.new.vertices c.args.self.now c.self.view_is c.self.invariant c.insert_edge.ensures.rises c.args.from c.args.to
-    c.insert_edge.ensures.keys c.args.weight c.insert_edge.result c.requires.from_key c.requires.to_key c.requires.weighed c.requires.room c.insert_edge.ensures.weights c.insert_edge.ensures.stays
+invariant_of-self c = kept-stays c.self.inside.vertices c.insert_edge.new.vertices c.args.self.now c.self.view_is c.self.invariant c.in_err-insert_edge.ensures.rises c.in_err-insert_edge.ensures.keys c.in_err-insert_edge.ensures.stays
 
-pub returns-clause-ok : goal.returns-clause-ok
-returns-clause-ok c = on_ok_weaker c.insert_edge.result
-    (λ weights. view-add_edge c.self.inside.vertices c.insert_edge.new.vertices c.args.self.now c.self.view_is c.self.invariant c.insert_edge.ensures.rises c.args.from c.args.to c.insert_edge.ensures.keys c.args.weight weights)
-    c.insert_edge.ensures.weights
+pub returns-in_err-insert_edge-clause-err : goal.returns-in_err-insert_edge-clause-err
+returns-in_err-insert_edge-clause-err c = let p = err_from_is_err_and c.from_residual.result c.from_residual.ensures.1 in rw p.1
+    (view-stays c.self.inside.vertices c.insert_edge.new.vertices c.args.self.now c.self.view_is c.self.invariant c.in_err-insert_edge.ensures.rises c.in_err-insert_edge.ensures.keys c.in_err-insert_edge.ensures.stays)
 
-pub returns-clause-err : goal.returns-clause-err
-returns-clause-err c = on_err_weaker c.insert_edge.result
-    (λ weights. view-stays c.self.inside.vertices c.insert_edge.new.vertices c.args.self.now c.self.view_is c.self.invariant c.insert_edge.ensures.rises c.insert_edge.ensures.keys weights)
-    c.insert_edge.ensures.stays
+pub invariant_of-self-then-is_none : goal.invariant_of-self-then-is_none
+invariant_of-self-then-is_none c = kept-add_edge c.self.inside.vertices c.insert_edge.new.vertices c.args.self.now c.self.view_is c.self.invariant c.in_ok-insert_edge.ensures.rises c.args.from c.args.to
+    c.in_ok-insert_edge.ensures.keys c.args.weight c.requires.from_key c.requires.to_key c.requires.weighed c.requires.room c.in_ok-insert_edge.ensures.weights
+    _ (ap (λ t. cond t c.self.inside.edges (c.self.inside.edges + 1)) (sym c.if-is_none.ensures ∙ ap is_some c.in_ok-insert_edge.ensures.before))
+
+pub invariant_of-self-else-is_none : goal.invariant_of-self-else-is_none
+invariant_of-self-else-is_none c = kept-add_edge c.self.inside.vertices c.insert_edge.new.vertices c.args.self.now c.self.view_is c.self.invariant c.in_ok-insert_edge.ensures.rises c.args.from c.args.to
+    c.in_ok-insert_edge.ensures.keys c.args.weight c.requires.from_key c.requires.to_key c.requires.weighed c.requires.room c.in_ok-insert_edge.ensures.weights
+    _ (ap (λ t. cond t c.self.inside.edges (c.self.inside.edges + 1)) (sym c.if-is_none.ensures ∙ ap is_some c.in_ok-insert_edge.ensures.before))
+
+pub returns-then-is_none-clause-ok : goal.returns-then-is_none-clause-ok
+returns-then-is_none-clause-ok c = view-add_edge c.self.inside.vertices c.insert_edge.new.vertices c.args.self.now c.self.view_is c.self.invariant c.in_ok-insert_edge.ensures.rises c.args.from c.args.to
+    c.in_ok-insert_edge.ensures.keys c.args.weight c.in_ok-insert_edge.ensures.weights
+
+pub returns-else-is_none-clause-ok : goal.returns-else-is_none-clause-ok
+returns-else-is_none-clause-ok c = view-add_edge c.self.inside.vertices c.insert_edge.new.vertices c.args.self.now c.self.view_is c.self.invariant c.in_ok-insert_edge.ensures.rises c.args.from c.args.to
+    c.in_ok-insert_edge.ensures.keys c.args.weight c.in_ok-insert_edge.ensures.weights
