@@ -1,0 +1,13 @@
+//! Breadth-first answers on a scan: its levels, and the path by parents from row 0 to a key.
+#![tactic(auto)]
+
+mod all_levels;
+mod queue;
+mod search;
+mod shortest;
+
+pub use all_levels::levels;
+pub use shortest::reach;
+
+#[cfg(test)]
+mod tests;

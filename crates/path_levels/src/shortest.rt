@@ -1,0 +1,97 @@
+//! A path of fewest edges from row 0: back from the goal by parents, then written from the root on.
+
+ghost use Rattle.std.specs.Prelude.{◌≡◌, ℕ, ◌+◌, ◌<◌, ◌≤◌, ◌↔◌, false, List, [], length, slice_index};
+ghost use Rattle.std.specs.Prelude.{reverse, take, IfSome, IfNone};
+ghost use Rattle.graph_kinds.specs.Answer.{by_path};
+ghost use Rattle.graph_kinds.specs.Levels.{stands_in, reach_path};
+ghost use Rattle.graph_kinds.specs.Path.{IsPath};
+ghost use Rattle.scan_record.specs.Scan.{IsComplete};
+ghost use Rattle.scan_record.specs.ScanGraph.{graph_of_scan};
+ghost use Rattle.path_levels.specs.Queue.{trail};
+ghost use Rattle.path_levels.specs.Search.{root_of, answered, KeepsRows};
+
+use crate::queue::{MARK, PARENT, queue_len};
+use crate::search::search;
+use graph_kinds::Outcome;
+use scan_record::Scan;
+
+/// The place of a key in the queue. O(keys).
+fn place_of(scan: &Scan, key: u32) -> Option<u32>
+    requires { length scan.now.keys ≤ length scan.now.rows }
+    ensures place { IfSome result (λ place. (place < length scan.now.keys) × (slice_index scan.now.keys place ≡ key)) }
+    ensures none { IfNone result (stands_in scan.now.keys key ≡ false) }
+{
+    for place in 0..queue_len(scan) {
+        if scan.keys()[place as usize] == key {
+            return Some(place);
+        }
+    }
+    None
+}
+
+/// Gathers the keys from a place back to the first one in the slot of the marks, and gives their number.
+fn gather(scan: &mut Scan, goal: u32) -> u32
+    requires goal { goal < length scan.old.keys }
+    requires few { length scan.old.keys ≤ length scan.old.rows }
+    requires parents { (p : ℕ) → 0 < p → p < length scan.old.keys → slice_index scan.old.slot_one p < p }
+    ensures count { result ≤ length scan.old.rows }
+    ensures gathered { reverse (take result scan.new.slot_two) ≡ trail scan.old.keys scan.old.slot_one goal goal }
+    ensures kept { KeepsRows scan.old scan.new }
+{
+    prove!(goal < queue_len(scan));
+    let mut at = goal;
+    let mut count = 0;
+    while at > 0 {
+        scan.set_work(count, MARK, scan.keys()[at as usize]);
+        count += 1;
+        at = scan.work(at, PARENT);
+    }
+    scan.set_work(count, MARK, scan.keys()[0]);
+    count + 1
+}
+
+/// Writes the first numbers in the slot of the marks as the answer's keys, the last of them first.
+fn write_back(scan: &mut Scan, count: u32)
+    requires { count ≤ length scan.old.rows }
+    ensures keys { scan.new.keys ≡ reverse (take count scan.old.slot_two) }
+    ensures ends { scan.new.ends ≡ [] }
+    ensures kept { KeepsRows scan.old scan.new }
+{
+    prove!(count <= scan.vertices());
+    scan.clear_answer();
+    let mut left = count;
+    while left > 0 {
+        left -= 1;
+        scan.put_key(scan.work(left, MARK));
+    }
+}
+
+/// The path by parents from row 0 to the goal: `Path` with its keys in the answer region, or `NoPath` with
+/// none, where no path leads there or the goal is no key. Takes no memory, in O(rows + edges) (Moore 1959).
+pub fn reach(scan: &mut Scan, goal: u32) -> Outcome
+    requires { IsComplete scan.old }
+    ensures answer { answered result scan.new ≡ by_path (reach_path (graph_of_scan scan.old) (root_of scan.old) goal) }
+
+    // What the rule of parents comes to: a path than which none is shorter, and none only where there is none.
+    ensures path { result ≡ Outcome.Path → IsPath (graph_of_scan scan.old) (root_of scan.old) goal scan.new.keys }
+    ensures shortest { result ≡ Outcome.Path → (p : List ℕ) → IsPath (graph_of_scan scan.old) (root_of scan.old) goal p
+        → length scan.new.keys ≤ length p }
+    ensures no_path { (result ≡ Outcome.NoPath) ↔ ((p : List ℕ) → ¬ (IsPath (graph_of_scan scan.old) (root_of scan.old) goal p)) }
+
+    ensures kept { KeepsRows scan.old scan.new }
+    ensures graph { graph_of_scan scan.new ≡ graph_of_scan scan.old }
+    ensures complete { IsComplete scan.new }
+{
+    search(scan);
+    match place_of(scan, goal) {
+        Some(place) => {
+            let count = gather(scan, place);
+            write_back(scan, count);
+            Outcome::Path
+        }
+        None => {
+            scan.clear_answer();
+            Outcome::NoPath
+        }
+    }
+}
