@@ -1,0 +1,15 @@
+use Rattle.core_rule.proofs.FreeList.{free_list, pop_again}
+use Rattle.core_rule.proofs.LinkWords.{taken}
+use Rattle.core_rule.proofs.words.free_list_is_exact.Goals as goal
+
+pub returns-clause-list : goal.returns-clause-list
+returns-clause-list c = λ sizes z journal kept. free_list sizes z journal kept
+
+pub returns-clause-free : goal.returns-clause-free
+returns-clause-free c = λ sizes z past e kept ok. (taken sizes z past e kept ok).free
+
+pub returns-clause-next_life : goal.returns-clause-next_life
+returns-clause-next_life c = λ sizes z past e kept ok. (taken sizes z past e kept ok).tag
+
+pub returns-clause-again : goal.returns-clause-again
+returns-clause-again c = λ sizes z seen next there first second journal p q kept was link is. (pop_again sizes z seen next there first second journal p q kept was link is).0

@@ -1,0 +1,59 @@
+-- How many events of a kind a caller made, and how often the counter of a life was raised.
+use Rattle.std.specs.Prelude.{ℕ, Bool, true, false, ◌&&◌, ◌==◌, List, length, filter}
+use Rattle.packed_link.specs.declared.link.Life.{Life}
+use Rattle.core_journal.specs.declared.event.Kind.{Kind}
+use Rattle.core_journal.specs.declared.event.Kind.TheVariants.{DrawNumber, PopFree, LinkVertex, LinkEdge, Raise, MoveEpoch}
+use Rattle.core_journal.specs.declared.event.Event.{Event}
+use Rattle.core_journal.specs.Event.{same_life}
+
+-- a number is drawn
+abbrev pub draws : Kind → Bool
+draws DrawNumber = true
+draws _ = false
+
+-- a node is taken
+abbrev pub pops : Kind → Bool
+pops PopFree = true
+pops _ = false
+
+-- a counter is raised
+abbrev pub raises : Kind → Bool
+raises Raise = true
+raises _ = false
+
+-- the epoch is moved on
+abbrev pub moves : Kind → Bool
+moves MoveEpoch = true
+moves _ = false
+
+-- how many events of some kinds a caller made
+abbrev pub made : (Kind → Bool) → ℕ → List Event → ℕ
+made test caller journal = length (filter (λ (e : Event). test e.kind && (e.caller == caller)) journal)
+
+-- how many events of some kinds all callers made
+abbrev pub all_made : (Kind → Bool) → List Event → ℕ
+all_made test journal = length (filter (λ (e : Event). test e.kind) journal)
+
+-- how many events of some kinds are about a life
+abbrev pub about : (Kind → Bool) → Life → List Event → ℕ
+about test x journal = length (filter (λ (e : Event). test e.kind && same_life x e.life) journal)
+
+-- a node is linked
+abbrev pub links : Kind → Bool
+links LinkVertex = true
+links LinkEdge = true
+links _ = false
+
+-- how often the counter of a life was raised
+abbrev pub raised : Life → List Event → ℕ
+raised x journal = about raises x journal
+
+-- how many nodes a caller may take, how often it may raise counters, and how often it may move the epoch on
+abbrev pub most_pops : ℕ
+most_pops = 4294967296
+
+abbrev pub most_raises : ℕ
+most_raises = 274877906944
+
+abbrev pub most_moves : ℕ
+most_moves = 17179869184

@@ -1,0 +1,13 @@
+pub mod Counts
+pub mod Nodes
+pub mod Passes
+pub mod FreeNodes
+pub mod Vertices
+pub mod Edges
+pub mod Freezing
+pub mod Kept
+pub mod Facts
+pub mod Free
+pub mod Rule
+pub mod Owes
+pub mod Plays

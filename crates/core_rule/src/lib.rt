@@ -1,0 +1,24 @@
+//! The rule of the core: which event may come next in the journal of the shared table, and what holds of it after each.
+//!
+//! A journal is kept where each of its events was allowed after those before it (`IsKept` of `specs/Kept.antt`). All facts
+//! of the table are laws of kept journals. The crate has definitions and laws, and no code.
+#![tactic(auto)]
+
+mod journals;
+mod own;
+mod rule;
+mod view;
+mod words;
+
+pub use journals::{a_vertex_is_added, kept_journals_grow};
+pub use own::{callers_have_numbers, own_events_are_counted, own_facts_stay};
+pub use rule::{
+    a_draw_keeps_the_rule, a_last_token_knows_the_journal, a_new_table_meets_the_rule,
+    a_reply_keeps_the_rule, splits_and_joins_keep_the_rule, steps_keep_the_rule,
+};
+pub use view::View;
+pub use words::{
+    announcements_tell_passes, counters_count_raises, events_are_of_past_lives, first_words_count,
+    free_list_is_exact, links_tell_states, lives_are_linked_once, marked_words_stay,
+    no_number_wraps, nodes_keep_their_words, nodes_tell_their_lives,
+};
