@@ -17,3 +17,4 @@ pub mod MarkedWords
 pub mod Bounds
 pub mod Worked
 pub mod Named
+pub mod Ends

@@ -104,7 +104,7 @@ handed_named sizes journal s v c = record {
 }
 
 -- the life of an event, by its node
-life_is : (y : Life) (x t : ℕ) → y.index ≡ x → y.tag ≡ t → y ≡ record { index = x; tag = t }
+pub life_is : (y : Life) (x t : ℕ) → y.index ≡ x → y.tag ≡ t → y ≡ record { index = x; tag = t }
 life_is y x t p q = λ i. record { index = p i; tag = q i }
 
 -- the first link of a life is the one that is found

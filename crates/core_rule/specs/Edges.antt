@@ -1,12 +1,13 @@
 -- When an edge may be linked, its source's counter be raised, and the edge be marked and unlinked.
-use Rattle.std.specs.Prelude.{◌≡◌, ◌≢◌, ℕ, ◌+◌, ◌<◌, ◌≤◌, ◌^◌, true, List, Some, slice_get, take}
+use Rattle.std.specs.Prelude.{◌≡◌, ◌≢◌, ℕ, ◌+◌, ◌<◌, ◌≤◌, ◌^◌, true, false, List, Some, length, slice_get, take}
 use Rattle.packed_link.specs.Link.{pack, with_mark, index_of, mark_of, tag_of, nowhere}
 use Rattle.packed_link.specs.Layout.{Sizes, key_at, link_at, second_at, third_at}
 use Rattle.packed_link.specs.declared.link.Life.{Life}
 use Rattle.core_journal.specs.declared.event.Kind.TheVariants.{Raise}
 use Rattle.core_journal.specs.declared.event.Event.{Event}
+use Rattle.core_journal.specs.Prefix.{IsPrefix}
 use Rattle.core_journal.specs.Machine.{word_at}
-use Rattle.core_journal.specs.Life.{key_of, link_of, edge_linked}
+use Rattle.core_journal.specs.Life.{key_of, link_of, edge_linked, edge_marked}
 use Rattle.core_journal.specs.Reuse.{pass_in}
 use Rattle.core_rule.specs.Counts.{raises, made, most_raises}
 use Rattle.core_rule.specs.Nodes.{node_in, IsFreshWith, IsVertex, IsLinkedEdge, IsListWord}
@@ -49,16 +50,20 @@ pub record IsLinkEdge (sizes : Sizes) (past : List Event) (e : Event) : Type 0 w
   pub target_there : e.target.index < sizes.nodes
   pub pass : (pass_in sizes past e.caller).is_open ≡ true
 
--- in its pass a caller raises the counter of a vertex of which it found an edge
+-- in its pass a caller raises the counter of a vertex, of which an edge was linked and unmarked at a moment of this pass
 pub record IsRaise (sizes : Sizes) (past : List Event) (e : Event) : Type 0 where
   pub life : e.life.tag ≡ (node_in sizes past e.life.index).tag
   pub there : e.life.index < sizes.nodes
   pub place : e.place ≡ third_at sizes e.life.index
   pub vertex : IsVertex sizes past e.life
+  pub moment : List Event
+  pub before : IsPrefix moment past
+  pub since : (pass_in sizes past e.caller).since < length moment
   pub edge : Life
   pub link : Event
-  pub edge_linked : link_of past edge ≡ Some link
+  pub linked : link_of moment edge ≡ Some link
   pub from : link.source ≡ e.life
+  pub unmarked : edge_marked moment edge ≡ false
   pub word : e.word ≡ word_at sizes past e.place + 1
   pub pass : (pass_in sizes past e.caller).is_open ≡ true
   pub limit : made raises e.caller past < most_raises
@@ -66,7 +71,7 @@ pub record IsRaise (sizes : Sizes) (past : List Event) (e : Event) : Type 0 wher
 -- in its open pass a caller raised the counter of the source of an edge that was linked by then
 pub record IsRaisedFor (sizes : Sizes) (past : List Event) (caller : ℕ) (edge source : Life) : Type 0 where
   pub number : ℕ
-  pub since : (pass_in sizes past caller).since ≤ number
+  pub since : (pass_in sizes past caller).since < number
   pub raise : Event
   pub at : slice_get past number ≡ Some raise
   pub kind : raise.kind ≡ Raise

@@ -1,6 +1,6 @@
 -- What holds after each kept journal of the words beside the state: numbers, announcements, and the words of each node by
 -- its state.
-use Rattle.std.specs.Prelude.{List, ◌≡◌, ℕ, ◌+◌, ◌<◌, ◌≤◌, ◌^◌, ◌⊎◌, Bool, true, false, Some, None}
+use Rattle.std.specs.Prelude.{List, ◌≡◌, ◌≢◌, ℕ, ◌+◌, ◌<◌, ◌≤◌, ◌^◌, ◌⊎◌, Bool, true, false, Some, None}
 use Rattle.packed_link.specs.Link.{pack, index_of, mark_of, tag_of, mark_bit, nowhere}
 use Rattle.packed_link.specs.Layout.{Sizes, number_at, epoch_at, announce_at, key_at, link_at, second_at, third_at}
 use Rattle.packed_link.specs.declared.link.Life.{Life}
@@ -142,3 +142,8 @@ pub record IsNamed (journal : List Event) (v : Node) (x : ℕ) : Type 0 where
 
 pub record Named (sizes : Sizes) (journal : List Event) (s : State) : Type 0 where
   pub each : (x : ℕ) → x < sizes.nodes → IsNamed journal (s.node x) x
+
+-- the source and the target of each edge that was linked were linked as vertices before, the target with the edge's key
+pub record Ends (journal : List Event) : Type 0 where
+  pub source : (x : Life) (link : Event) → link_of journal x ≡ Some link → key_of journal link.source ≢ None
+  pub target : (x : Life) (link : Event) → link_of journal x ≡ Some link → key_of journal link.target ≡ Some link.key

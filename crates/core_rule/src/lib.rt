@@ -4,12 +4,14 @@
 //! of the table are laws of kept journals. The crate has definitions and laws, and no code.
 #![tactic(auto)]
 
+mod graph;
 mod journals;
 mod own;
 mod rule;
 mod view;
 mod words;
 
+pub use graph::{edges_have_ends, links_are_new};
 pub use journals::{a_vertex_is_added, kept_journals_grow};
 pub use own::{callers_have_numbers, own_events_are_counted, own_facts_stay};
 pub use rule::{

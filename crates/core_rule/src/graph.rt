@@ -1,0 +1,29 @@
+//! The laws of what kept journals do to the graph: the premises of the rows of changes that need no chain.
+//!
+//! core_journal says what each kind of event does to the graph where its premises hold (its `specs/Changes.antt`).
+
+ghost use Rattle.std.specs.Prelude.{◌≡◌, List};
+ghost use Rattle.packed_link.specs.Layout.{IsLayout, Sizes};
+ghost use Rattle.core_journal.specs.Changes.{IsFrozenEdge, IsNewEdge, IsNewVertex};
+ghost use Rattle.core_journal.specs.declared.event.Event.{Event};
+ghost use Rattle.core_journal.specs.declared.event.Kind.TheVariants.{FreezeEdge, LinkEdge, LinkVertex};
+ghost use Rattle.core_rule.specs.Edges.{IsLinkEdge};
+ghost use Rattle.core_rule.specs.Facts.{Ends};
+ghost use Rattle.core_rule.specs.Freezing.{IsFreezeEdge};
+ghost use Rattle.core_rule.specs.Kept.{IsKept};
+ghost use Rattle.core_rule.specs.Vertices.{IsLinkVertex};
+
+/// The source and the target of each edge were linked as vertices before it, the target with the edge's key.
+pub fn edges_have_ends()
+    ensures { (sizes : Sizes) → IsLayout sizes → (journal : List Event) → IsKept sizes journal → Ends journal }
+{}
+
+/// A vertex or an edge that is linked next is new, and the source of an edge that is frozen next is marked.
+pub fn links_are_new()
+    ensures vertex { (sizes : Sizes) → IsLayout sizes → (past : List Event) (e : Event) → IsKept sizes past
+        → e.kind ≡ LinkVertex → IsLinkVertex sizes past e → IsNewVertex past e }
+    ensures edge { (sizes : Sizes) → IsLayout sizes → (past : List Event) (e : Event) → IsKept sizes past
+        → e.kind ≡ LinkEdge → IsLinkEdge sizes past e → IsNewEdge past e }
+    ensures frozen { (sizes : Sizes) → IsLayout sizes → (past : List Event) (e : Event) → IsKept sizes past
+        → e.kind ≡ FreezeEdge → IsFreezeEdge sizes past e → IsFrozenEdge past e }
+{}
