@@ -6,7 +6,7 @@ use Rattle.std.specs.Str.{bytes_eq}
 use Rattle.std.specs.Str.Parse.{digits_value}
 use Rattle.csv.specs.Reading.{records, default_config, strip_bom}
 use Rattle.graph_kinds.specs.declared.call.Call.{Call}
-use Rattle.graph_kinds.specs.declared.call.Call.TheVariants.{AddVertex, RemoveVertex, HasVertex, AddEdge, RemoveEdge, HasEdge}
+use Rattle.graph_kinds.specs.declared.call.Call.TheVariants.{AddVertex, RemoveVertex, HasVertex, AddEdge, RemoveEdge, HasEdge, Reach, Levels, Cheapest}
 use Rattle.graph_kinds.specs.declared.call.Row.{Row}
 use Rattle.op_text.specs.declared.rows.kind.CallKind.{CallKind}
 use Rattle.op_text.specs.declared.rows.kind.CallKind.TheVariants as kind
@@ -50,6 +50,8 @@ operation kind.HasVertex = on_key (codes "has-vertex") (λ a. HasVertex a)
 operation kind.AddEdge = record { name = codes "add-edge"; needs_second = true; needs_weight = true; call = λ a b w. AddEdge a b w }
 operation kind.RemoveEdge = on_keys (codes "remove-edge") (λ a b. RemoveEdge a b)
 operation kind.HasEdge = on_keys (codes "has-edge") (λ a b. HasEdge a b)
+operation kind.Reach = on_keys (codes "reach") (λ a b. Reach a b)
+operation kind.Levels = on_key (codes "levels") (λ a. Levels a)
 
 -- the operations
 abbrev pub operations : List Operation
@@ -60,11 +62,18 @@ operations =
     ∷ operation kind.AddEdge
     ∷ operation kind.RemoveEdge
     ∷ operation kind.HasEdge
+    ∷ operation kind.Reach
+    ∷ operation kind.Levels
     ∷ []
 
 -- the operation of a name
 abbrev pub operation_of : List ℕ → Option Operation
 operation_of name = find (λ (o : Operation). bytes_eq name o.name) operations
+
+-- the call asks for a cheapest path, which no operation does yet
+abbrev pub IsCheapest : Call → Type 0
+IsCheapest (Cheapest a b) = Unit {0}
+IsCheapest _ = ⊥
 
 -- a field is empty
 abbrev pub is_blank : List ℕ → Bool

@@ -3,8 +3,8 @@
 //! The table is `operation` of `specs/Rows.antt`.
 
 ghost use Rattle.std.specs.Prelude.{◌≡◌, ◌≤◌, option_map, true};
-ghost use Rattle.graph_kinds.specs.Answer.{IsPathCall, IsWellMade};
-ghost use Rattle.op_text.specs.Rows.{operation, operation_of};
+ghost use Rattle.graph_kinds.specs.Answer.{IsWellMade};
+ghost use Rattle.op_text.specs.Rows.{IsCheapest, operation, operation_of};
 
 use graph_kinds::Call;
 
@@ -17,6 +17,8 @@ pub enum CallKind {
     AddEdge,
     RemoveEdge,
     HasEdge,
+    Reach,
+    Levels,
 }
 
 impl CallKind {
@@ -36,6 +38,10 @@ impl CallKind {
             Some(CallKind::RemoveEdge)
         } else if name == b"has-edge".as_slice() {
             Some(CallKind::HasEdge)
+        } else if name == b"reach".as_slice() {
+            Some(CallKind::Reach)
+        } else if name == b"levels".as_slice() {
+            Some(CallKind::Levels)
         } else {
             None
         }
@@ -46,8 +52,11 @@ impl CallKind {
         ensures { result ≡ (operation self).needs_second }
     {
         match self {
-            CallKind::AddVertex | CallKind::RemoveVertex | CallKind::HasVertex => false,
-            CallKind::AddEdge | CallKind::RemoveEdge | CallKind::HasEdge => true,
+            CallKind::AddVertex
+            | CallKind::RemoveVertex
+            | CallKind::HasVertex
+            | CallKind::Levels => false,
+            CallKind::AddEdge | CallKind::RemoveEdge | CallKind::HasEdge | CallKind::Reach => true,
         }
     }
 
@@ -64,7 +73,7 @@ impl CallKind {
     /// The call on these keys, with this weight; what the kind doesn't need is left out.
     pub fn call(self, first: u32, second: u32, weight: u32) -> Call
         ensures call { result ≡ (operation self).call first second weight }
-        ensures update { ¬ (IsPathCall result) }
+        ensures no_cheapest { ¬ (IsCheapest result) }
         ensures well_made { ((operation self).needs_weight ≡ true → 1 ≤ weight) → IsWellMade result }
     {
         match self {
@@ -84,6 +93,11 @@ impl CallKind {
                 from: first,
                 to: second,
             },
+            CallKind::Reach => Call::Reach {
+                from: first,
+                to: second,
+            },
+            CallKind::Levels => Call::Levels { from: first },
         }
     }
 }
