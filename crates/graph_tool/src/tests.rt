@@ -78,6 +78,36 @@ fn worked_rows_give_their_lines(rt: HostRuntime) -> Result<(), Fail> {
             b"\xEF\xBB\xBF\"0\",add-vertex,\"7\",,\r\n\r\n15,has-vertex,7,,".as_slice(),
             b"added\nyes\nvertices 7\n".as_slice(),
         ),
+        (
+            b"0,add-vertex,4294967295,,\n0,add-vertex,0,,\n0,add-edge,0,4294967295,1\n0,levels,0,,\n".as_slice(),
+            b"added\nadded\nadded\nlevels 0 | 4294967295\nvertices 0 4294967295\n\
+            edge 0 4294967295 1\n"
+                .as_slice(),
+        ),
+        (
+            b"0,add-vertex,7,,\n0,add-edge,7,7,3\n0,reach,7,7,\n0,levels,7,,\n0,reach,7,8,\n".as_slice(),
+            b"added\nadded\npath 7\nlevels 7\nno vertex\nvertices 7\nedge 7 7 3\n".as_slice(),
+        ),
+        (
+            b"0,add-vertex,1,,\n1,add-vertex,2,,\n2,add-vertex,3,,\n3,add-vertex,4,,\n\
+            4,add-vertex,9,,\n5,add-vertex,10,,\n0,add-edge,1,2,1\n0,add-edge,1,3,1\n\
+            0,add-edge,2,9,1\n0,add-edge,3,4,1\n0,add-edge,9,10,1\n0,add-edge,4,10,1\n\
+            0,levels,1,,\n0,reach,1,10,\n"
+                .as_slice(),
+            b"added\nadded\nadded\nadded\nadded\nadded\nadded\nadded\nadded\nadded\nadded\nadded\n\
+            levels 1 | 2 3 | 9 4 | 10\npath 1 2 9 10\nvertices 1 2 3 4 9 10\nedge 1 2 1\n\
+            edge 1 3 1\nedge 2 9 1\nedge 3 4 1\nedge 4 10 1\nedge 9 10 1\n"
+                .as_slice(),
+        ),
+        (
+            b"0,add-vertex,1,,\n0,add-vertex,2,,\n0,add-vertex,3,,\n0,add-vertex,4,,\n\
+            0,add-edge,1,2,1\n0,add-edge,1,3,1\n0,add-edge,2,4,1\n0,add-edge,4,1,1\n\
+            0,levels,1,,\n0,reach,3,1,\n0,reach,1,9,\n"
+                .as_slice(),
+            b"added\nadded\nadded\nadded\nadded\nadded\nadded\nadded\nlevels 1 | 2 3 | 4\n\
+            no path\nno vertex\nvertices 1 2 3 4\nedge 1 2 1\nedge 1 3 1\nedge 2 4 1\nedge 4 1 1\n"
+                .as_slice(),
+        ),
     ];
     for (input, text) in &rows {
         for command in ["run", "replay"] {
@@ -125,6 +155,7 @@ fn bad_records_are_refused(rt: HostRuntime) -> Result<(), Fail> {
         (b"x,nop,,,".as_slice(), 1, RowCause::BadCaller),
         (b" 0,add-vertex,1,,".as_slice(), 1, RowCause::BadCaller),
         (b"0,Add-vertex,1,,".as_slice(), 1, RowCause::UnknownOp),
+        (b"0,cheapest,1,2,".as_slice(), 1, RowCause::UnknownOp),
         (b"0,add-edge,,1,0".as_slice(), 1, RowCause::MissingField),
         (b"0,add-vertex,x,1,".as_slice(), 1, RowCause::ExtraField),
         (b"0,add-vertex,05,,".as_slice(), 1, RowCause::BadNumber),

@@ -8,32 +8,62 @@ ghost use Rattle.graph_kinds.specs.Graph.{has, key_count, pair_count, IsGraph};
 ghost use Rattle.graph_kinds.specs.Answer.{IsWellMade, plain, answer, after};
 ghost use Rattle.plain_graph.specs.Calls.{IsAdd};
 ghost use Rattle.graph_kinds.specs.Answer.{IsPathCall};
+ghost use Rattle.op_text.specs.Rows.{IsCheapest};
+ghost use Rattle.path_levels.specs.Search.{answered};
 
 use crate::graph::PlainGraph;
 use graph_kinds::{Answer, Call, Keys, Memory, Outcome};
+use scan_record::Scan;
+use std::alloc::Global;
+
+// An answer without keys.
+fn bare(alloc: Global, outcome: Outcome) -> Answer
+    ensures { result ≡ plain outcome }
+{
+    Answer {
+        outcome,
+        keys: Keys::new(alloc),
+        ends: Keys::new(alloc),
+    }
+}
+
+// The answer that stands in the answer region of a scan, copied.
+fn copied(alloc: Global, outcome: Outcome, scan: &Scan) -> Result<Answer, Memory>
+    ensures { IfOk result (λ a. a ≡ answered outcome scan.now) }
+{
+    Ok(Answer {
+        outcome,
+        keys: Keys::copy(alloc, scan.keys())?,
+        ends: Keys::copy(alloc, scan.ends())?,
+    })
+}
 
 impl PlainGraph {
     /// Answers a call, and makes its change. O(log V + log E); `RemoveVertex` costs O(log V) and the vertex's
-    /// out-degree where no edge is left behind its own, else one look-up for each vertex, O(V log E).
+    /// out-degree where no edge is left behind its own, else one look-up for each vertex, O(V log E). `Reach`
+    /// and `Levels` cost O((V + E) log V).
     ///
     /// # Errors
-    /// `Memory` where there is no room for a new vertex or edge; the graph is unchanged then.
+    /// `Memory` where there is no room for a new vertex or edge, or for the search of a path; the graph is
+    /// unchanged then.
     pub fn perform(&mut self, call: &Call) -> Result<Answer, Memory>
         requires well_made { IsWellMade call.now }
         requires room { IsAdd call.now → key_count self.old + pair_count self.old < 65536 }
-        requires update { ¬ (IsPathCall call.now) }
+        requires no_cheapest { ¬ (IsCheapest call.now) }
         ensures answer { IfOk result (λ a. a ≡ answer self.old call.now) }
         ensures change { OnOk result (self.new ≡ after self.old call.now) }
         ensures stays { OnErr result (self.new ≡ self.old) }
         ensures sound { IsGraph self.new }
     {
-        let outcome = self.outcome(call);
-        let alloc = self.allocator();
-        Ok(Answer {
-            outcome: outcome?,
-            keys: Keys::new(alloc),
-            ends: Keys::new(alloc),
-        })
+        match *call {
+            Call::Reach { from, to } => self.reach(from, to),
+            Call::Levels { from } => self.levels(from),
+            _ => {
+                let outcome = self.outcome(call);
+                let alloc = self.allocator();
+                Ok(bare(alloc, outcome?))
+            }
+        }
     }
 
     /// The outcome of a call that asks for no path, with its change.
@@ -140,5 +170,35 @@ impl PlainGraph {
             Some(weight) => Outcome::Edge(weight),
             None => Outcome::NoEdge,
         }
+    }
+
+    /// The path by parents, through a scan of the graph.
+    fn reach(&self, from: u32, to: u32) -> Result<Answer, Memory>
+        ensures answer { IfOk result (λ a. a ≡ answer self.now (Call.Reach from to)) }
+        ensures change { OnOk result (self.now ≡ after self.now (Call.Reach from to)) }
+        ensures sound { IsGraph self.now }
+    {
+        let alloc = self.allocator();
+        if !self.has_both(from, to) {
+            return Ok(bare(alloc, Outcome::NoVertex));
+        }
+        let mut scan = self.scan_from(from)?;
+        let outcome = path_levels::reach(&mut scan, to);
+        copied(alloc, outcome, &scan)
+    }
+
+    /// The levels, through a scan of the graph.
+    fn levels(&self, from: u32) -> Result<Answer, Memory>
+        ensures answer { IfOk result (λ a. a ≡ answer self.now (Call.Levels from)) }
+        ensures change { OnOk result (self.now ≡ after self.now (Call.Levels from)) }
+        ensures sound { IsGraph self.now }
+    {
+        let alloc = self.allocator();
+        if !self.has(from) {
+            return Ok(bare(alloc, Outcome::NoVertex));
+        }
+        let mut scan = self.scan_from(from)?;
+        let outcome = path_levels::levels(&mut scan);
+        copied(alloc, outcome, &scan)
     }
 }

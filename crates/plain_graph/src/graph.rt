@@ -3,15 +3,18 @@
 //! A map has each vertex by its key with the map of its out-edges, and the edges are counted beside it. Contracts
 //! see the graph that the maps hold (`graph_of`); what maps and count keep is `IsKept`, both of `specs/Kept.antt`.
 
-ghost use Rattle.std.specs.Prelude.{◌≡◌, ℕ, ◌+◌, ◌≤◌, ◌<◌, true, OnOk, OnErr};
+ghost use Rattle.std.specs.Prelude.{◌≡◌, ℕ, ◌+◌, ◌≤◌, ◌<◌, [], true, IfOk, OnOk, OnErr};
 ghost use Rattle.std.specs.BTreeMap.{keys};
 ghost use Rattle.std.specs.FinMap as finite_map;
 ghost use Rattle.plain_graph.specs.Kept.{pairs_in};
 ghost use Rattle.graph_kinds.specs.Graph.{empty_graph, sorted_keys, has, weight_of, key_count, pair_count, IsGraph};
 ghost use Rattle.graph_kinds.specs.Answer.{change};
+ghost use Rattle.scan_record.specs.Scan.{IsComplete, row_at};
+ghost use Rattle.scan_record.specs.ScanGraph.{graph_of_scan};
 
-use crate::maps;
+use crate::{maps, scans};
 use graph_kinds::{Call, Memory};
+use scan_record::Scan;
 use std::alloc::Global;
 use std::collections::BTreeMap;
 use std::marker::Model;
@@ -146,5 +149,20 @@ impl PlainGraph {
         if maps::remove_edge(&mut self.vertices, from, to).is_some() {
             self.edges -= 1;
         }
+    }
+
+    /// A scan that holds the graph, with the root's row first and no answer yet. O((V + E) log V).
+    ///
+    /// # Errors
+    /// `Memory` where there is no room for it.
+    pub(crate) fn scan_from(&self, root: u32) -> Result<Scan, Memory>
+        requires { has self.now root ≡ true }
+        ensures complete { IfOk result (λ s. IsComplete s) }
+        ensures graph { IfOk result (λ s. graph_of_scan s ≡ self.now) }
+        ensures root { IfOk result (λ s. (row_at s 0).key ≡ root) }
+        ensures no_keys { IfOk result (λ s. s.keys ≡ []) }
+        ensures no_ends { IfOk result (λ s. s.ends ≡ []) }
+    {
+        scans::scan_of(self.alloc, &self.vertices, root)
     }
 }

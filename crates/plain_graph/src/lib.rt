@@ -5,6 +5,7 @@ mod calls;
 mod graph;
 mod maps;
 mod rows;
+mod scans;
 mod text;
 
 pub use graph::PlainGraph;

@@ -7,21 +7,22 @@ ghost use Rattle.graph_kinds.specs.declared.call.Row.{Row as RowValue};
 ghost use Rattle.graph_kinds.specs.Graph.{empty_graph};
 ghost use Rattle.graph_kinds.specs.History.{calls_of};
 ghost use Rattle.graph_kinds.specs.Answer.{IsWellMade, answers, after_all};
-ghost use Rattle.graph_kinds.specs.Answer.{IsPathCall};
+ghost use Rattle.op_text.specs.Rows.{IsCheapest};
 
 use crate::graph::PlainGraph;
 use graph_kinds::{Answer, Memory, Row};
 use std::alloc::Global;
 
 /// The answers to the rows in their order, from the empty graph, and the graph after the last.
-/// O(n V log E) for n rows, O(n log n) where none of them adds an edge.
+/// O(n V log E) for n rows that add, remove and look up, O(n log n) where none of them adds an edge, and
+/// O((V + E) log V) for each row that asks for a path or for levels.
 ///
 /// # Errors
-/// `Memory` where there is no room for the graph or the answers.
+/// `Memory` where there is no room for the graph, the answers or the search of a path.
 pub fn replay(alloc: Global, rows: &[Row]) -> Result<(Vec<Answer>, PlainGraph), Memory>
     requires few { length rows.now ≤ 65536 }
     requires well_made { All (λ row. IsWellMade row.call) rows.now }
-    requires updates { All (λ row. ¬ (IsPathCall row.call)) rows.now }
+    requires no_cheapest { All (λ row. ¬ (IsCheapest row.call)) rows.now }
     ensures answers { IfOk result (λ r. r.0.items ≡ answers empty_graph (calls_of rows.now)) }
     ensures graph { IfOk result (λ r. r.1 ≡ after_all empty_graph (calls_of rows.now)) }
 {

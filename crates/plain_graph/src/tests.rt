@@ -2,28 +2,29 @@ ghost use Rattle.std.specs.Prelude.{◌+◌, ◌<◌, All, IsTrue};
 ghost use Rattle.graph_kinds.specs.Graph.{key_count, pair_count};
 ghost use Rattle.graph_kinds.specs.Answer.{IsWellMade};
 ghost use Rattle.graph_kinds.specs.declared.call.Row.{Row as RowValue};
-ghost use Rattle.graph_kinds.specs.Answer.{IsPathCall};
+ghost use Rattle.op_text.specs.Rows.{IsCheapest};
 
 use crate::{PlainGraph, replay};
 use graph_kinds::{Call, MemSink, Outcome, Row};
+use scan_record::Scan;
 use std::process::Abort;
 use std::test::Fail;
 
 // What `replay` asks of a call.
 fn is_fit(call: &Call) -> bool
     ensures well_made { IsTrue result → IsWellMade call.now }
-    ensures update { IsTrue result → ¬ (IsPathCall call.now) }
+    ensures no_cheapest { IsTrue result → ¬ (IsCheapest call.now) }
 {
     match *call {
         Call::AddEdge { weight, .. } => weight >= 1,
-        Call::Reach { .. } | Call::Levels { .. } | Call::Cheapest { .. } => false,
+        Call::Cheapest { .. } => false,
         _ => true,
     }
 }
 
 fn are_fit(rows: &[Row]) -> bool
     ensures well_made { IsTrue result → All (λ row. IsWellMade row.call) rows.now }
-    ensures updates { IsTrue result → All (λ row. ¬ (IsPathCall row.call)) rows.now }
+    ensures no_cheapest { IsTrue result → All (λ row. ¬ (IsCheapest row.call)) rows.now }
 {
     rows.iter().all(|row| is_fit(&row.call))
 }
@@ -179,4 +180,116 @@ fn a_failed_write_leaves_a_first_part(rt: HostRuntime) -> Result<(), Fail> {
         assert_eq!(rt; sink.bytes(), text.as_bytes());
     }
     Ok(())
+}
+
+// Compares each row's key, first edge and count of edges, and each edge's key, target and weight.
+fn assert_scan<R: Abort>(rt: &R, scan: &Scan, rows: &[(u32, u32, u32)], edges: &[(u32, u32, u32)]) {
+    assert_eq!(rt;
+        (scan.vertices() as usize, scan.edges() as usize),
+        (rows.len(), edges.len())
+    );
+    for (row, told) in rows.iter().enumerate() {
+        let vertex = scan.vertex(row as u32);
+        assert_eq!(rt; (vertex.key, vertex.first, vertex.count), *told);
+    }
+    for (place, told) in edges.iter().enumerate() {
+        let edge = scan.edge(place as u32);
+        assert_eq!(rt;
+            (edge.key, edge.target, edge.weight),
+            (told.0, Some(told.1), told.2)
+        );
+    }
+}
+
+#[test]
+fn a_scan_starts_at_its_root(rt: HostRuntime) -> Result<(), Fail> {
+    let graph = replayed(
+        &rt,
+        &[
+            (add_vertex(30), Outcome::Added),
+            (add_vertex(10), Outcome::Added),
+            (add_vertex(20), Outcome::Added),
+            (add_edge(20, 30, 7), Outcome::Added),
+            (add_edge(20, 10, 5), Outcome::Added),
+            (add_edge(30, 20, 1), Outcome::Added),
+            (add_edge(20, 20, 2), Outcome::Added),
+        ],
+    )?;
+    let table = [
+        (
+            10,
+            [(10, 0, 0), (20, 0, 3), (30, 3, 1)],
+            [(10, 0, 5), (20, 1, 2), (30, 2, 7), (20, 1, 1)],
+        ),
+        (
+            20,
+            [(20, 0, 3), (10, 3, 0), (30, 3, 1)],
+            [(10, 1, 5), (20, 0, 2), (30, 2, 7), (20, 0, 1)],
+        ),
+        (
+            30,
+            [(30, 0, 1), (10, 1, 0), (20, 1, 3)],
+            [(20, 2, 1), (10, 1, 5), (20, 2, 2), (30, 0, 7)],
+        ),
+    ];
+    for (root, rows, edges) in &table {
+        assert!(rt; graph.has(*root));
+        assert_scan(&rt, &graph.scan_from(*root)?, rows, edges);
+    }
+    Ok(())
+}
+
+#[test]
+fn paths_and_levels_come_with_their_keys(rt: HostRuntime) -> Result<(), Fail> {
+    let mut rows = Vec::new(rt.alloc());
+    for key in 1..5 {
+        rows.push(Row {
+            caller: 0,
+            call: add_vertex(key),
+        })?;
+    }
+    for (from, to) in [(1, 2), (1, 3), (2, 4), (4, 1)] {
+        rows.push(Row {
+            caller: 0,
+            call: add_edge(from, to, 1),
+        })?;
+    }
+    let asked: [(Call, Outcome, &[u32], &[u32]); 7] = [
+        (
+            Call::Levels { from: 1 },
+            Outcome::Levels(3),
+            &[1, 2, 3, 4],
+            &[1, 3, 4],
+        ),
+        (Call::Levels { from: 3 }, Outcome::Levels(1), &[3], &[1]),
+        (Call::Levels { from: 9 }, Outcome::NoVertex, &[], &[]),
+        (
+            Call::Reach { from: 1, to: 4 },
+            Outcome::Path,
+            &[1, 2, 4],
+            &[],
+        ),
+        (Call::Reach { from: 4, to: 4 }, Outcome::Path, &[4], &[]),
+        (Call::Reach { from: 3, to: 1 }, Outcome::NoPath, &[], &[]),
+        (Call::Reach { from: 1, to: 9 }, Outcome::NoVertex, &[], &[]),
+    ];
+    for (call, _, _, _) in &asked {
+        rows.push(Row {
+            caller: 0,
+            call: *call,
+        })?;
+    }
+    assert!(rt; rows.len() <= 65_536 && are_fit(&rows));
+    let (answers, graph) = replay(rt.alloc(), &rows)?;
+    assert_eq!(rt; answers.len(), rows.len());
+    for (answer, (call, outcome, keys, ends)) in answers.iter().skip(8).zip(&asked) {
+        assert_eq!(rt; answer.outcome, *outcome, "at {call:?}");
+        assert_eq!(rt; answer.keys.as_slice(), *keys, "at {call:?}");
+        assert_eq!(rt; answer.ends.as_slice(), *ends, "at {call:?}");
+    }
+    assert_text(
+        &rt,
+        &graph,
+        "vertices 1 2 3 4\nedge 1 2 1\nedge 1 3 1\nedge 2 4 1\nedge 4 1 1\n",
+    )
 }

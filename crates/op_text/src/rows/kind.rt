@@ -52,10 +52,8 @@ impl CallKind {
         ensures { result ≡ (operation self).needs_second }
     {
         match self {
-            CallKind::AddVertex
-            | CallKind::RemoveVertex
-            | CallKind::HasVertex
-            | CallKind::Levels => false,
+            CallKind::AddVertex | CallKind::RemoveVertex | CallKind::HasVertex | CallKind::Levels =>
+                false,
             CallKind::AddEdge | CallKind::RemoveEdge | CallKind::HasEdge | CallKind::Reach => true,
         }
     }

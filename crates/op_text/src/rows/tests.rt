@@ -23,7 +23,10 @@ fn causes_come_in_their_order(rt: HostRuntime) {
         (b"0,fly,1,,\n".as_slice(), 1, RowCause::UnknownOp),
         (b"0,Add-vertex,1,,\n".as_slice(), 1, RowCause::UnknownOp),
         (b"0,add-vertex,,,\n".as_slice(), 1, RowCause::MissingField),
-        (b"0,reach,1,2,\n".as_slice(), 1, RowCause::UnknownOp),
+        (b"0,cheapest,1,2,\n".as_slice(), 1, RowCause::UnknownOp),
+        (b"0,reach,1,,\n".as_slice(), 1, RowCause::MissingField),
+        (b"0,reach,1,2,3\n".as_slice(), 1, RowCause::ExtraField),
+        (b"0,levels,1,2,\n".as_slice(), 1, RowCause::ExtraField),
         (b"0,has-edge,1,,\n".as_slice(), 1, RowCause::MissingField),
         (b"0,add-edge,1,2,\n".as_slice(), 1, RowCause::MissingField),
         (b"0,add-vertex,1,2,\n".as_slice(), 1, RowCause::ExtraField),
@@ -69,7 +72,7 @@ fn causes_come_in_their_order(rt: HostRuntime) {
 fn records_are_rows(rt: HostRuntime) -> Result<(), Fail> {
     let input =
         b"\xEF\xBB\xBF0,add-vertex,0,,\r\n\"1\",remove-vertex,\"7\",,\n\n15,has-vertex,4294967295,,\n\
-        2,add-edge,1,2,3\n3,remove-edge,4,5,\n4,has-edge,6,7,";
+        2,add-edge,1,2,3\n3,remove-edge,4,5,\n4,has-edge,6,7,\n5,reach,8,9,\n6,levels,10,,";
     let wanted = [
         Row {
             caller: 0,
@@ -98,6 +101,14 @@ fn records_are_rows(rt: HostRuntime) -> Result<(), Fail> {
         Row {
             caller: 4,
             call: Call::HasEdge { from: 6, to: 7 },
+        },
+        Row {
+            caller: 5,
+            call: Call::Reach { from: 8, to: 9 },
+        },
+        Row {
+            caller: 6,
+            call: Call::Levels { from: 10 },
         },
     ];
     let rows = read_rows(rt.alloc(), input, 16)?;
