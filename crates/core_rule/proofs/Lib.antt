@@ -18,3 +18,6 @@ pub mod Bounds
 pub mod Worked
 pub mod Named
 pub mod Ends
+pub mod Epochs
+pub mod Ripe
+pub mod Staying

@@ -9,6 +9,7 @@ use Rattle.core_journal.specs.declared.event.Kind.{Kind}
 use Rattle.core_journal.specs.declared.event.Event.{Event}
 use Rattle.core_journal.specs.Life.{key_of, link_of, vertex_marked, edge_marked}
 use Rattle.core_journal.specs.Machine.{word_at}
+use Rattle.core_journal.specs.Reuse.{pass_in}
 use Rattle.core_rule.specs.Counts.{about, links, raised}
 use Rattle.core_rule.specs.Nodes.{node_in, IsUsed}
 
@@ -147,3 +148,30 @@ pub record Named (sizes : Sizes) (journal : List Event) (s : State) : Type 0 whe
 pub record Ends (journal : List Event) : Type 0 where
   pub source : (x : Life) (link : Event) → link_of journal x ≡ Some link → key_of journal link.source ≢ None
   pub target : (x : Life) (link : Event) → link_of journal x ≡ Some link → key_of journal link.target ≡ Some link.key
+
+-- an epoch was reached, and an open pass of the caller, if any, began in it or later
+pub record IsClear (seen caller : ℕ) (s : State) : Type 0 where
+  pub reached : seen ≤ s.epoch
+  pub born : (s.pass caller).is_open ≡ true → seen ≤ (s.pass caller).birth
+
+-- the epoch is at most one above that in which an open pass began
+pub record IsNear (s : State) : Type 0 where
+  pub near : (i : ℕ) → (s.pass i).is_open ≡ true → s.epoch ≤ (s.pass i).birth + 1
+
+-- no life ended in the future
+pub record Ended (s : State) : Type 0 where
+  pub epoch : (x : ℕ) → (s.node x).epoch ≤ s.epoch
+  pub ended : (x : ℕ) → (s.node x).ended ≤ s.count
+
+-- the ends of lives beside open passes: a life that ended after a pass began ended in its first epoch or later, and a node
+-- that isn't spent had its last end before each open pass began
+pub record Ordered (s : State) : Type 0 where
+  pub later : (i x : ℕ) → (s.pass i).is_open ≡ true → (s.pass i).since < (s.node x).ended → (s.pass i).birth ≤ (s.node x).epoch
+  pub unspent : (i x : ℕ) → (s.pass i).is_open ≡ true → (s.node x).mode ≢ Spent → (s.node x).ended ≤ (s.pass i).since
+
+-- an open pass has met a node: it's linked, or it was spent after the pass began
+pub record IsMet (sizes : Sizes) (journal : List Event) (caller x : ℕ) : Type 0 where
+  pub pass : (pass_in sizes journal caller).is_open ≡ true
+  pub free : (node_in sizes journal x).mode ≢ Free
+  pub fresh : (node_in sizes journal x).mode ≢ Fresh
+  pub spent : (node_in sizes journal x).mode ≡ Spent → (pass_in sizes journal caller).since < (node_in sizes journal x).ended

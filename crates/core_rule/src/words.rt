@@ -3,18 +3,21 @@
 //! The state after a journal (core_journal's `state`) has no words, and the words have no states; each record of
 //! `specs/Facts.antt` and `specs/Free.antt` ties some of them together. They are proved by one induction each.
 
-ghost use Rattle.std.specs.Prelude.{◌≡◌, ◌≢◌, ℕ, ◌+◌, ◌<◌, ◌≤◌, false, List};
+ghost use Rattle.std.specs.Prelude.{◌≡◌, ◌≢◌, ℕ, ◌+◌, ◌<◌, ◌≤◌, true, false, List};
 ghost use Rattle.packed_link.specs.Link.{index_of, mark_of};
 ghost use Rattle.packed_link.specs.Layout.{Sizes, IsLayout, epoch_at, free_at, link_at, second_at};
 ghost use Rattle.core_journal.specs.declared.event.Event.{Event};
 ghost use Rattle.core_journal.specs.Prefix.{IsPrefix};
 ghost use Rattle.core_journal.specs.Machine.{word_at};
 ghost use Rattle.core_journal.specs.State.{Free, Fresh, Linked, state};
-ghost use Rattle.core_rule.specs.Nodes.{node_in};
+ghost use Rattle.core_journal.specs.Reuse.{pass_in};
+ghost use Rattle.core_rule.specs.Nodes.{IsRipe, node_in};
 ghost use Rattle.core_rule.specs.FreeNodes.{IsPopFree};
 ghost use Rattle.core_rule.specs.Kept.{IsKept};
 ghost use Rattle.core_rule.specs.Facts.{Announcements, Bounds, Contents, Counters, LinkWords, LinkedOnce, Lives, Named, Numbers};
+ghost use Rattle.core_rule.specs.Facts.{Ended, IsClear, IsMet, IsNear, Ordered};
 ghost use Rattle.core_rule.specs.Free.{FreeList};
+ghost use Rattle.core_rule.specs.Passes.{IsChecked};
 
 /// The first words are the number of caller numbers drawn, at most one a caller, and the epoch, which only rises.
 pub fn first_words_count()
@@ -109,4 +112,38 @@ pub fn no_number_wraps()
 pub fn nodes_tell_their_lives()
     ensures { (sizes : Sizes) → IsLayout sizes → (journal : List Event) → IsKept sizes journal
         → Named sizes journal (state sizes journal) }
+{}
+
+/// An open pass began at most one epoch ago. A caller that was checked after an epoch was seen has no pass that began before
+/// that epoch, whatever began in between.
+pub fn passes_are_near_the_epoch()
+    ensures near { (sizes : Sizes) (journal : List Event) → IsKept sizes journal → IsNear (state sizes journal) }
+    ensures checked { (sizes : Sizes) (from past : List Event) (caller : ℕ) → caller < sizes.callers
+        → IsKept sizes past → IsChecked sizes from past (word_at sizes from (epoch_at sizes)) caller
+        → IsClear (word_at sizes from (epoch_at sizes)) caller (state sizes past) }
+{}
+
+/// No life ended in the future; a life that ended after an open pass began ended in the epoch of its birth or later; and a
+/// ripe node was spent before each open pass began, so no open pass can have met it.
+pub fn ripe_nodes_ended_before_passes()
+    ensures ended { (sizes : Sizes) (journal : List Event) → IsKept sizes journal → Ended (state sizes journal) }
+    ensures ordered { (sizes : Sizes) → IsLayout sizes → (journal : List Event) → IsKept sizes journal
+        → Ordered (state sizes journal) }
+    ensures ripe { (sizes : Sizes) → IsLayout sizes → (journal : List Event) → IsKept sizes journal
+        → (caller x i : ℕ) → IsRipe sizes journal caller x → (pass_in sizes journal i).is_open ≡ true
+        → (node_in sizes journal x).ended ≤ (pass_in sizes journal i).since }
+{}
+
+/// What an open pass has met, a node that's linked or was spent after the pass began, it has met still, in the same life,
+/// while that pass is open.
+pub fn what_is_met_stays()
+    ensures met { (sizes : Sizes) → IsLayout sizes → (caller x : ℕ) (front journal : List Event)
+        → IsPrefix front journal → IsKept sizes journal → IsMet sizes front caller x
+        → (pass_in sizes journal caller).is_open ≡ true
+        → (pass_in sizes journal caller).since ≡ (pass_in sizes front caller).since → IsMet sizes journal caller x }
+    ensures life { (sizes : Sizes) → IsLayout sizes → (caller x : ℕ) (front journal : List Event)
+        → IsPrefix front journal → IsKept sizes journal → IsMet sizes front caller x
+        → (pass_in sizes journal caller).is_open ≡ true
+        → (pass_in sizes journal caller).since ≡ (pass_in sizes front caller).since
+        → (node_in sizes journal x).tag ≡ (node_in sizes front x).tag }
 {}

@@ -1,0 +1,163 @@
+-- Where lives ended beside passes: a ripe node was spent before each open pass began.
+use Rattle.std.proofs.Common.{◌≡◌, ◌≢◌, ◌⊎◌, ℕ, ◌+◌, ◌<◌, ◌≤◌, List, true, refl, sym, ap, ◌∙◌, subst, arith, ⊎_elim, inl, inr}
+use Rattle.packed_link.specs.Layout.{Sizes, IsLayout}
+use Rattle.core_journal.specs.declared.event.Kind.{Kind}
+use Rattle.core_journal.specs.declared.event.Kind.TheVariants.{PopFree, LinkVertex, MarkVertex, UnlinkVertex, LinkEdge, MarkEdge, UnlinkEdge, Announce, Withdraw, MoveEpoch, FreezeHead, FreezeEdge, StoreFree, PushFree}
+use Rattle.core_journal.specs.declared.event.Event.{Event}
+use mathlib.Core.Logic.{dite}
+use native.Mathlib.Decide.{dec_le}
+use Rattle.core_journal.specs.State.{Mode, Free, Fresh, Linked, Spent, Pass, Node, State, put, handed, state_by, state}
+use Rattle.core_journal.specs.Reuse.{pass_in}
+use Rattle.core_rule.specs.Kept.{AllowedAs, IsKept}
+use Rattle.core_rule.specs.Nodes.{node_in, IsRipe}
+use Rattle.core_rule.specs.Facts.{Ended, Ordered}
+use Rattle.core_rule.proofs.Induction.{kept_front}
+use Rattle.core_rule.proofs.Steps.{Keeps, put_case, handed_case, marked_state, closed_state, holds_all, holds_onward}
+use Rattle.core_rule.proofs.Numbers.{numbers}
+use Rattle.core_rule.proofs.Announcements.{announcements, epoch_was}
+use Rattle.core_rule.proofs.LinkWords.{taken}
+use Rattle.core_rule.proofs.Epochs.{near}
+
+-- two numbers in order
+le_or_lt : (a b : ℕ) → (a ≤ b) ⊎ (b < a)
+le_or_lt a b = dite (dec_le a b) (λ h. inl h) (λ h. inr (omega (arith, h)))
+
+-- the last end of a node's lives stays, or it's this event, which spends a linked node
+abbrev EndsAs : State → Node → Node → Type 0
+EndsAs s v v' = ((v'.ended ≡ v.ended) × (v'.epoch ≡ v.epoch)) ⊎ ((v'.ended ≡ s.count + 1) × (v'.epoch ≡ s.epoch) × (v'.mode ≡ Spent) × (v.mode ≡ Linked))
+
+end_put : (s : State) (i : ℕ) (v : Node) (x : ℕ) → EndsAs s (s.node i) v → EndsAs s (s.node x) (put i v s.node x)
+end_put s i v x h = put_case (λ (u : Node). EndsAs s (s.node x) u) i v s.node x (λ same. subst (λ (y : ℕ). EndsAs s (s.node y) v) (sym same) h) (λ _. inl (refl, refl))
+
+end_marked : (s : State) (i v x : ℕ) → EndsAs s (s.node x) ((handed v (marked_state s i)).node x)
+end_marked s i v x = handed_case (λ (u : Node). EndsAs s (s.node x) u) (marked_state s i) v x (end_put s i (record (s.node i) { marked = true }) x (inl (refl, refl)))
+    (λ m _ _. inr (refl, refl, refl, put_case (λ (u : Node). u.mode ≡ Linked → (s.node x).mode ≡ Linked) i (record (s.node i) { marked = true }) s.node x (λ same l. ap (λ (y : ℕ). (s.node y).mode) same ∙ l) (λ _ l. l) m))
+
+end_by : (k : Kind) (sizes : Sizes) (past : List Event) (e : Event) → AllowedAs k sizes past e → (x : ℕ) → EndsAs (state sizes past) (node_in sizes past x) ((state_by k sizes e (state sizes past)).node x)
+end_by PopFree sizes past e ok x = end_put (state sizes past) e.life.index _ x (inl (refl, refl))
+end_by LinkVertex sizes past e ok x = end_put (state sizes past) e.life.index _ x (inl (refl, refl))
+end_by MarkVertex sizes past e ok x = end_put (state sizes past) e.life.index _ x (inl (refl, refl))
+end_by UnlinkVertex sizes past e ok x = end_put (state sizes past) e.life.index _ x (inr (refl, refl, refl, ok.linked.linked))
+end_by LinkEdge sizes past e ok x = end_put (state sizes past) e.life.index _ x (inl (refl, refl))
+end_by UnlinkEdge sizes past e ok x = end_put (state sizes past) e.life.index _ x (inr (refl, refl, refl, ok.linked.linked))
+end_by StoreFree sizes past e ok x = end_put (state sizes past) e.life.index _ x (inl (refl, refl))
+end_by PushFree sizes past e ok x = end_put (state sizes past) e.life.index _ x (inl (refl, refl))
+end_by MarkEdge sizes past e ok x = end_marked (state sizes past) e.life.index (node_in sizes past e.life.index).source.index x
+end_by FreezeEdge sizes past e ok x = end_marked (state sizes past) e.life.index (node_in sizes past e.life.index).source.index x
+end_by FreezeHead sizes past e ok x = handed_case (λ (u : Node). EndsAs (state sizes past) (node_in sizes past x) u) (closed_state (state sizes past) e.life.index) e.life.index x (inl (refl, refl)) (λ m _ _. inr (refl, refl, refl, m))
+end_by _ sizes past e ok x = inl (refl, refl)
+
+ended_step : (sizes : Sizes) → Keeps sizes (λ (s : State) (w : ℕ → ℕ). Ended s)
+ended_step sizes past e kept c MoveEpoch by ok w a = record { epoch = λ x. omega (arith, c.epoch x); ended = λ x. omega (arith, c.ended x) }
+ended_step sizes past e kept c k by ok w a = record {
+  epoch = λ x. ⊎_elim (λ h. omega (arith, h, c.epoch x)) (λ h. omega (arith, h.1)) (end_by k sizes past e ok x);
+  ended = λ x. ⊎_elim (λ h. omega (arith, h, c.ended x)) (λ h. omega (arith, h.0)) (end_by k sizes past e ok x);
+}
+
+-- no life ended in the future
+pub ended : (sizes : Sizes) (journal : List Event) → IsKept sizes journal → Ended (state sizes journal)
+ended sizes journal kept = holds_all sizes (λ (s : State) (w : ℕ → ℕ). Ended s) (ended_step sizes) (record { epoch = λ x. omega arith; ended = λ x. omega arith }) journal kept
+
+-- a life that is over stays so, with the same end
+record IsOver (tag end epoch : ℕ) (v : Node) : Type 0 where
+  pub low : tag ≤ v.tag
+  pub fresh : v.tag ≡ tag → v.mode ≢ Fresh
+  pub linked : v.tag ≡ tag → v.mode ≢ Linked
+  pub epoch_is : v.tag ≡ tag → v.epoch ≡ epoch
+
+module _ (sizes : Sizes) (z : IsLayout sizes) (x tag end epoch : ℕ) where
+  over_put : (s : State) (i : ℕ) (v : Node) → IsOver tag end epoch (s.node x) → (IsOver tag end epoch (s.node i) → IsOver tag end epoch v) → IsOver tag end epoch (put i v s.node x)
+  over_put s i v c new = put_case (λ (u : Node). IsOver tag end epoch u) i v s.node x (λ same. new (subst (λ (y : ℕ). IsOver tag end epoch (s.node y)) same c)) (λ _. c)
+
+  over_handed : (s : State) (v : ℕ) → IsOver tag end epoch (s.node x) → IsOver tag end epoch ((handed v s).node x)
+  over_handed s v c = handed_case (λ (u : Node). IsOver tag end epoch u) s v x c (λ m _ _. record { low = c.low; fresh = λ h l. absurd (cc); linked = λ h l. absurd (cc); epoch_is = λ h. absurd (c.linked h m) })
+
+  over_mark : (v : Node) → IsOver tag end epoch v → IsOver tag end epoch (record v { marked = true })
+  over_mark v c = record { low = c.low; fresh = c.fresh; linked = c.linked; epoch_is = c.epoch_is }
+
+  over_step : Keeps sizes (λ (s : State) (w : ℕ → ℕ). IsOver tag end epoch (s.node x))
+  over_step past e kept c PopFree by ok w a = over_put (state sizes past) e.life.index _ c (λ d. let t = taken sizes z past e kept ok in record { low = omega (arith, d.low, t.tag); fresh = λ h. absurd (omega (arith, d.low, t.tag, h)); linked = λ h. absurd (omega (arith, d.low, t.tag, h)); epoch_is = λ h. absurd (omega (arith, d.low, t.tag, h)) })
+  over_step past e kept c LinkVertex by ok w a = over_put (state sizes past) e.life.index _ c (λ d. record { low = d.low; fresh = λ h l. absurd (cc); linked = λ h. absurd (d.fresh h ok.fresh.fresh); epoch_is = λ h. absurd (d.fresh h ok.fresh.fresh) })
+  over_step past e kept c LinkEdge by ok w a = over_put (state sizes past) e.life.index _ c (λ d. record { low = d.low; fresh = λ h l. absurd (cc); linked = λ h. absurd (d.fresh h ok.fresh.fresh); epoch_is = λ h. absurd (d.fresh h ok.fresh.fresh) })
+  over_step past e kept c UnlinkVertex by ok w a = over_put (state sizes past) e.life.index _ c (λ d. record { low = d.low; fresh = λ h l. absurd (cc); linked = λ h l. absurd (cc); epoch_is = λ h. absurd (d.linked h ok.linked.linked) })
+  over_step past e kept c UnlinkEdge by ok w a = over_put (state sizes past) e.life.index _ c (λ d. record { low = d.low; fresh = λ h l. absurd (cc); linked = λ h l. absurd (cc); epoch_is = λ h. absurd (d.linked h ok.linked.linked) })
+  over_step past e kept c MarkVertex by ok w a = over_put (state sizes past) e.life.index _ c (over_mark (node_in sizes past e.life.index))
+  over_step past e kept c StoreFree by ok w a = over_put (state sizes past) e.life.index _ c (λ d. record { low = d.low; fresh = d.fresh; linked = d.linked; epoch_is = d.epoch_is })
+  over_step past e kept c PushFree by ok w a = over_put (state sizes past) e.life.index _ c (λ d. record { low = d.low; fresh = λ h l. absurd (cc); linked = λ h l. absurd (cc); epoch_is = d.epoch_is })
+  over_step past e kept c MarkEdge by ok w a = over_handed (marked_state (state sizes past) e.life.index) (node_in sizes past e.life.index).source.index (over_put (state sizes past) e.life.index _ c (over_mark (node_in sizes past e.life.index)))
+  over_step past e kept c FreezeEdge by ok w a = over_handed (marked_state (state sizes past) e.life.index) (node_in sizes past e.life.index).source.index (over_put (state sizes past) e.life.index _ c (over_mark (node_in sizes past e.life.index)))
+  over_step past e kept c FreezeHead by ok w a = over_handed (closed_state (state sizes past) e.life.index) e.life.index c
+  over_step past e kept c _ by ok w a = c
+
+-- the stamp of a ripe node and the epoch that was shown, as facts of now
+pub ripe_now : (sizes : Sizes) → IsLayout sizes → (past : List Event) (caller x : ℕ) → IsKept sizes past → IsRipe sizes past caller x → (node_in sizes past x).epoch + 2 ≤ (state sizes past).epoch
+ripe_now sizes z past caller x kept r =
+    let m : (node_in sizes r.when x).mode ≡ Spent = r.when_spent in
+    let then = kept_front sizes r.when past r.when_before kept in
+    let tag = (node_in sizes r.when x).tag in
+    let epoch = (node_in sizes r.when x).epoch in
+    let over : IsOver tag 0 epoch (node_in sizes past x) = holds_onward sizes (λ (s : State) (w : ℕ → ℕ). IsOver tag 0 epoch (s.node x)) (over_step sizes z x tag 0 epoch) r.when past r.when_before kept
+    (record { low = omega arith; fresh = λ _ h. absurd (cc); linked = λ _ h. absurd (cc); epoch_is = λ _. refl }) in
+    omega (arith, over.epoch_is (sym r.when_life), (ended sizes r.when then).epoch x, (numbers sizes r.when then).epoch, r.when_epoch, r.shown_epoch, epoch_was sizes r.shown past r.shown_before kept)
+
+-- a spent node stays so until it's given back
+spent_stays : (k : Kind) (sizes : Sizes) → IsLayout sizes → (past : List Event) (e : Event) → IsKept sizes past → AllowedAs k sizes past e → (x : ℕ) → (node_in sizes past x).mode ≡ Spent → (((state_by k sizes e (state sizes past)).node x).mode ≡ Spent) ⊎ ((node_in sizes past x).epoch + 2 ≤ (state sizes past).epoch)
+spent_stays PushFree sizes z past e kept ok x m = put_case (λ (u : Node). (u.mode ≡ Spent) ⊎ ((node_in sizes past x).epoch + 2 ≤ (state sizes past).epoch)) e.life.index _ (state sizes past).node x
+    (λ same. inr (let r = ripe_now sizes z past e.caller e.life.index kept ok.ripe in let t : (node_in sizes past x).epoch ≡ (node_in sizes past e.life.index).epoch = ap (λ (y : ℕ). (node_in sizes past y).epoch) same in omega (arith, r, t)))
+    (λ _. inl m)
+spent_stays PopFree sizes z past e kept ok x m = inl (put_case (λ (u : Node). u.mode ≡ Spent) e.life.index _ (state sizes past).node x
+    (λ same. let f = (taken sizes z past e kept ok).free in let t : (node_in sizes past e.life.index).mode ≡ Spent = ap (λ (y : ℕ). (node_in sizes past y).mode) (sym same) ∙ m in absurd (cc)) (λ _. m))
+spent_stays LinkVertex sizes z past e kept ok x m = inl (put_case (λ (u : Node). u.mode ≡ Spent) e.life.index _ (state sizes past).node x
+    (λ same. let f = ok.fresh.fresh in let t : (node_in sizes past e.life.index).mode ≡ Spent = ap (λ (y : ℕ). (node_in sizes past y).mode) (sym same) ∙ m in absurd (cc)) (λ _. m))
+spent_stays LinkEdge sizes z past e kept ok x m = inl (put_case (λ (u : Node). u.mode ≡ Spent) e.life.index _ (state sizes past).node x
+    (λ same. let f = ok.fresh.fresh in let t : (node_in sizes past e.life.index).mode ≡ Spent = ap (λ (y : ℕ). (node_in sizes past y).mode) (sym same) ∙ m in absurd (cc)) (λ _. m))
+spent_stays MarkVertex sizes z past e kept ok x m = inl (put_case (λ (u : Node). u.mode ≡ Spent) e.life.index (record (node_in sizes past e.life.index) { marked = true }) (state sizes past).node x (λ same. ap (λ (y : ℕ). (node_in sizes past y).mode) (sym same) ∙ m) (λ _. m))
+spent_stays StoreFree sizes z past e kept ok x m = inl (put_case (λ (u : Node). u.mode ≡ Spent) e.life.index _ (state sizes past).node x (λ same. ap (λ (y : ℕ). (node_in sizes past y).mode) (sym same) ∙ m) (λ _. m))
+spent_stays UnlinkVertex sizes z past e kept ok x m = inl (put_case (λ (u : Node). u.mode ≡ Spent) e.life.index _ (state sizes past).node x (λ _. refl) (λ _. m))
+spent_stays UnlinkEdge sizes z past e kept ok x m = inl (put_case (λ (u : Node). u.mode ≡ Spent) e.life.index _ (state sizes past).node x (λ _. refl) (λ _. m))
+spent_stays MarkEdge sizes z past e kept ok x m = inl (handed_case (λ (u : Node). u.mode ≡ Spent) (marked_state (state sizes past) e.life.index) (node_in sizes past e.life.index).source.index x
+    (put_case (λ (u : Node). u.mode ≡ Spent) e.life.index (record (node_in sizes past e.life.index) { marked = true }) (state sizes past).node x (λ same. ap (λ (y : ℕ). (node_in sizes past y).mode) (sym same) ∙ m) (λ _. m)) (λ _ _ _. refl))
+spent_stays FreezeEdge sizes z past e kept ok x m = inl (handed_case (λ (u : Node). u.mode ≡ Spent) (marked_state (state sizes past) e.life.index) (node_in sizes past e.life.index).source.index x
+    (put_case (λ (u : Node). u.mode ≡ Spent) e.life.index (record (node_in sizes past e.life.index) { marked = true }) (state sizes past).node x (λ same. ap (λ (y : ℕ). (node_in sizes past y).mode) (sym same) ∙ m) (λ _. m)) (λ _ _ _. refl))
+spent_stays FreezeHead sizes z past e kept ok x m = inl (handed_case (λ (u : Node). u.mode ≡ Spent) (closed_state (state sizes past) e.life.index) e.life.index x m (λ _ _ _. refl))
+spent_stays _ sizes z past e kept ok x m = inl m
+
+-- in one open pass: the end of a node after an event
+after_end : (k : Kind) (sizes : Sizes) → IsLayout sizes → (past : List Event) (e : Event) → IsKept sizes past → AllowedAs k sizes past e → Ordered (state sizes past) → (i x : ℕ) → (pass_in sizes past i).is_open ≡ true
+    → ((state_by k sizes e (state sizes past)).node x).mode ≢ Spent → ((state_by k sizes e (state sizes past)).node x).ended ≤ (pass_in sizes past i).since
+after_end k sizes z past e kept ok c i x o ne = ⊎_elim
+    (λ same. omega (arith, same.0, by (node_in sizes past x).mode refl))
+    (λ now. absurd (ne now.2)) (end_by k sizes past e ok x)
+  where
+    by : (m : Mode) → (node_in sizes past x).mode ≡ m → (node_in sizes past x).ended ≤ (pass_in sizes past i).since
+    by Spent is = ⊎_elim (λ s. absurd (ne s)) (λ r. ⊎_elim (λ h. h) (λ h. let b = c.later i x o h in absurd (omega (arith, b, r, (near sizes past kept).near i o))) (le_or_lt _ _)) (spent_stays k sizes z past e kept ok x is)
+    by Free is = c.unspent i x o (λ h. absurd (cc))
+    by Fresh is = c.unspent i x o (λ h. absurd (cc))
+    by Linked is = c.unspent i x o (λ h. absurd (cc))
+
+after_later : (k : Kind) (sizes : Sizes) (past : List Event) (e : Event) → IsKept sizes past → AllowedAs k sizes past e → Ordered (state sizes past) → (i x : ℕ) → (pass_in sizes past i).is_open ≡ true
+    → (pass_in sizes past i).since < ((state_by k sizes e (state sizes past)).node x).ended → (pass_in sizes past i).birth ≤ ((state_by k sizes e (state sizes past)).node x).epoch
+after_later k sizes past e kept ok c i x o h = ⊎_elim
+    (λ same. let b = c.later i x o (omega (arith, h, same.0)) in omega (arith, b, same.1))
+    (λ now. let q = (announcements sizes past kept).inside i o in omega (arith, q.born, now.1)) (end_by k sizes past e ok x)
+
+ordered_step : (sizes : Sizes) → IsLayout sizes → Keeps sizes (λ (s : State) (w : ℕ → ℕ). Ordered s)
+ordered_step sizes z past e kept c Announce by ok w a = record {
+  later = λ i x. put_case (λ (q : Pass). q.is_open ≡ true → q.since < (node_in sizes past x).ended → q.birth ≤ (node_in sizes past x).epoch) e.caller _ (state sizes past).pass i (λ _ _ h. absurd (omega (arith, h, (ended sizes past kept).ended x))) (λ _ o h. c.later i x o h);
+  unspent = λ i x. put_case (λ (q : Pass). q.is_open ≡ true → (node_in sizes past x).mode ≢ Spent → (node_in sizes past x).ended ≤ q.since) e.caller _ (state sizes past).pass i (λ _ _ _. (ended sizes past kept).ended x) (λ _ o h. c.unspent i x o h);
+}
+ordered_step sizes z past e kept c Withdraw by ok w a = record {
+  later = λ i x. put_case (λ (q : Pass). q.is_open ≡ true → q.since < (node_in sizes past x).ended → q.birth ≤ (node_in sizes past x).epoch) e.caller _ (state sizes past).pass i (λ _ o h. absurd (cc)) (λ _ o h. c.later i x o h);
+  unspent = λ i x. put_case (λ (q : Pass). q.is_open ≡ true → (node_in sizes past x).mode ≢ Spent → (node_in sizes past x).ended ≤ q.since) e.caller _ (state sizes past).pass i (λ _ o _. absurd (cc)) (λ _ o h. c.unspent i x o h);
+}
+ordered_step sizes z past e kept c k by ok w a = record { later = λ i x o h. after_later k sizes past e kept ok c i x o h; unspent = λ i x o h. after_end k sizes z past e kept ok c i x o h }
+
+-- the ends of lives beside open passes, after each kept journal
+pub ordered : (sizes : Sizes) → IsLayout sizes → (journal : List Event) → IsKept sizes journal → Ordered (state sizes journal)
+ordered sizes z journal kept = holds_all sizes (λ (s : State) (w : ℕ → ℕ). Ordered s) (ordered_step sizes z) (record { later = λ i x o. absurd (cc); unspent = λ i x o. absurd (cc) }) journal kept
+
+-- a ripe node was spent before each open pass began
+pub ripe_before : (sizes : Sizes) → IsLayout sizes → (journal : List Event) → IsKept sizes journal → (caller x i : ℕ) → IsRipe sizes journal caller x → (pass_in sizes journal i).is_open ≡ true → (node_in sizes journal x).ended ≤ (pass_in sizes journal i).since
+ripe_before sizes z journal kept caller x i r o = ⊎_elim (λ h. h)
+    (λ h. let b = (ordered sizes z journal kept).later i x o h in absurd (omega (arith, b, ripe_now sizes z journal caller x kept r, (near sizes journal kept).near i o)))
+    (le_or_lt (node_in sizes journal x).ended (pass_in sizes journal i).since)
