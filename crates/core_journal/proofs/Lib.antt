@@ -3,6 +3,7 @@ pub mod Lists
 pub mod MachineWords
 pub mod States
 pub mod KeptLives
+pub mod FirstMarks
 pub mod Calls
 pub mod Turns
 pub mod Places

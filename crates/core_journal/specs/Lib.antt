@@ -8,6 +8,7 @@ pub mod History
 pub mod Order
 pub mod Foreign
 pub mod Right
+pub mod Overtaken
 pub mod Reuse
 pub mod Changes
 pub mod Worked

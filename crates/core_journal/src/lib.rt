@@ -11,6 +11,7 @@ mod changes;
 mod event;
 mod history;
 mod lives;
+mod overtaken;
 mod words;
 mod worked;
 
@@ -24,6 +25,7 @@ pub use history::{
 pub use lives::{
     fronts_are_journals, links_are_found, marks_and_links_stay, prefixes_chain, reuse_goes_on,
 };
+pub use overtaken::overtaking_has_two_cases;
 pub use words::{events_change_the_state, events_write_their_words};
 pub use worked::{
     a_closed_list_is_handed_over, a_late_edge_is_legal, a_second_life_is_safe,
