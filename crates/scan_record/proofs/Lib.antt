@@ -5,3 +5,4 @@ pub mod Edges
 pub mod Rising
 pub mod GraphOfScan
 pub mod IsGraphOfScan
+pub mod Pushes

@@ -6,6 +6,6 @@ mod room;
 mod rows;
 mod scan;
 
-pub use laws::{complete_scans_are_graphs, scan_graph_looked_up};
+pub use laws::{complete_scans_are_graphs, pushes_extend_the_graph, scan_graph_looked_up};
 pub use rows::{EdgeRow, VertexRow};
 pub use scan::Scan;
