@@ -9,7 +9,7 @@ use Rattle.csv.specs.declared.reader.Reader.{Reader}
 use Rattle.csv.specs.declared.reader.Trim.TheVariants as trim
 use Rattle.graph_kinds.specs.Answer.{IsWellMade}
 use Rattle.graph_kinds.specs.declared.call.Row.{Row}
-use Rattle.op_text.specs.Rows.{IsCheapest, most_rows, row_of, rows, rows_from, then_rows}
+use Rattle.op_text.specs.Rows.{most_rows, row_of, rows, rows_from, then_rows}
 use Rattle.op_text.specs.declared.rows.RowCause.{RowCause}
 use Rattle.op_text.proofs.RowRecords.{none_read, record_read, records_left}
 
@@ -50,7 +50,6 @@ pub record IsReadSoFar (bytes : List ℕ) (callers number : ℕ) (reader : Reade
   pub few : number ≤ most_rows + 1
   pub within : All (λ r. r.caller < callers) read
   pub well_made : All (λ r. IsWellMade r.call) read
-  pub no_cheapest : All (λ r. ¬ (IsCheapest r.call)) read
 
 joined_none : (r : Result (List Row) (ℕ × RowCause)) → r ≡ joined [] r
 joined_none (Ok more) = refl
@@ -75,14 +74,13 @@ no_rows bytes callers a read none trims ready config state source =
       few = omega arith;
       within = All-same (λ r. r.caller < callers) read [] none (All-nil (λ r. r.caller < callers));
       well_made = All-same (λ r. IsWellMade r.call) read [] none (All-nil (λ r. IsWellMade r.call));
-      no_cheapest = All-same (λ r. ¬ (IsCheapest r.call)) read [] none (All-nil (λ r. ¬ (IsCheapest r.call)));
     }
 
 -- one more record, which is a row
 pub next_row : (bytes : List ℕ) (callers number : ℕ) (a b : Reader (Bor (List ℕ))) (read : List Row) (fields : List (List ℕ)) (row : Row) → IsReadSoFar bytes callers number a read
-    → ReadRecord known a b true fields → took_first b ≡ true → Ok row ≡ row_of callers number fields → row.caller < callers → IsWellMade row.call → ¬ (IsCheapest row.call) → number < most_rows + 1
+    → ReadRecord known a b true fields → took_first b ≡ true → Ok row ≡ row_of callers number fields → row.caller < callers → IsWellMade row.call → number < most_rows + 1
     → IsReadSoFar bytes callers (number + 1) b (read ++ row ∷ [])
-next_row bytes callers number a b read fields row so_far record_b first is_row caller well_made no_cheapest few =
+next_row bytes callers number a b read fields row so_far record_b first is_row caller well_made few =
     let (left, at_left, fresh, records) = record_read known a b fields default_config so_far.left so_far.config so_far.source so_far.fresh record_b in
     record {
       left = left;
@@ -96,7 +94,6 @@ next_row bytes callers number a b read fields row so_far record_b first is_row c
       few = omega arith;
       within = All-push (λ r. r.caller < callers) read row so_far.within caller;
       well_made = All-push (λ r. IsWellMade r.call) read row so_far.well_made well_made;
-      no_cheapest = All-push (λ r. ¬ (IsCheapest r.call)) read row so_far.no_cheapest no_cheapest;
     }
 
 -- the first record that is no row

@@ -1,5 +1,5 @@
 -- The level ends of an answer rise, and the last is the number of its keys.
-use Rattle.std.proofs.Common.{◌≡◌, ℕ, ◌+◌, ◌-◌, ◌<◌, ◌≤◌, Bool, true, false, cond, ◌&&◌, List, [], ◌∷◌, ◌++◌, length, get_or, Option, Some, None, refl, sym, ap, ◌∙◌, arith, length-append, add-one}
+use Rattle.std.proofs.Common.{◌≡◌, ℕ, ◌+◌, ◌-◌, ◌<◌, true, false, cond, ◌&&◌, List, [], ◌∷◌, ◌++◌, length, get_or, Option, Some, None, refl, ap, arith, length-append, add-one}
 use Rattle.std.specs.Prelude.{suc, zero}
 use Rattle.std.specs.List.{concat}
 use Rattle.graph_kinds.specs.declared.call.Call.{Call}

@@ -1,9 +1,9 @@
 -- How the parts of a text that are given to a sink add up.
-use Rattle.std.proofs.Common.{◌≡◌, ℕ, ◌+◌, ◌-◌, ◌<◌, ◌≤◌, List, [], ◌++◌, length, take, drop, refl, sym, ap, ◌∙◌, subst, arith, append-nil, take-append-drop, length-append, length-drop, take_all, take-add}
-use Rattle.std.specs.Prelude.{Option, Some, None, Result, Ok, Err, IsErr}
+use Rattle.std.proofs.Common.{◌≡◌, ℕ, ◌+◌, ◌-◌, List, [], ◌++◌, length, take, drop, sym, subst, arith, length-append, length-drop, take_all, take-add}
+use Rattle.std.specs.Prelude.{Option, Result, Ok, Err, IsErr}
 use Rattle.std.proofs.lemmas.List.{take-append-le}
 use Rattle.std.proofs.Math.Seq.{take-append-add}
-use Rattle.graph_kinds.specs.Stream.{Rose, Puts, PutsSome}
+use Rattle.graph_kinds.specs.Stream.{Puts, PutsSome}
 use Rattle.graph_kinds.proofs.Bytes.{puts-none, puts-more, rose-since}
 use Rattle.op_text.specs.Gives.{Gives}
 

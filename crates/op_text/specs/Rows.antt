@@ -52,6 +52,7 @@ operation kind.RemoveEdge = on_keys (codes "remove-edge") (λ a b. RemoveEdge a 
 operation kind.HasEdge = on_keys (codes "has-edge") (λ a b. HasEdge a b)
 operation kind.Reach = on_keys (codes "reach") (λ a b. Reach a b)
 operation kind.Levels = on_key (codes "levels") (λ a. Levels a)
+operation kind.Cheapest = on_keys (codes "cheapest") (λ a b. Cheapest a b)
 
 -- the operations
 abbrev pub operations : List Operation
@@ -64,16 +65,12 @@ operations =
     ∷ operation kind.HasEdge
     ∷ operation kind.Reach
     ∷ operation kind.Levels
+    ∷ operation kind.Cheapest
     ∷ []
 
 -- the operation of a name
 abbrev pub operation_of : List ℕ → Option Operation
 operation_of name = find (λ (o : Operation). bytes_eq name o.name) operations
-
--- the call asks for a cheapest path, which no operation does yet
-abbrev pub IsCheapest : Call → Type 0
-IsCheapest (Cheapest a b) = Unit {0}
-IsCheapest _ = ⊥
 
 -- a field is empty
 abbrev pub is_blank : List ℕ → Bool

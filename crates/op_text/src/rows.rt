@@ -8,7 +8,7 @@
 ghost use Rattle.std.specs.Prelude.{◌≡◌, ◌≢◌, ◌<◌, ◌≤◌, All, IfOk, IfSome, IfNone, OnOk, Ok, Err, Some, [], ◌∷◌, ◌+◌, length, vec_len};
 ghost use Rattle.csv.specs.Records.{field_at, fields_of};
 ghost use Rattle.graph_kinds.specs.Answer.{IsWellMade};
-ghost use Rattle.op_text.specs.Rows.{IsCheapest, most_rows, operation, row_by, row_of, rows};
+ghost use Rattle.op_text.specs.Rows.{most_rows, operation, row_by, row_of, rows};
 ghost use Rattle.op_text.specs.Faults.{IfBad};
 
 mod kind;
@@ -66,7 +66,6 @@ fn row_of_kind(
     ensures row { result ≡ row_by (operation kind) caller first.now second.now weight.now }
     ensures caller { IfOk result (λ r. r.caller ≡ caller) }
     ensures well_made { IfOk result (λ r. IsWellMade r.call) }
-    ensures no_cheapest { IfOk result (λ r. ¬ (IsCheapest r.call)) }
 {
     let needs_second = kind.needs_second();
     let needs_weight = kind.needs_weight();
@@ -141,7 +140,6 @@ fn row_of_record(callers: u32, row_number: u32, csv_record: &ByteRecord) -> Resu
     ensures row { result ≡ row_of callers row_number (fields_of csv_record.now) }
     ensures caller { IfOk result (λ r. r.caller < callers) }
     ensures well_made { IfOk result (λ r. IsWellMade r.call) }
-    ensures no_cheapest { IfOk result (λ r. ¬ (IsCheapest r.call)) }
     ensures most { OnOk result (row_number ≢ most_rows + 1) }
 {
     if row_number == MOST_ROWS + 1 {
@@ -169,7 +167,6 @@ pub fn read_rows(alloc: Global, bytes: &[u8], callers: u32) -> Result<Vec<Row>, 
     ensures ok { IfOk result (λ v. rows callers bytes.now ≡ Ok v.items) }
     ensures bad { IfBad result (λ row cause. rows callers bytes.now ≡ Err (row, cause)) }
     ensures well_made { IfOk result (λ v. All (λ r. IsWellMade r.call) v.items) }
-    ensures no_cheapest { IfOk result (λ v. All (λ r. ¬ (IsCheapest r.call)) v.items) }
     ensures callers { IfOk result (λ v. All (λ r. r.caller < callers) v.items) }
     ensures most { IfOk result (λ v. vec_len v ≤ most_rows) }
 {

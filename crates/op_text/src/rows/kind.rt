@@ -4,7 +4,7 @@
 
 ghost use Rattle.std.specs.Prelude.{◌≡◌, ◌≤◌, option_map, true};
 ghost use Rattle.graph_kinds.specs.Answer.{IsWellMade};
-ghost use Rattle.op_text.specs.Rows.{IsCheapest, operation, operation_of};
+ghost use Rattle.op_text.specs.Rows.{operation, operation_of};
 
 use graph_kinds::Call;
 
@@ -19,6 +19,7 @@ pub enum CallKind {
     HasEdge,
     Reach,
     Levels,
+    Cheapest,
 }
 
 impl CallKind {
@@ -42,6 +43,8 @@ impl CallKind {
             Some(CallKind::Reach)
         } else if name == b"levels".as_slice() {
             Some(CallKind::Levels)
+        } else if name == b"cheapest".as_slice() {
+            Some(CallKind::Cheapest)
         } else {
             None
         }
@@ -54,7 +57,11 @@ impl CallKind {
         match self {
             CallKind::AddVertex | CallKind::RemoveVertex | CallKind::HasVertex | CallKind::Levels =>
                 false,
-            CallKind::AddEdge | CallKind::RemoveEdge | CallKind::HasEdge | CallKind::Reach => true,
+            CallKind::AddEdge
+            | CallKind::RemoveEdge
+            | CallKind::HasEdge
+            | CallKind::Reach
+            | CallKind::Cheapest => true,
         }
     }
 
@@ -71,7 +78,6 @@ impl CallKind {
     /// The call on these keys, with this weight; what the kind doesn't need is left out.
     pub fn call(self, first: u32, second: u32, weight: u32) -> Call
         ensures call { result ≡ (operation self).call first second weight }
-        ensures no_cheapest { ¬ (IsCheapest result) }
         ensures well_made { ((operation self).needs_weight ≡ true → 1 ≤ weight) → IsWellMade result }
     {
         match self {
@@ -96,6 +102,10 @@ impl CallKind {
                 to: second,
             },
             CallKind::Levels => Call::Levels { from: first },
+            CallKind::Cheapest => Call::Cheapest {
+                from: first,
+                to: second,
+            },
         }
     }
 }

@@ -1,4 +1,4 @@
-use Rattle.std.proofs.Common.{◌<◌, arith, ◌++◌, refl, ap, ◌∙◌, append-nil, drop_of_length-le}
+use Rattle.std.proofs.Common.{◌<◌, arith, ◌++◌, ap, ◌∙◌, append-nil, drop_of_length-le}
 use Rattle.std.proofs.Math.ListN.{length-set}
 use Rattle.std.specs.Fmt.{decimal}
 use Rattle.std.proofs.lemmas.Fmt.{decimal_nonempty, length-decimal-le}

@@ -35,7 +35,7 @@ loop-number-preserved c =
     let more = rw good at c.push.ensures.items in
     rw more (next_row c.args.bytes.now c.args.callers c.loop-number.number c.loop-number.reader c.read_byte_record.new.self c.loop-number.read.items
     (fields_of c.read_byte_record.new.row) c.in-Ok.row inv (rw c.in-Ok-true.field-0-test at (c.in-Ok-true.ensures.reads inv.trim inv.ready))
-    (c.in-Ok-true.ensures.ready inv.trim) c.in-Ok.ensures.row c.in-Ok.ensures.caller c.in-Ok.ensures.well_made c.in-Ok.ensures.no_cheapest (omega (arith, c.in-Ok.ensures.most, inv.few)))
+    (c.in-Ok-true.ensures.ready inv.trim) c.in-Ok.ensures.row c.in-Ok.ensures.caller c.in-Ok.ensures.well_made (omega (arith, c.in-Ok.ensures.most, inv.few)))
 
 pub unreachable-requires : goal.unreachable-requires
 unreachable-requires c = omega (arith, c.loop-number.invariant.few)

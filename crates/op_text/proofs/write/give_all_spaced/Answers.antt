@@ -1,7 +1,4 @@
-use Rattle.std.proofs.Common.{◌≡◌, ◌+◌, ◌<◌, length, take, drop, get_or, [], ◌∷◌, ◌++◌, sym, ap, ◌∙◌, arith, add-one, take-append-drop, take_all}
-use Rattle.std.proofs.Math.Seq.{take-suc, drop-cons}
-use Rattle.std.proofs.lemmas.Grind.{flat_map-append}
-use Rattle.std.specs.Fmt.{decimal}
+use Rattle.std.proofs.Common.{◌+◌, drop, ap, arith, take_all}
 use Rattle.op_text.specs.Text.{spaced}
 use Rattle.op_text.proofs.TextWrites.{gives-then, gives-stop, gives-as}
 use Rattle.op_text.proofs.TextLists.{spaced-more, spaced-split}

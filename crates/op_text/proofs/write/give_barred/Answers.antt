@@ -1,4 +1,4 @@
-use Rattle.std.proofs.Common.{◌≡◌, ◌+◌, ◌++◌, get_or, drop, length, [], arith, refl, sym, ap, ◌∙◌, append_assoc, append-nil, drop_of_length-le}
+use Rattle.std.proofs.Common.{◌≡◌, ◌+◌, ◌++◌, get_or, drop, [], arith, refl, sym, ap, ◌∙◌, append_assoc, append-nil, drop_of_length-le}
 use Rattle.op_text.specs.Text.{barred, levels_by}
 use Rattle.op_text.proofs.TextWrites.{gives-none, gives-then, gives-stop, gives-as}
 use Rattle.op_text.proofs.TextLists.{end-inside, barred-step}

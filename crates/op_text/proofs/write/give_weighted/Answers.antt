@@ -2,7 +2,7 @@ use Rattle.std.proofs.Common.{◌≡◌, ◌∷◌, ◌++◌, sym, ap, ne_eqb}
 use Rattle.std.specs.Prelude.{cond}
 use Rattle.std.specs.Fmt.{decimal}
 use Rattle.op_text.specs.Text.{with_weight}
-use Rattle.op_text.proofs.TextWrites.{gives-then, gives-stop, gives-as}
+use Rattle.op_text.proofs.TextWrites.{gives-then, gives-as}
 use Rattle.op_text.proofs.write.give_weighted.Goals as goal
 
 pub returns : goal.returns

@@ -1,5 +1,5 @@
-use Rattle.std.proofs.Common.{◌-◌, arith, length, length-take, length-drop, append-nil, take, drop}
-use Rattle.graph_kinds.proofs.Bytes.{puts-step, puts-more, rose-since}
+use Rattle.std.proofs.Common.{arith, length-take, length-drop}
+use Rattle.graph_kinds.proofs.Bytes.{puts-step}
 use Rattle.op_text.proofs.write.put_front.Goals as goal
 
 pub loop-done-preserved : goal.loop-done-preserved

@@ -1,4 +1,3 @@
-use Rattle.op_text.specs.Gives.{Gives}
 use Rattle.op_text.proofs.TextWrites.{gives-then}
 use Rattle.op_text.proofs.write.write_outcome.Goals as goal
 
