@@ -13,9 +13,10 @@ use Rattle.scan_record.specs.declared.rows.VertexRow.{VertexRow}
 use Rattle.scan_record.specs.Scan.{ScanValue, IsScan, IsComplete, blank_edge, row_at, edge_at, edges_of}
 use Rattle.scan_record.specs.ScanGraph.{graph_of_scan, target_key, target_keys}
 use Rattle.path_levels.specs.Queue.{leads, with_met, with_all}
-use Rattle.path_levels.specs.Search.{KeepsRows, IsQueue}
+use Rattle.path_levels.specs.Search.{KeepsRowsAndCosts, IsQueue}
 use Rattle.path_levels.proofs.MetLists.{with_all-append, with_all-firsts, all_met}
-use Rattle.path_levels.proofs.ScanFacts.{row_neighbours, graph_kept, rows_kept, kept_on, kept_same}
+use Rattle.scan_record.proofs.ScanFacts.{row_neighbours, graph_kept, rows_kept}
+use Rattle.path_levels.proofs.KeptScans.{all_kept_on, all_kept_same}
 
 in_targets : (edge : EdgeRow) (y : ℕ) (edges : List EdgeRow) → In edge edges → target_key edge ≡ Some y → In y (target_keys edges)
 in_targets edge y [] h e = absurd h
@@ -99,7 +100,7 @@ place_row s place = get_or s.slot_zero place 0
 
 -- the edges of the row at a place were met up to one of them
 pub record IsExpanding (old s : ScanValue) (place p : ℕ) : Type 0 where
-  pub kept : KeepsRows old s
+  pub kept : KeepsRowsAndCosts old s
   pub ends : s.ends ≡ old.ends
   pub queue : IsQueue s place
   pub there : place < length s.keys
@@ -110,7 +111,7 @@ pub expanding_first : (s : ScanValue) (place p : ℕ) → IsQueue s place → pl
 expanding_first s place p q lt e =
     let none : p - (row_at s (place_row s place)).first ≡ 0 = omega (arith, e) in
     record {
-      kept = kept_same s;
+      kept = all_kept_same s;
       ends = refl;
       queue = q;
       there = lt;
@@ -128,35 +129,35 @@ module _ (old : ScanValue) (scan : IsScan old) (is : IsComplete old) (place : �
 
   module _ (low : (row_at old row).first ≤ p) (high : p < (row_at old row).first + (row_at old row).count) where
     pub edge_within : p < length s.edges
-    edge_within = subst (λ (es : List EdgeRow). p < length es) (sym now.kept.edges) (within old scan is row row_there p high)
+    edge_within = subst (λ (es : List EdgeRow). p < length es) (sym now.kept.rows.edges) (within old scan is row row_there p high)
 
     same_edge : edge_at s p ≡ edge_at old p
-    same_edge = ap (λ (es : List EdgeRow). get_or es p blank_edge) now.kept.edges
+    same_edge = ap (λ (es : List EdgeRow). get_or es p blank_edge) now.kept.rows.edges
 
     module _ (t : ℕ) (target : (edge_at s p).target ≡ Some t) where
       old_target : (edge_at old p).target ≡ Some t
       old_target = ap (λ (e : EdgeRow). e.target) (sym same_edge) ∙ target
 
       pub target_within : t < length s.rows
-      target_within = subst (λ (rows : List VertexRow). t < length rows) (sym now.kept.rows) (scan.targets_are_rows p t (within old scan is row row_there p high) old_target)
+      target_within = subst (λ (rows : List VertexRow). t < length rows) (sym now.kept.rows.rows) (scan.targets_are_rows p t (within old scan is row row_there p high) old_target)
 
       pub edge_leads : leads (graph_of_scan s) (row_at s t).key (get_or s.keys place 0) ≡ true
-      edge_leads = ap (λ (g : Graph). leads g (row_at s t).key (get_or s.keys place 0)) (graph_kept old s now.kept)
-          ∙ (ap (λ (v : VertexRow). leads (graph_of_scan old) v.key (get_or s.keys place 0)) (rows_kept old s now.kept t)
+      edge_leads = ap (λ (g : Graph). leads g (row_at s t).key (get_or s.keys place 0)) (graph_kept old s now.kept.rows)
+          ∙ (ap (λ (v : VertexRow). leads (graph_of_scan old) v.key (get_or s.keys place 0)) (rows_kept old s now.kept.rows t)
           ∙ (ap (λ (k : ℕ). leads (graph_of_scan old) (row_at old t).key k) (now.key ∙ sym (q.keys place lt)) ∙ leads_there old scan is row row_there p t low high old_target))
 
-      pub expanding_some : (new : ScanValue) → new.keys ≡ with_met s.keys (row_at s t).key → IsQueue new place → new.ends ≡ s.ends → KeepsRows s new → IsExpanding old new place (p + 1)
+      pub expanding_some : (new : ScanValue) → new.keys ≡ with_met s.keys (row_at s t).key → IsQueue new place → new.ends ≡ s.ends → KeepsRowsAndCosts s new → IsExpanding old new place (p + 1)
       expanding_some new keys queue ends kept =
           let one : with_met s.keys (row_at s t).key ≡ with_all s.keys ((row_at s t).key ∷ []) = refl in
           let front = with_all-front s.keys ((row_at s t).key ∷ []) place now.there in
           record {
-            kept = kept_on old s new now.kept kept;
+            kept = all_kept_on old s new now.kept kept;
             ends = ends ∙ now.ends;
             queue = queue;
             there = rw keys front.0;
             key = ap (λ (xs : List ℕ). get_or xs place 0) keys ∙ (front.1 ∙ now.key);
             keys = keys
-                ∙ (ap (λ (v : VertexRow). with_met s.keys v.key) (rows_kept old s now.kept t)
+                ∙ (ap (λ (v : VertexRow). with_met s.keys v.key) (rows_kept old s now.kept.rows t)
                 ∙ (ap (λ (xs : List ℕ). with_met xs (row_at old t).key) now.keys
                 ∙ (sym (met_target old scan is row row_there _ p t high old_target) ∙ sym (met_more old scan is row row_there old.keys p low high))));
           }
@@ -179,4 +180,4 @@ module _ (old : ScanValue) (scan : IsScan old) (is : IsComplete old) (place : �
 
     pub expanded_queue : IsQueue s (place + 1)
     expanded_queue = one_done s place old.keys now.queue
-        (expanded_keys ∙ (ap (λ (k : ℕ). with_all old.keys (neighbours (graph_of_scan old) k)) (sym now.key) ∙ ap (λ (g : Graph). with_all old.keys (neighbours g (get_or s.keys place 0))) (sym (graph_kept old s now.kept))))
+        (expanded_keys ∙ (ap (λ (k : ℕ). with_all old.keys (neighbours (graph_of_scan old) k)) (sym now.key) ∙ ap (λ (g : Graph). with_all old.keys (neighbours g (get_or s.keys place 0))) (sym (graph_kept old s now.kept.rows))))

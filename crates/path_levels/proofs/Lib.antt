@@ -1,7 +1,7 @@
 pub mod MetLists
 pub mod Listed
 pub mod Trails
-pub mod ScanFacts
+pub mod KeptScans
 pub mod Queues
 pub mod Expanding
 pub mod Searching

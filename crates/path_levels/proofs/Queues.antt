@@ -15,7 +15,7 @@ use Rattle.scan_record.specs.ScanGraph.{graph_of_scan}
 use Rattle.path_levels.specs.Queue.{leads, IsTree}
 use Rattle.path_levels.specs.Search.{with_row, IsQueue}
 use Rattle.path_levels.proofs.MetLists.{eqb_swap}
-use Rattle.path_levels.proofs.ScanFacts.{row_key, few_keys}
+use Rattle.scan_record.proofs.ScanFacts.{row_key, few_keys}
 
 all_apart : (x : ℕ) (xs : List ℕ) → AllByRecursion (λ y. nat_eq x y ≡ false) xs → In x xs → ⊥
 all_apart x [] all h = h

@@ -11,10 +11,12 @@ use Rattle.scan_record.specs.declared.rows.VertexRow.{VertexRow}
 use Rattle.scan_record.specs.Scan.{ScanValue}
 use Rattle.scan_record.specs.ScanGraph.{graph_of_scan}
 use Rattle.path_levels.specs.Queue.{with_all}
-use Rattle.path_levels.specs.Search.{root_of, answered, KeepsRows, IsQueue}
+use Rattle.scan_record.specs.Asked.{root_of, answered}
+use Rattle.path_levels.specs.Search.{KeepsRowsAndCosts, IsQueue}
 use Rattle.path_levels.proofs.MetLists.{with_all-append, with_all-firsts}
 use Rattle.path_levels.proofs.Listed.{IsListed, first_listed, next_listed, all_listed, concat-push, level_ends-push, length-level_ends}
-use Rattle.path_levels.proofs.ScanFacts.{graph_kept, kept_on, kept_same}
+use Rattle.scan_record.proofs.ScanFacts.{graph_kept}
+use Rattle.path_levels.proofs.KeptScans.{all_kept_on, all_kept_same}
 use Rattle.path_levels.proofs.Queues.{queue_few}
 use Rattle.path_levels.proofs.Expanding.{with_all-front}
 
@@ -23,7 +25,7 @@ grown_long queue ys = omega (arith, ap (λ (xs : List ℕ). length xs) (with_all
 
 -- the keys from a place on were expanded up to another place
 pub record IsLevelExpanding (old s : ScanValue) (from p : ℕ) : Type 0 where
-  pub kept : KeepsRows old s
+  pub kept : KeepsRowsAndCosts old s
   pub ends : s.ends ≡ old.ends
   pub queue : IsQueue s p
   pub keys : s.keys ≡ with_all old.keys (flat_map (neighbours (graph_of_scan old)) (take (p - from) (drop from old.keys)))
@@ -32,7 +34,7 @@ pub level_first : (s : ScanValue) (from : ℕ) → IsQueue s from → IsLevelExp
 level_first s from q =
     let none : from - from ≡ 0 = omega arith in
     record {
-      kept = kept_same s;
+      kept = all_kept_same s;
       ends = refl;
       queue = q;
       keys = ap (λ (n : ℕ). with_all s.keys (flat_map (neighbours (graph_of_scan s)) (take n (drop from s.keys)))) (sym none);
@@ -42,7 +44,7 @@ module _ (old s : ScanValue) (from p : ℕ) (now : IsLevelExpanding old s from p
   pub place_there : p < length old.keys → p < length s.keys
   place_there lt = subst (λ (xs : List ℕ). p < length xs) (sym now.keys) (with_all-front old.keys (flat_map (neighbours (graph_of_scan old)) (take (p - from) (drop from old.keys))) p lt).0
 
-  pub level_next : p < length old.keys → (new : ScanValue) → new.keys ≡ with_all s.keys (neighbours (graph_of_scan s) (get_or s.keys p 0)) → IsQueue new (p + 1) → new.ends ≡ s.ends → KeepsRows s new → IsLevelExpanding old new from (p + 1)
+  pub level_next : p < length old.keys → (new : ScanValue) → new.keys ≡ with_all s.keys (neighbours (graph_of_scan s) (get_or s.keys p 0)) → IsQueue new (p + 1) → new.ends ≡ s.ends → KeepsRowsAndCosts s new → IsLevelExpanding old new from (p + 1)
   level_next lt new keys queue ends kept =
       let next : p + 1 - from ≡ p - from + 1 = omega arith in
       let back : from + (p - from) ≡ p = omega arith in
@@ -54,11 +56,11 @@ module _ (old s : ScanValue) (from p : ℕ) (now : IsLevelExpanding old s from p
       ap (λ (n : ℕ). flat_map f (take n (drop from old.keys))) next ∙ (ap (flat_map f) more ∙ (flat_map-append f (take (p - from) (drop from old.keys)) (get_or old.keys p 0 ∷ [])
       ∙ ap (λ (ys : List ℕ). flat_map f (take (p - from) (drop from old.keys)) ++ ys) (append-nil (f (get_or old.keys p 0))))) in
       record {
-        kept = kept_on old s new now.kept kept;
+        kept = all_kept_on old s new now.kept kept;
         ends = ends ∙ now.ends;
         queue = queue;
         keys = keys
-            ∙ (ap₂ (λ (g : Graph) (x : ℕ). with_all s.keys (neighbours g x)) (graph_kept old s now.kept) same
+            ∙ (ap₂ (λ (g : Graph) (x : ℕ). with_all s.keys (neighbours g x)) (graph_kept old s now.kept.rows) same
             ∙ (ap (λ (xs : List ℕ). with_all xs (f (get_or old.keys p 0))) now.keys
             ∙ (sym (with_all-append old.keys (flat_map f (take (p - from) (drop from old.keys))) (f (get_or old.keys p 0))) ∙ ap (with_all old.keys) (sym all))));
       }
@@ -118,7 +120,7 @@ at_end g a keys ends from l le =
 
 -- the state of a search between two levels
 pub record IsSearching (old s : ScanValue) (from end : ℕ) : Type 0 where
-  pub kept : KeepsRows old s
+  pub kept : KeepsRowsAndCosts old s
   pub queue : IsQueue s from
   pub long : end ≡ length s.keys
   pub short : length s.ends ≤ from
@@ -132,7 +134,7 @@ ends_queue s es done q = record { once = q.once; rows = q.rows; keys = q.keys; p
 pub queue_ended : (s mid : ScanValue) (es : List ℕ) (done : ℕ) → mid ≡ record s { ends = es } → IsQueue s done → IsQueue mid done
 queue_ended s mid es done e q = subst (λ (t : ScanValue). IsQueue t done) (sym e) (ends_queue s es done q)
 
-pub search_first : (old s : ScanValue) (end : ℕ) → KeepsRows old s → IsQueue s 0 → s.keys ≡ root_of old ∷ [] → s.ends ≡ [] → end ≡ length s.keys → IsSearching old s 0 end
+pub search_first : (old s : ScanValue) (end : ℕ) → KeepsRowsAndCosts old s → IsQueue s 0 → s.keys ≡ root_of old ∷ [] → s.ends ≡ [] → end ≡ length s.keys → IsSearching old s 0 end
 search_first old s end kept q one none e = record {
   kept = kept;
   queue = q;
@@ -144,9 +146,9 @@ search_first old s end kept q one none e = record {
 
 pub search_next : (old s : ScanValue) (from end : ℕ) → IsGraph (graph_of_scan old) → has (graph_of_scan old) (root_of old) ≡ true → IsSearching old s from end → from < end
     → (mid new : ScanValue) (count : ℕ) → mid ≡ record s { ends = s.ends ++ end ∷ [] } → new.keys ≡ with_all mid.keys (flat_map (neighbours (graph_of_scan mid)) (drop from mid.keys))
-    → IsQueue new (length mid.keys) → new.ends ≡ mid.ends → KeepsRows mid new → count ≡ length new.keys → IsSearching old new end count
+    → IsQueue new (length mid.keys) → new.ends ≡ mid.ends → KeepsRowsAndCosts mid new → count ≡ length new.keys → IsSearching old new end count
 search_next old s from end is there now lt mid new count e keys queue ends kept long = record {
-  kept = kept_on old s new now.kept (kept_on s mid new ended kept);
+  kept = all_kept_on old s new now.kept (all_kept_on s mid new ended kept);
   queue = subst (IsQueue new) (sym end_is) queue;
   long = long;
   short = omega (arith, ap (λ (xs : List ℕ). length xs) (ends ∙ ends_mid), length-append s.ends (end ∷ []), now.short, lt);
@@ -160,13 +162,15 @@ search_next old s from end is there now lt mid new count e keys queue ends kept 
     a : ℕ
     a = root_of old
 
-    ended : KeepsRows s mid
+    ended : KeepsRowsAndCosts s mid
     ended = record {
-      nodes = ap (λ (t : ScanValue). t.nodes) e;
-      rows = ap (λ (t : ScanValue). t.rows) e;
-      started = ap (λ (t : ScanValue). t.started) e;
-      next = ap (λ (t : ScanValue). t.next) e;
-      edges = ap (λ (t : ScanValue). t.edges) e;
+      rows = record {
+        nodes = ap (λ (t : ScanValue). t.nodes) e;
+        rows = ap (λ (t : ScanValue). t.rows) e;
+        started = ap (λ (t : ScanValue). t.started) e;
+        next = ap (λ (t : ScanValue). t.next) e;
+        edges = ap (λ (t : ScanValue). t.edges) e;
+      };
       costs = ap (λ (t : ScanValue). t.costs) e;
     }
 
@@ -186,7 +190,7 @@ search_next old s from end is there now lt mid new count e keys queue ends kept 
     longer = grown_long mid.keys (flat_map (neighbours (graph_of_scan mid)) (drop from mid.keys))
 
     grown : new.keys ≡ with_all s.keys (flat_map (neighbours (graph_of_scan old)) (drop from s.keys))
-    grown = keys ∙ ap₂ (λ (g : Graph) (xs : List ℕ). with_all xs (flat_map (neighbours g) (drop from xs))) (graph_kept s mid ended ∙ graph_kept old s now.kept) keys_mid
+    grown = keys ∙ ap₂ (λ (g : Graph) (xs : List ℕ). with_all xs (flat_map (neighbours g) (drop from xs))) (graph_kept s mid ended.rows ∙ graph_kept old s now.kept.rows) keys_mid
 
     next : IsAtLevel (graph_of_scan old) (root_of old) new.keys (s.ends ++ length s.keys ∷ []) (length s.keys)
     next = at_next (graph_of_scan old) (root_of old) is there s.keys s.ends from now.level (omega (arith, lt, now.long)) new.keys grown
@@ -197,7 +201,7 @@ search_end old s from end now le = at_end (graph_of_scan old) (root_of old) s.ke
 
 -- there are no more keys than rows, before and after
 pub search_few : (old s : ScanValue) (from end : ℕ) → IsSearching old s from end → length s.keys ≤ length old.rows
-search_few old s from end now = omega (arith, queue_few s from now.queue, ap (λ (rows : List VertexRow). length rows) now.kept.rows)
+search_few old s from end now = omega (arith, queue_few s from now.queue, ap (λ (rows : List VertexRow). length rows) now.kept.rows.rows)
 
 -- the listed levels with their number are the answer
 pub levels_answer : (g : Graph) (a : ℕ) (s : ScanValue) → s.keys ≡ concat (levels_of g a) → s.ends ≡ level_ends 0 (levels_of g a) → (count : ℕ) → count ≡ length s.ends → answered (out.Levels count) s ≡ by_levels (levels_of g a)

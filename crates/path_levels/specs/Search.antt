@@ -1,28 +1,15 @@
 -- A search in breadth over a scan: what its work room holds, and what a call leaves as it was.
 use Rattle.std.specs.Prelude.{◌≡◌, ℕ, ◌<◌, true, cond, [], ◌∷◌, ◌++◌, length, slice_index, slice_set, nat_eq}
 use Rattle.std.specs.List.{IsDistinct}
-use Rattle.graph_kinds.specs.declared.outcome.Outcome.{Outcome}
-use Rattle.graph_kinds.specs.declared.answer.Answer.{Answer}
 use Rattle.graph_kinds.specs.Levels.{stands_in}
+use Rattle.scan_record.specs.Asked.{KeepsRows}
 use Rattle.scan_record.specs.Scan.{ScanValue, row_at}
 use Rattle.scan_record.specs.ScanGraph.{graph_of_scan}
 use Rattle.path_levels.specs.Queue.{leads, IsTree}
 
--- the key of row 0, from which a search goes out
-abbrev pub root_of : ScanValue → ℕ
-root_of s = (row_at s 0).key
-
--- an outcome with what stands in the answer region
-abbrev pub answered : Outcome → ScanValue → Answer
-answered outcome s = record { outcome = outcome; keys = s.keys; ends = s.ends }
-
--- no row and no edge is changed, and no cost: only the answer region and the numbers of the work room are written
-pub record KeepsRows (old new : ScanValue) : Type 0 where
-  pub nodes : new.nodes ≡ old.nodes
-  pub rows : new.rows ≡ old.rows
-  pub started : new.started ≡ old.started
-  pub next : new.next ≡ old.next
-  pub edges : new.edges ≡ old.edges
+-- no row, edge or cost is changed: only the answer region and the numbers of the work room are written
+pub record KeepsRowsAndCosts (old new : ScanValue) : Type 0 where
+  pub rows : KeepsRows old new
   pub costs : new.costs ≡ old.costs
 
 -- the scan with a row at the end of the queue

@@ -9,7 +9,8 @@ ghost use Rattle.graph_kinds.specs.Graph.{neighbours};
 ghost use Rattle.scan_record.specs.Scan.{IsScan, IsComplete, row_at};
 ghost use Rattle.scan_record.specs.ScanGraph.{graph_of_scan};
 ghost use Rattle.path_levels.specs.Queue.{with_met, with_all, leads};
-ghost use Rattle.path_levels.specs.Search.{root_of, with_row, KeepsRows, IsQueue};
+ghost use Rattle.scan_record.specs.Asked.{root_of};
+ghost use Rattle.path_levels.specs.Search.{with_row, KeepsRowsAndCosts, IsQueue};
 
 use scan_record::Scan;
 
@@ -33,7 +34,7 @@ pub fn queue_len(scan: &Scan) -> u32
 /// Takes the mark from each row, in O(rows).
 fn unmark(scan: &mut Scan)
     ensures unmarked { (k : ℕ) → k < length scan.old.rows → slice_index scan.new.slot_two k ≡ 0 }
-    ensures kept { KeepsRows scan.old scan.new }
+    ensures kept { KeepsRowsAndCosts scan.old scan.new }
     ensures keys { scan.new.keys ≡ scan.old.keys }
     ensures ends { scan.new.ends ≡ scan.old.ends }
 {
@@ -62,7 +63,7 @@ pub fn begin(scan: &mut Scan)
     ensures queue { IsQueue scan.new 0 }
     ensures keys { scan.new.keys ≡ root_of scan.old ∷ [] }
     ensures ends { scan.new.ends ≡ [] }
-    ensures kept { KeepsRows scan.old scan.new }
+    ensures kept { KeepsRowsAndCosts scan.old scan.new }
 {
     scan.clear_answer();
     unmark(scan);
@@ -79,7 +80,7 @@ fn meet(scan: &mut Scan, row: u32, parent: u32)
     ensures keys { scan.new.keys ≡ with_met scan.old.keys (row_at scan.old row).key }
     ensures queue { IsQueue scan.new parent }
     ensures ends { scan.new.ends ≡ scan.old.ends }
-    ensures kept { KeepsRows scan.old scan.new }
+    ensures kept { KeepsRowsAndCosts scan.old scan.new }
 {
     if scan.work(row, MARK) == 0 {
         put(scan, row, parent);
@@ -94,7 +95,7 @@ pub fn expand(scan: &mut Scan, place: u32)
     ensures keys { scan.new.keys ≡ with_all scan.old.keys (neighbours (graph_of_scan scan.old) (slice_index scan.old.keys place)) }
     ensures queue { IsQueue scan.new (place + 1) }
     ensures ends { scan.new.ends ≡ scan.old.ends }
-    ensures kept { KeepsRows scan.old scan.new }
+    ensures kept { KeepsRowsAndCosts scan.old scan.new }
 {
     let row = scan.vertex(scan.work(place, ROW));
     prove!(scan.edges() >= row.first + row.count);

@@ -10,7 +10,8 @@ ghost use Rattle.graph_kinds.specs.Levels.{levels_of, level_ends};
 ghost use Rattle.scan_record.specs.Scan.{IsComplete};
 ghost use Rattle.scan_record.specs.ScanGraph.{graph_of_scan};
 ghost use Rattle.path_levels.specs.Queue.{with_all, IsTree};
-ghost use Rattle.path_levels.specs.Search.{root_of, KeepsRows, IsQueue};
+ghost use Rattle.scan_record.specs.Asked.{root_of};
+ghost use Rattle.path_levels.specs.Search.{KeepsRowsAndCosts, IsQueue};
 
 use crate::queue::{begin, expand, queue_len};
 use scan_record::Scan;
@@ -24,7 +25,7 @@ fn expand_level(scan: &mut Scan, from: u32)
         ≡ with_all scan.old.keys (flat_map (neighbours (graph_of_scan scan.old)) (drop from scan.old.keys)) }
     ensures queue { IsQueue scan.new (length scan.old.keys) }
     ensures ends { scan.new.ends ≡ scan.old.ends }
-    ensures kept { KeepsRows scan.old scan.new }
+    ensures kept { KeepsRowsAndCosts scan.old scan.new }
 {
     let end = queue_len(scan);
     for place in from..end {
@@ -41,7 +42,7 @@ pub fn search(scan: &mut Scan)
     ensures few { length scan.new.keys ≤ length scan.old.rows }
     ensures few_levels { length scan.new.ends ≤ length scan.old.rows }
     ensures graph { IsGraph (graph_of_scan scan.old) }
-    ensures kept { KeepsRows scan.old scan.new }
+    ensures kept { KeepsRowsAndCosts scan.old scan.new }
 {
     begin(scan);
     let mut from = 0;

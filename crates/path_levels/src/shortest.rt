@@ -8,7 +8,8 @@ ghost use Rattle.graph_kinds.specs.Path.{IsPath};
 ghost use Rattle.scan_record.specs.Scan.{IsComplete};
 ghost use Rattle.scan_record.specs.ScanGraph.{graph_of_scan};
 ghost use Rattle.path_levels.specs.Queue.{trail};
-ghost use Rattle.path_levels.specs.Search.{root_of, answered, KeepsRows};
+ghost use Rattle.scan_record.specs.Asked.{root_of, answered};
+ghost use Rattle.path_levels.specs.Search.{KeepsRowsAndCosts};
 
 use crate::queue::{MARK, PARENT, queue_len};
 use crate::search::search;
@@ -36,7 +37,7 @@ fn gather(scan: &mut Scan, goal: u32) -> u32
     requires parents { (p : ℕ) → 0 < p → p < length scan.old.keys → slice_index scan.old.slot_one p < p }
     ensures count { result ≤ length scan.old.rows }
     ensures gathered { reverse (take result scan.new.slot_two) ≡ trail scan.old.keys scan.old.slot_one goal goal }
-    ensures kept { KeepsRows scan.old scan.new }
+    ensures kept { KeepsRowsAndCosts scan.old scan.new }
 {
     prove!(goal < queue_len(scan));
     let mut at = goal;
@@ -55,7 +56,7 @@ fn write_back(scan: &mut Scan, count: u32)
     requires { count ≤ length scan.old.rows }
     ensures keys { scan.new.keys ≡ reverse (take count scan.old.slot_two) }
     ensures ends { scan.new.ends ≡ [] }
-    ensures kept { KeepsRows scan.old scan.new }
+    ensures kept { KeepsRowsAndCosts scan.old scan.new }
 {
     prove!(count <= scan.vertices());
     scan.clear_answer();
@@ -78,7 +79,7 @@ pub fn reach(scan: &mut Scan, goal: u32) -> Outcome
         → length scan.new.keys ≤ length p }
     ensures no_path { (result ≡ Outcome.NoPath) ↔ ((p : List ℕ) → ¬ (IsPath (graph_of_scan scan.old) (root_of scan.old) goal p)) }
 
-    ensures kept { KeepsRows scan.old scan.new }
+    ensures kept { KeepsRowsAndCosts scan.old scan.new }
     ensures graph { graph_of_scan scan.new ≡ graph_of_scan scan.old }
     ensures complete { IsComplete scan.new }
 {

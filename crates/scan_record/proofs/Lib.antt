@@ -6,3 +6,4 @@ pub mod Rising
 pub mod GraphOfScan
 pub mod IsGraphOfScan
 pub mod Pushes
+pub mod ScanFacts

@@ -1,3 +1,4 @@
+pub mod Asked
 pub mod Scan
 pub mod ScanGraph
 pub mod Storage

@@ -2,7 +2,7 @@ use Rattle.std.proofs.Common.{◌+◌, ◌≤◌, ◌<◌, sym, ap, ◌∙◌, s
 use Rattle.scan_record.specs.declared.rows.EdgeRow.{EdgeRow}
 use Rattle.scan_record.specs.declared.rows.VertexRow.{VertexRow}
 use Rattle.scan_record.specs.Scan.{row_at}
-use Rattle.path_levels.proofs.ScanFacts.{complete_kept}
+use Rattle.scan_record.proofs.ScanFacts.{complete_kept}
 use Rattle.path_levels.proofs.Queues.{queue_few}
 use Rattle.path_levels.proofs.Expanding.{expanding_first, edge_within, target_within, edge_leads, expanding_some, expanding_none, expanded_keys, expanded_queue}
 use Rattle.path_levels.proofs.queue.expand.Goals as goal
@@ -24,7 +24,7 @@ edge-requires c =
     (subst (λ (r : VertexRow). c.loop-edge.edge < r.first + r.count) row c.loop-edge-test.true)
 
 pub meet-requires-clause-complete : goal.meet-requires-clause-complete
-meet-requires-clause-complete c = complete_kept c.args.scan.now c.loop-edge.scan c.loop-edge.invariant.kept c.requires.complete
+meet-requires-clause-complete c = complete_kept c.args.scan.now c.loop-edge.scan c.loop-edge.invariant.kept.rows c.requires.complete
 
 pub meet-requires-clause-row : goal.meet-requires-clause-row
 meet-requires-clause-row c =

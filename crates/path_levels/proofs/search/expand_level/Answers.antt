@@ -1,6 +1,6 @@
 use Rattle.std.proofs.Common.{◌≡◌, length, subst, arith}
 use Rattle.path_levels.specs.Search.{IsQueue}
-use Rattle.path_levels.proofs.ScanFacts.{complete_kept}
+use Rattle.scan_record.proofs.ScanFacts.{complete_kept}
 use Rattle.path_levels.proofs.Queues.{queue_few}
 use Rattle.path_levels.proofs.Searching.{level_first, place_there, level_next, level_all}
 use Rattle.path_levels.proofs.search.expand_level.Goals as goal
@@ -12,7 +12,7 @@ pub loop-place-init : goal.loop-place-init
 loop-place-init c = level_first c.args.scan.now c.args.from c.requires.queue
 
 pub expand-requires-clause-complete : goal.expand-requires-clause-complete
-expand-requires-clause-complete c = complete_kept c.args.scan.now c.loop-place.scan c.loop-place.invariant.kept c.requires.complete
+expand-requires-clause-complete c = complete_kept c.args.scan.now c.loop-place.scan c.loop-place.invariant.kept.rows c.requires.complete
 
 pub expand-requires-clause-place : goal.expand-requires-clause-place
 expand-requires-clause-place c = place_there c.args.scan.now c.loop-place.scan c.args.from c.loop-place.place c.loop-place.invariant c.loop-place.auto.place (omega arith)

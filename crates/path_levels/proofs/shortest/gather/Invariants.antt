@@ -1,11 +1,11 @@
 use Rattle.std.proofs.Common.{◌≡◌, ◌+◌, ◌-◌, ◌≤◌, ◌++◌, length, take, reverse}
 use Rattle.path_levels.specs.Queue.{trail}
-use Rattle.path_levels.specs.Search.{KeepsRows}
+use Rattle.path_levels.specs.Search.{KeepsRowsAndCosts}
 use Rattle.path_levels.proofs.shortest.gather.Given as goal
 
 abbrev pub invariant-loop-at : goal.invariant-loop-at
 invariant-loop-at l = record {
-  kept : KeepsRows l.fn.scan l.scan;
+  kept : KeepsRowsAndCosts l.fn.scan l.scan;
   keys : l.scan.keys ≡ l.fn.scan.keys;
   parents : l.scan.slot_one ≡ l.fn.scan.slot_one;
   long : length l.scan.slot_two ≡ length l.fn.scan.rows;

@@ -5,8 +5,8 @@ use Rattle.graph_kinds.specs.Levels.{stands_in, reach_path}
 use Rattle.graph_kinds.proofs.LevelsReach.{reach_path_law, shortest_law, no_reach_law}
 use Rattle.scan_record.specs.Scan.{ScanValue}
 use Rattle.scan_record.specs.ScanGraph.{graph_of_scan}
-use Rattle.path_levels.specs.Search.{root_of}
-use Rattle.path_levels.proofs.ScanFacts.{row_key}
+use Rattle.scan_record.specs.Asked.{root_of}
+use Rattle.scan_record.proofs.ScanFacts.{row_key}
 use Rattle.path_levels.proofs.Trails.{reach_place, reach_nowhere}
 use Rattle.path_levels.proofs.shortest.reach.Goals as goal
 

@@ -1,10 +1,10 @@
 use Rattle.std.proofs.Common.{◌≡◌, ◌+◌, ◌≤◌, ◌++◌, [], length, take, reverse}
-use Rattle.path_levels.specs.Search.{KeepsRows}
+use Rattle.path_levels.specs.Search.{KeepsRowsAndCosts}
 use Rattle.path_levels.proofs.shortest.write_back.Given as goal
 
 abbrev pub invariant-loop-left : goal.invariant-loop-left
 invariant-loop-left l = record {
-  kept : KeepsRows l.fn.scan l.scan;
+  kept : KeepsRowsAndCosts l.fn.scan l.scan;
   gathered : l.scan.slot_two ≡ l.fn.scan.slot_two;
   ends : l.scan.ends ≡ [];
   fewer : l.left ≤ l.fn.count;

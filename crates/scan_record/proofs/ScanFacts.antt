@@ -8,11 +8,11 @@ use Rattle.std.proofs.lemmas.List.{length-map}
 use Rattle.std.proofs.lemmas.Bool.{eq-eqb, or_left, or_right}
 use Rattle.graph_kinds.specs.Graph.{has, neighbours, key_count}
 use Rattle.scan_record.specs.declared.rows.VertexRow.{VertexRow}
+use Rattle.scan_record.specs.Asked.{KeepsRows}
 use Rattle.scan_record.specs.Scan.{ScanValue, IsScan, IsComplete, new_row, blank_life, row_at, edge_at, edges_of}
 use Rattle.scan_record.specs.ScanGraph.{graph_of_scan, target_keys}
 use Rattle.scan_record.proofs.GraphOfScan.{keys_law, neighbours_law}
 use Rattle.graph_kinds.proofs.PathsPairs as pairs
-use Rattle.path_levels.specs.Search.{KeepsRows}
 
 -- the out-neighbours of a row's key are the keys of its edges with a target
 pub row_neighbours : (s : ScanValue) (k : ℕ) → IsScan s → IsComplete s → k < length s.rows → neighbours (graph_of_scan s) (row_at s k).key ≡ target_keys (edges_of s (row_at s k))
@@ -58,7 +58,7 @@ module _ (old new : ScanValue) (k : KeepsRows old new) where
   }
 
 pub kept_same : (s : ScanValue) → KeepsRows s s
-kept_same s = record { nodes = refl; rows = refl; started = refl; next = refl; edges = refl; costs = refl }
+kept_same s = record { nodes = refl; rows = refl; started = refl; next = refl; edges = refl }
 
 pub kept_on : (old mid new : ScanValue) → KeepsRows old mid → KeepsRows mid new → KeepsRows old new
 kept_on old mid new a b = record {
@@ -67,5 +67,4 @@ kept_on old mid new a b = record {
   started = b.started ∙ a.started;
   next = b.next ∙ a.next;
   edges = b.edges ∙ a.edges;
-  costs = b.costs ∙ a.costs;
 }
