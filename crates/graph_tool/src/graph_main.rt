@@ -7,7 +7,7 @@ ghost use Rattle.std.specs.Prelude.{◌≡◌, ◌+◌, ◌≤◌, ◌⊎◌, �
 ghost use Rattle.graph_kinds.specs.Answer.{IsWellMade};
 ghost use Rattle.graph_kinds.specs.Stream.{Rose, Puts, PutsSome, TakesMany};
 ghost use Rattle.graph_kinds.specs.declared.call.Row.{Row};
-ghost use Rattle.op_text.specs.Rows.{IsCheapest, rows};
+ghost use Rattle.op_text.specs.Rows.{rows};
 ghost use Rattle.graph_tool.specs.Command.{command_of};
 ghost use Rattle.graph_tool.specs.Input.{TakesAtMost, most_bytes};
 ghost use Rattle.graph_tool.specs.Run.{Asks, IsAccepted, IsRefused, callers};
@@ -92,7 +92,6 @@ pub fn graph_main<R: Threads + Sync, S: Source, K: Sink>(
 fn rows_of<S: Source>(alloc: Global, source: &mut S) -> Result<Vec<Row>, Status>
     ensures ok { IfOk result (λ v. IfSome (S.rest source.old) (λ bytes. rows callers bytes ≡ Ok v.items)) }
     ensures well_made { IfOk result (λ v. All (λ (r : Row). IsWellMade r.call) v.items) }
-    ensures no_cheapest { IfOk result (λ v. All (λ (r : Row). ¬ (IsCheapest r.call)) v.items) }
     ensures few { IfOk result (λ v. vec_len v ≤ 65536) }
     ensures end { OnOk result (S.ended source.new ≡ true) }
     ensures fits { OnOk result (TakesAtMost (S.rest source.old) (S.rest source.new) most_bytes) }

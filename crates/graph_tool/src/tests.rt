@@ -85,8 +85,8 @@ fn worked_rows_give_their_lines(rt: HostRuntime) -> Result<(), Fail> {
                 .as_slice(),
         ),
         (
-            b"0,add-vertex,7,,\n0,add-edge,7,7,3\n0,reach,7,7,\n0,levels,7,,\n0,reach,7,8,\n".as_slice(),
-            b"added\nadded\npath 7\nlevels 7\nno vertex\nvertices 7\nedge 7 7 3\n".as_slice(),
+            b"0,add-vertex,7,,\n0,add-edge,7,7,3\n0,reach,7,7,\n0,cheapest,7,7,\n0,levels,7,,\n".as_slice(),
+            b"added\nadded\npath 7\ncost 0 path 7\nlevels 7\nvertices 7\nedge 7 7 3\n".as_slice(),
         ),
         (
             b"0,add-vertex,1,,\n1,add-vertex,2,,\n2,add-vertex,3,,\n3,add-vertex,4,,\n\
@@ -102,10 +102,37 @@ fn worked_rows_give_their_lines(rt: HostRuntime) -> Result<(), Fail> {
         (
             b"0,add-vertex,1,,\n0,add-vertex,2,,\n0,add-vertex,3,,\n0,add-vertex,4,,\n\
             0,add-edge,1,2,1\n0,add-edge,1,3,1\n0,add-edge,2,4,1\n0,add-edge,4,1,1\n\
-            0,levels,1,,\n0,reach,3,1,\n0,reach,1,9,\n"
+            0,levels,1,,\n0,reach,3,1,\n0,cheapest,3,1,\n0,reach,1,9,\n0,cheapest,9,1,\n"
                 .as_slice(),
             b"added\nadded\nadded\nadded\nadded\nadded\nadded\nadded\nlevels 1 | 2 3 | 4\n\
-            no path\nno vertex\nvertices 1 2 3 4\nedge 1 2 1\nedge 1 3 1\nedge 2 4 1\nedge 4 1 1\n"
+            no path\nno path\nno vertex\nno vertex\nvertices 1 2 3 4\nedge 1 2 1\nedge 1 3 1\n\
+            edge 2 4 1\nedge 4 1 1\n"
+                .as_slice(),
+        ),
+        (
+            b"0,add-vertex,1,,\n0,add-vertex,2,,\n0,add-vertex,3,,\n0,add-edge,1,2,10\n\
+            0,add-edge,1,3,1\n0,add-edge,3,2,2\n0,reach,1,2,\n0,cheapest,1,2,\n"
+                .as_slice(),
+            b"added\nadded\nadded\nadded\nadded\nadded\npath 1 2\ncost 3 path 1 3 2\n\
+            vertices 1 2 3\nedge 1 2 10\nedge 1 3 1\nedge 3 2 2\n"
+                .as_slice(),
+        ),
+        (
+            b"0,add-vertex,1,,\n0,add-vertex,2,,\n0,add-vertex,3,,\n0,add-vertex,4,,\n\
+            0,add-edge,1,2,2\n0,add-edge,1,3,1\n0,add-edge,2,4,1\n0,add-edge,3,4,2\n\
+            0,cheapest,1,4,\n"
+                .as_slice(),
+            b"added\nadded\nadded\nadded\nadded\nadded\nadded\nadded\ncost 3 path 1 2 4\n\
+            vertices 1 2 3 4\nedge 1 2 2\nedge 1 3 1\nedge 2 4 1\nedge 3 4 2\n"
+                .as_slice(),
+        ),
+        (
+            b"0,add-vertex,1,,\n0,add-vertex,2,,\n0,add-vertex,3,,\n0,add-vertex,4,,\n\
+            0,add-edge,1,2,4294967295\n0,add-edge,2,3,4294967295\n0,add-edge,3,4,4294967295\n\
+            0,cheapest,1,4,\n"
+                .as_slice(),
+            b"added\nadded\nadded\nadded\nadded\nadded\nadded\ncost 12884901885 path 1 2 3 4\n\
+            vertices 1 2 3 4\nedge 1 2 4294967295\nedge 2 3 4294967295\nedge 3 4 4294967295\n"
                 .as_slice(),
         ),
     ];
@@ -116,6 +143,125 @@ fn worked_rows_give_their_lines(rt: HostRuntime) -> Result<(), Fail> {
             assert_eq!(rt; sink.bytes(), *text, "{command} on {input:?}");
         }
     }
+    Ok(())
+}
+
+// The operation of step t on a chain of ten vertices whose first key is `first`: ten vertices, nine edges there
+// and nine back, nine cheapest paths, a path, the levels, and a removal.
+fn chain_row<R: AllocGlobal>(rt: &R, first: u32, t: u32) -> Result<String, Fail>
+    requires first { first ≤ 300 }
+    requires step { t < 40 }
+{
+    let alloc = rt.alloc();
+    if t < 10 {
+        return Ok(format!(in alloc; "add-vertex,{},,", first + t)?);
+    }
+    if t < 19 {
+        let (from, weight) = (first + t - 10, t);
+        return Ok(format!(in alloc; "add-edge,{},{},{}", from, from + 1, weight)?);
+    }
+    if t < 28 {
+        let (to, weight) = (first + t - 19, t - 9);
+        return Ok(format!(in alloc; "add-edge,{},{},{}", to + 1, to, weight)?);
+    }
+    if t < 37 {
+        return Ok(format!(in alloc; "cheapest,{},{},", first, first + t - 27)?);
+    }
+    if t == 37 {
+        return Ok(format!(in alloc; "reach,{},{},", first, first + 9)?);
+    }
+    if t == 38 {
+        return Ok(format!(in alloc; "levels,{},,", first + 9)?);
+    }
+    Ok(format!(in alloc; "remove-vertex,{},,", first + 5)?)
+}
+
+// The line that is answered at step t: the first m edges of a chain cost 10 + 11 + .. in all.
+fn chain_line<R: AllocGlobal>(rt: &R, first: u32, t: u32) -> Result<String, Fail>
+    requires first { first ≤ 300 }
+    requires step { t < 40 }
+{
+    let alloc = rt.alloc();
+    let mut line = String::new(alloc);
+    if t < 28 {
+        line.push_str("added")?;
+    } else if t < 37 {
+        let m = t - 27;
+        line = format!(in alloc; "cost {} path", 10 * m + m * (m - 1) / 2)?;
+        for i in 0..10u32 {
+            if i <= m {
+                line.push_str(format!(in alloc; " {}", first + i)?.as_str())?;
+            }
+        }
+    } else if t == 37 {
+        line.push_str("path")?;
+        for i in 0..10u32 {
+            line.push_str(format!(in alloc; " {}", first + i)?.as_str())?;
+        }
+    } else if t == 38 {
+        line = format!(in alloc; "levels {}", first + 9)?;
+        for i in 1..10u32 {
+            line.push_str(format!(in alloc; " | {}", first + 9 - i)?.as_str())?;
+        }
+    } else {
+        line.push_str("removed")?;
+    }
+    Ok(line)
+}
+
+// The edges of what is left of a chain: those between neighbours, but for the removed key.
+fn chain_edges<R: AllocGlobal>(rt: &R, first: u32) -> Result<String, Fail>
+    requires { first ≤ 300 }
+{
+    let alloc = rt.alloc();
+    let mut lines = String::new(alloc);
+    for i in 0..10u32 {
+        if i == 5 {
+            continue;
+        }
+        let key = first + i;
+        if i > 0 && i != 6 {
+            let line = format!(in alloc; "edge {} {} {}\n", key, key - 1, 9 + i)?;
+            lines.push_str(line.as_str())?;
+        }
+        if i < 9 && i != 4 {
+            let line = format!(in alloc; "edge {} {} {}\n", key, key + 1, 10 + i)?;
+            lines.push_str(line.as_str())?;
+        }
+    }
+    Ok(lines)
+}
+
+// Four callers take turns, each on a chain of its own.
+#[test]
+fn four_callers_ask_for_their_chains(rt: HostRuntime) -> Result<(), Fail> {
+    let alloc = rt.alloc();
+    let mut input = String::new(alloc);
+    let mut text = String::new(alloc);
+    for t in 0..40u32 {
+        for caller in 0..4u32 {
+            let row = chain_row(&rt, 100 * caller, t)?;
+            input.push_str(format!(in alloc; "{caller},{row}\n")?.as_str())?;
+            text.push_str(chain_line(&rt, 100 * caller, t)?.as_str())?;
+            text.push_str("\n")?;
+        }
+    }
+    text.push_str("vertices")?;
+    for caller in 0..4u32 {
+        for i in 0..10u32 {
+            if i != 5 {
+                text.push_str(format!(in alloc; " {}", 100 * caller + i)?.as_str())?;
+            }
+        }
+    }
+    text.push_str("\n")?;
+    for caller in 0..4u32 {
+        text.push_str(chain_edges(&rt, 100 * caller)?.as_str())?;
+    }
+    assert_eq!(rt; text.as_bytes().iter().filter(|b| **b == b'\n').count(), 217);
+    let (status, sink) = run_on(&rt, &["replay"], input.as_bytes())?;
+    assert_eq!(rt; status, Status::Done);
+    assert_eq!(rt; sink.bytes(), text.as_bytes());
     Ok(())
 }
 
@@ -155,7 +301,7 @@ fn bad_records_are_refused(rt: HostRuntime) -> Result<(), Fail> {
         (b"x,nop,,,".as_slice(), 1, RowCause::BadCaller),
         (b" 0,add-vertex,1,,".as_slice(), 1, RowCause::BadCaller),
         (b"0,Add-vertex,1,,".as_slice(), 1, RowCause::UnknownOp),
-        (b"0,cheapest,1,2,".as_slice(), 1, RowCause::UnknownOp),
+        (b"0,cheapest,1,,".as_slice(), 1, RowCause::MissingField),
         (b"0,add-edge,,1,0".as_slice(), 1, RowCause::MissingField),
         (b"0,add-vertex,x,1,".as_slice(), 1, RowCause::ExtraField),
         (b"0,add-vertex,05,,".as_slice(), 1, RowCause::BadNumber),

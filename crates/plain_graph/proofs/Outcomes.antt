@@ -2,12 +2,13 @@
 use Rattle.std.proofs.Common.{◌≡◌, ℕ, ◌&&◌, Bool, true, false, cond, Option, Result, Ok, Err, refl, sym, ap}
 use Rattle.std.specs.Prelude.{OnOk}
 use Rattle.graph_kinds.specs.declared.call.Call.{Call}
-use Rattle.graph_kinds.specs.declared.call.Call.TheVariants.{AddVertex, RemoveVertex, HasVertex, AddEdge, RemoveEdge, HasEdge, Reach, Levels}
+use Rattle.graph_kinds.specs.declared.call.Call.TheVariants.{AddVertex, RemoveVertex, HasVertex, AddEdge, RemoveEdge, HasEdge, Reach, Levels, Cheapest}
 use Rattle.graph_kinds.specs.declared.outcome.Outcome.{Outcome}
 use Rattle.graph_kinds.specs.declared.outcome.Outcome.TheVariants as out
 use Rattle.graph_kinds.specs.Graph.{Graph, has, weight_of}
 use Rattle.graph_kinds.specs.Levels.{levels_of, reach_path}
-use Rattle.graph_kinds.specs.Answer.{answer, alters, after, change, plain, on_keys, by_weight, by_path, by_levels, is_change}
+use Rattle.graph_kinds.specs.Path.{least_cost, cheapest_path}
+use Rattle.graph_kinds.specs.Answer.{answer, alters, after, change, plain, on_keys, by_weight, by_path, by_levels, by_cost, is_change}
 
 -- by the outcome, the graph is changed or stays
 pub after_outcome : (g : Graph) (c : Call) (o : Outcome) → plain o ≡ answer g c → cond (is_change o) (change g c) g ≡ after g c
@@ -32,6 +33,10 @@ pub after_levels : (g : Graph) (a : ℕ) → after g (Levels a) ≡ g
 unfolding after
 after_levels g a = stays g (alters g (Levels a))
 
+pub after_cheapest : (g : Graph) (a b : ℕ) → after g (Cheapest a b) ≡ g
+unfolding after
+after_cheapest g a b = stays g (alters g (Cheapest a b))
+
 pub answer_reach : (g : Graph) (a b : ℕ) (t : Bool) → (has g a && has g b) ≡ t → cond t (by_path (reach_path g a b)) (plain out.NoVertex) ≡ answer g (Reach a b)
 unfolding answer
 answer_reach g a b t both = ap (λ s. cond s (by_path (reach_path g a b)) (plain out.NoVertex)) (sym both)
@@ -39,6 +44,10 @@ answer_reach g a b t both = ap (λ s. cond s (by_path (reach_path g a b)) (plain
 pub answer_levels : (g : Graph) (a : ℕ) (t : Bool) → has g a ≡ t → cond t (by_levels (levels_of g a)) (plain out.NoVertex) ≡ answer g (Levels a)
 unfolding answer
 answer_levels g a t there = ap (λ s. cond s (by_levels (levels_of g a)) (plain out.NoVertex)) (sym there)
+
+pub answer_cheapest : (g : Graph) (a b : ℕ) (t : Bool) → (has g a && has g b) ≡ t → cond t (by_cost (least_cost g a b) (cheapest_path g a b)) (plain out.NoVertex) ≡ answer g (Cheapest a b)
+unfolding answer
+answer_cheapest g a b t both = ap (λ s. cond s (by_cost (least_cost g a b) (cheapest_path g a b)) (plain out.NoVertex)) (sym both)
 
 module _ (g : Graph) (k : ℕ) where
   pub answer_add_vertex : (b : Bool) → has g k ≡ b → plain (cond b (out.Present 0) out.Added) ≡ answer g (AddVertex k)

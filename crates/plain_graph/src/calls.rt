@@ -8,8 +8,7 @@ ghost use Rattle.graph_kinds.specs.Graph.{has, key_count, pair_count, IsGraph};
 ghost use Rattle.graph_kinds.specs.Answer.{IsWellMade, plain, answer, after};
 ghost use Rattle.plain_graph.specs.Calls.{IsAdd};
 ghost use Rattle.graph_kinds.specs.Answer.{IsPathCall};
-ghost use Rattle.op_text.specs.Rows.{IsCheapest};
-ghost use Rattle.path_levels.specs.Search.{answered};
+ghost use Rattle.scan_record.specs.Asked.{answered};
 
 use crate::graph::PlainGraph;
 use graph_kinds::{Answer, Call, Keys, Memory, Outcome};
@@ -40,8 +39,8 @@ fn copied(alloc: Global, outcome: Outcome, scan: &Scan) -> Result<Answer, Memory
 
 impl PlainGraph {
     /// Answers a call, and makes its change. O(log V + log E); `RemoveVertex` costs O(log V) and the vertex's
-    /// out-degree where no edge is left behind its own, else one look-up for each vertex, O(V log E). `Reach`
-    /// and `Levels` cost O((V + E) log V).
+    /// out-degree where no edge is left behind its own, else one look-up for each vertex, O(V log E). `Reach`,
+    /// `Levels` and `Cheapest` cost O((V + E) log V).
     ///
     /// # Errors
     /// `Memory` where there is no room for a new vertex or edge, or for the search of a path; the graph is
@@ -49,7 +48,6 @@ impl PlainGraph {
     pub fn perform(&mut self, call: &Call) -> Result<Answer, Memory>
         requires well_made { IsWellMade call.now }
         requires room { IsAdd call.now → key_count self.old + pair_count self.old < 65536 }
-        requires no_cheapest { ¬ (IsCheapest call.now) }
         ensures answer { IfOk result (λ a. a ≡ answer self.old call.now) }
         ensures change { OnOk result (self.new ≡ after self.old call.now) }
         ensures stays { OnErr result (self.new ≡ self.old) }
@@ -58,6 +56,7 @@ impl PlainGraph {
         match *call {
             Call::Reach { from, to } => self.reach(from, to),
             Call::Levels { from } => self.levels(from),
+            Call::Cheapest { from, to } => self.cheapest(from, to),
             _ => {
                 let outcome = self.outcome(call);
                 let alloc = self.allocator();
@@ -199,6 +198,21 @@ impl PlainGraph {
         }
         let mut scan = self.scan_from(from)?;
         let outcome = path_levels::levels(&mut scan);
+        copied(alloc, outcome, &scan)
+    }
+
+    /// The cheapest path by least keys, through a scan of the graph.
+    fn cheapest(&self, from: u32, to: u32) -> Result<Answer, Memory>
+        ensures answer { IfOk result (λ a. a ≡ answer self.now (Call.Cheapest from to)) }
+        ensures change { OnOk result (self.now ≡ after self.now (Call.Cheapest from to)) }
+        ensures sound { IsGraph self.now }
+    {
+        let alloc = self.allocator();
+        if !self.has_both(from, to) {
+            return Ok(bare(alloc, Outcome::NoVertex));
+        }
+        let mut scan = self.scan_from(from)?;
+        let outcome = path_costs::cheapest(&mut scan, to);
         copied(alloc, outcome, &scan)
     }
 }

@@ -7,7 +7,6 @@ ghost use Rattle.graph_kinds.specs.declared.call.Row.{Row as RowValue};
 ghost use Rattle.graph_kinds.specs.Graph.{empty_graph};
 ghost use Rattle.graph_kinds.specs.History.{calls_of};
 ghost use Rattle.graph_kinds.specs.Answer.{IsWellMade, answers, after_all};
-ghost use Rattle.op_text.specs.Rows.{IsCheapest};
 
 use crate::graph::PlainGraph;
 use graph_kinds::{Answer, Memory, Row};
@@ -22,7 +21,6 @@ use std::alloc::Global;
 pub fn replay(alloc: Global, rows: &[Row]) -> Result<(Vec<Answer>, PlainGraph), Memory>
     requires few { length rows.now ≤ 65536 }
     requires well_made { All (λ row. IsWellMade row.call) rows.now }
-    requires no_cheapest { All (λ row. ¬ (IsCheapest row.call)) rows.now }
     ensures answers { IfOk result (λ r. r.0.items ≡ answers empty_graph (calls_of rows.now)) }
     ensures graph { IfOk result (λ r. r.1 ≡ after_all empty_graph (calls_of rows.now)) }
 {

@@ -2,7 +2,6 @@ ghost use Rattle.std.specs.Prelude.{◌+◌, ◌<◌, All, IsTrue};
 ghost use Rattle.graph_kinds.specs.Graph.{key_count, pair_count};
 ghost use Rattle.graph_kinds.specs.Answer.{IsWellMade};
 ghost use Rattle.graph_kinds.specs.declared.call.Row.{Row as RowValue};
-ghost use Rattle.op_text.specs.Rows.{IsCheapest};
 
 use crate::{PlainGraph, replay};
 use graph_kinds::{Call, MemSink, Outcome, Row};
@@ -13,18 +12,15 @@ use std::test::Fail;
 // What `replay` asks of a call.
 fn is_fit(call: &Call) -> bool
     ensures well_made { IsTrue result → IsWellMade call.now }
-    ensures no_cheapest { IsTrue result → ¬ (IsCheapest call.now) }
 {
     match *call {
         Call::AddEdge { weight, .. } => weight >= 1,
-        Call::Cheapest { .. } => false,
         _ => true,
     }
 }
 
 fn are_fit(rows: &[Row]) -> bool
     ensures well_made { IsTrue result → All (λ row. IsWellMade row.call) rows.now }
-    ensures no_cheapest { IsTrue result → All (λ row. ¬ (IsCheapest row.call)) rows.now }
 {
     rows.iter().all(|row| is_fit(&row.call))
 }
