@@ -11,3 +11,5 @@ pub mod Free
 pub mod Rule
 pub mod Owes
 pub mod Plays
+pub mod Chains
+pub mod Effects
