@@ -21,3 +21,4 @@ pub mod Ends
 pub mod Epochs
 pub mod Ripe
 pub mod Staying
+pub mod Meets
