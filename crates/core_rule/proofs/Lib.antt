@@ -22,3 +22,4 @@ pub mod Epochs
 pub mod Ripe
 pub mod Staying
 pub mod Meets
+pub mod Placed

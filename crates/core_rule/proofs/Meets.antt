@@ -194,6 +194,14 @@ put_stands test n b (y ∷ ys) hits h = by (test y) (y == b) refl refl (put_stan
     by false true i j more h = absurd (let e : test y ≡ true = ap test (eqb-true y b j) ∙ hits in cc)
     by false false i j more h = ap (λ (a : Bool). (y == n) || a) (more h) ∙ or_true (y == n)
 
+-- where another node is linked in, a node stands on the list as before
+pub linked_stands : (sizes : Sizes) (head place n x : ℕ) (xs : List ℕ) → x ≢ n → stands x (linked_in sizes head place n xs) ≡ stands x xs
+linked_stands sizes head place n x xs ne = by (place == head)
+  where
+    by : (b : Bool) → stands x (cond b (n ∷ xs) (put_behind (λ z. place == link_at sizes z) n xs)) ≡ stands x xs
+    by true = ap (λ (b : Bool). b || stands x xs) (ne_eqb n x (λ e. ne (sym e)))
+    by false = put_joins (λ z. place == link_at sizes z) n x xs ne
+
 module _ (sizes : Sizes) (places : Places) (are : AreLinks sizes places) where
   pub joins_linked : (at : Position) (n : ℕ) (xs : List ℕ) → ((x : ℕ) → at ≡ Node x → stands x xs ≡ true) → Joins (λ x. stands x xs) (λ x. stands x (linked_in sizes (places.word_at Head) (places.word_at at) n xs)) n
   joins_linked Head n xs behind = record {
@@ -224,6 +232,13 @@ leaves_unlinked n xs = record { leaves = λ h. gone xs h; others = λ x ne. stay
         by : (b : Bool) → (y == n) ≡ b → stands x (unlinked_from n ys) ≡ stands x ys → stands x (cond (not b) (y ∷ unlinked_from n ys) (unlinked_from n ys)) ≡ stands x (y ∷ ys)
         by true e h = h ∙ sym (ap (λ (b : Bool). b || stands x ys) (ne_eqb y x (λ same. ne (sym same ∙ eqb-true y n e))))
         by false e h = ap (λ (b : Bool). (y == x) || b) h
+
+-- what stands on the list without a node is another, and stood on it before
+pub unlinked_stands : (n x : ℕ) (xs : List ℕ) → stands x (unlinked_from n xs) ≡ true → (x ≢ n) × (stands x xs ≡ true)
+unlinked_stands n x xs h =
+    let l = leaves_unlinked n xs in
+    let ne : x ≢ n = λ e. l.leaves (subst (λ (y : ℕ). stands y (unlinked_from n xs) ≡ true) e h) in
+    (ne, sym (l.others x ne) ∙ h)
 
 -- a node off the chain is none of those that are met
 pub each_absent : (c : Chain) (n : ℕ) (xs : List ℕ) → IsMet c xs → (IsOn c (Node n) → ⊥) → Every (λ x. x ≢ n) xs
