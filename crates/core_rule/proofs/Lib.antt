@@ -23,3 +23,4 @@ pub mod Ripe
 pub mod Staying
 pub mod Meets
 pub mod Placed
+pub mod Buckets

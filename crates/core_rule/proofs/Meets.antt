@@ -39,13 +39,10 @@ contains_stands y (x ∷ xs) h = by (x == y) refl (contains_stands y xs) h
     by true e more h = (0, omega arith, eqb-true x y e)
     by false e more h = let c = more h in (suc c.0, omega (arith, c.1), c.2)
 
--- what isn't on a list differs from each of its elements
-pub each_other : (n : ℕ) (xs : List ℕ) → (Contains xs n → ⊥) → Every (λ x. x ≢ n) xs
-each_other n [] none = tt
-each_other n (x ∷ xs) none = (
-  (λ same. none (0, omega arith, same)),
-  each_other n xs (λ c. none (suc c.0, omega (arith, c.1), c.2)),
-)
+-- what holds of all elements of a list holds of each
+pub each_such : (P : ℕ → Type 0) (xs : List ℕ) → ((x : ℕ) → Contains xs x → P x) → Every P xs
+each_such P [] all = tt
+each_such P (x ∷ xs) all = (all x (0, omega arith, refl), each_such P xs (λ y c. all y (suc c.0, omega (arith, c.1), c.2)))
 
 -- a node put behind none, and none taken away
 put_none : (test : ℕ → Bool) (y : ℕ) (xs : List ℕ) → Every (λ x. test x ≡ false) xs → put_behind test y xs ≡ xs
@@ -242,4 +239,4 @@ unlinked_stands n x xs h =
 
 -- a node off the chain is none of those that are met
 pub each_absent : (c : Chain) (n : ℕ) (xs : List ℕ) → IsMet c xs → (IsOn c (Node n) → ⊥) → Every (λ x. x ≢ n) xs
-each_absent c n xs met none = each_other n xs (λ h. none ((met.exactly n).1 h))
+each_absent c n xs met none = each_such (λ x. x ≢ n) xs (λ x h same. none ((met.exactly n).1 (subst (Contains xs) same h)))
