@@ -24,3 +24,4 @@ pub mod Staying
 pub mod Meets
 pub mod Placed
 pub mod Buckets
+pub mod SpentNodes

@@ -13,3 +13,5 @@ pub mod Owes
 pub mod Plays
 pub mod Chains
 pub mod Effects
+pub mod Fronts
+pub mod OwnEvents
