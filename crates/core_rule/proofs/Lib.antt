@@ -25,3 +25,7 @@ pub mod Meets
 pub mod Placed
 pub mod Buckets
 pub mod SpentNodes
+pub mod SameNodes
+pub mod Lifts
+pub mod VertexLifts
+pub mod EdgeLifts
