@@ -24,3 +24,5 @@ pub mod Staying
 pub mod Meets
 pub mod Placed
 pub mod Buckets
+pub mod Living
+pub mod LivingEdges
