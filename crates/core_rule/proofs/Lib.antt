@@ -23,6 +23,7 @@ pub mod Ripe
 pub mod Staying
 pub mod Meets
 pub mod Placed
-pub mod Buckets
+pub mod BucketSteps
 pub mod Living
 pub mod LivingEdges
+pub mod Present

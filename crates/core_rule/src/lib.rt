@@ -4,6 +4,7 @@
 //! of the table are laws of kept journals. The crate has definitions and laws, and no code.
 #![tactic(auto)]
 
+mod buckets;
 mod graph;
 mod journals;
 mod own;
@@ -11,6 +12,9 @@ mod rule;
 mod view;
 mod words;
 
+pub use buckets::{
+    a_present_vertex_is_on_its_chain, buckets_hold_their_vertices, one_present_vertex_has_a_key,
+};
 pub use graph::{edges_have_ends, links_are_new};
 pub use journals::{a_vertex_is_added, kept_journals_grow};
 pub use own::{callers_have_numbers, own_events_are_counted, own_facts_stay};
