@@ -153,7 +153,7 @@ module _ (sizes : Sizes) (z : IsLayout sizes) (past : List Event) (e : Event) (k
   abbrev link_home : ℕ
   link_home = e.key % sizes.buckets
 
-  link_spot : IsSpot sizes past e link_home
+  pub link_spot : IsSpot sizes past e link_home
   link_spot = ⊎_elim
       (λ h. record { at = Head; place = ap (bucket_at sizes) (sym (ok.gap.bucket_word ok.bucket h.0 h.1)) ∙ sym h.0; on = tt })
       (λ h.
@@ -172,7 +172,7 @@ module _ (sizes : Sizes) (z : IsLayout sizes) (past : List Event) (e : Event) (k
   link_fresh : (j : ℕ) → IsVertexIn sizes (node_in sizes past e.life.index) j → ⊥
   link_fresh j v = let m = v.linked in let f = ok.fresh.fresh in absurd (cc)
 
-  link_can : (s : IsSpot sizes past e link_home) → CanInsert (bucket_chain sizes past link_home) s.at e.life.index
+  pub link_can : (s : IsSpot sizes past e link_home) → CanInsert (bucket_chain sizes past link_home) s.at e.life.index
   link_can s =
       let word : word_at sizes past (bucket_word sizes link_home s.at) ≡ word_at sizes past e.place = ap (word_at sizes past) s.place in
       record {
@@ -301,7 +301,7 @@ module _ (sizes : Sizes) (z : IsLayout sizes) (past : List Event) (e : Event) (k
       let here : is_of_bucket sizes (state sizes past) j e.life.index ≡ true = subst (λ (y : ℕ). is_of_bucket sizes (state sizes past) j y ≡ true) to led in
       sym (is_in sizes (state sizes past) j e.life.index here).of_bucket
 
-  cut_spot : IsSpot sizes past e cut_home
+  pub cut_spot : IsSpot sizes past e cut_home
   cut_spot = ⊎_elim
       (λ h. subst (IsSpot sizes past e) (led_home ok.bucket h.1 Head tt (sym h.0)) record { at = Head; place = sym h.0; on = tt })
       (λ h.

@@ -27,3 +27,4 @@ pub mod BucketSteps
 pub mod Living
 pub mod LivingEdges
 pub mod Present
+pub mod VertexEffects
