@@ -28,3 +28,6 @@ pub mod Living
 pub mod LivingEdges
 pub mod Present
 pub mod VertexEffects
+pub mod ListParts
+pub mod Listed
+pub mod ListSteps

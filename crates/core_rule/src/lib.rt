@@ -7,6 +7,7 @@
 mod buckets;
 mod graph;
 mod journals;
+mod lists;
 mod own;
 mod rule;
 mod view;
@@ -17,6 +18,7 @@ pub use buckets::{
 };
 pub use graph::{edges_have_ends, links_are_new};
 pub use journals::{a_vertex_is_added, kept_journals_grow};
+pub use lists::linked_edges_are_at_their_source;
 pub use own::{callers_have_numbers, own_events_are_counted, own_facts_stay};
 pub use rule::{
     a_draw_keeps_the_rule, a_last_token_knows_the_journal, a_new_table_meets_the_rule,
