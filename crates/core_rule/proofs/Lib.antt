@@ -31,3 +31,4 @@ pub mod VertexEffects
 pub mod ListParts
 pub mod Listed
 pub mod ListSteps
+pub mod EdgeChains

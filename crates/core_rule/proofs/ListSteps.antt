@@ -6,12 +6,15 @@ use native.Mathlib.Decide.{ℕ_discrete}
 use Rattle.packed_link.specs.Link.{mark_of}
 use Rattle.packed_link.specs.Layout.{Sizes, IsLayout, link_at, second_at}
 use Rattle.packed_link.specs.declared.link.Life.{Life}
+use Rattle.core_journal.specs.declared.event.Kind.{Kind}
 use Rattle.core_journal.specs.declared.event.Kind.TheVariants.{PopFree, LinkVertex, MarkVertex, UnlinkVertex, LinkEdge, MarkEdge, UnlinkEdge, FreezeHead, FreezeEdge, StoreFree, PushFree}
 use Rattle.core_journal.specs.declared.event.Event.{Event}
 use Rattle.core_journal.specs.Machine.{word_at}
 use Rattle.core_journal.specs.State.{Free, Fresh, Linked, Spent, Node, State, put, linked_in, unlinked_from, state_by, state}
-use Rattle.core_rule.specs.Kept.{IsKept}
+use Rattle.core_rule.specs.Kept.{AllowedAs, IsKept}
 use Rattle.core_rule.specs.Edges.{IsLinkEdge, IsUnlinkEdge}
+use Rattle.core_rule.specs.Vertices.{IsLinkVertex, IsMarkVertex, IsUnlinkVertex}
+use Rattle.core_rule.specs.FreeNodes.{IsStoreFree, IsPushFree}
 use Rattle.core_rule.specs.Nodes.{node_in, IsUsed}
 use Rattle.core_rule.specs.Chains.{HasList, Sources}
 use Rattle.core_rule.proofs.Steps.{Keeps, put_case, put_same, put_other, marked_state, closed_state, holds_all}
@@ -19,7 +22,7 @@ use Rattle.core_rule.proofs.LinkWords.{link_words, taken, mark_is, mark_isnt}
 use Rattle.core_rule.proofs.Contents.{contents}
 use Rattle.core_rule.proofs.Meets.{stands}
 use Rattle.core_rule.proofs.ListParts.{unlinked_was, unlinked_keeps, unlinked_none, IsWordOf, linked_was, linked_keeps, linked_joins, linked_none, part_unlinked, part_linked, part_same}
-use Rattle.core_rule.proofs.Listed.{part_of, IsEdgeOn, IsFinished, IsOpenList, IsOnSource, Listing, ListingOf, value_of, part_listed, open_mode, moved, IsGrown, handed_over}
+use Rattle.core_rule.proofs.Listed.{part_of, IsEdgeOn, IsFinished, IsOpenList, IsOnSource, Listing, ListingOf, value_of, part_listed, open_mode, IsMoved, moved_open, moved_back, moved, IsGrown, then_open, handed_over}
 
 -- a node is taken: it leaves the lists, and has an empty one
 module _ (sizes : Sizes) (node : ℕ → Node) (edges : ℕ → List ℕ) (frozen : ℕ → Bool) (c : Listing sizes node edges frozen) (i : ℕ) (v : Node) (free : (node i).mode ≡ Free) (fresh : v.mode ≡ Fresh) where
@@ -43,10 +46,10 @@ module _ (sizes : Sizes) (node : ℕ → Node) (edges : ℕ → List ℕ) (froze
   not_fresh x u same = subst IsUsed (ap (λ (y : ℕ). (put i v node y).mode) same ∙ (ap (λ (n : Node). n.mode) (put_same i v node) ∙ fresh)) u
 
   -- a list that isn't frozen to its end doesn't have the node
-  popped_not : (x : ℕ) → IsOpenList sizes node edges frozen x → stands i (edges x) ≡ false
+  pub popped_not : (x : ℕ) → IsOpenList sizes node edges frozen x → stands i (edges x) ≡ false
   popped_not x o = value_of (stands i (edges x) ≡ false) (stands i (edges x)) (λ t. ⊎_elim (λ (l : (node i).mode ≡ Linked). absurd (cc)) (λ (l : (node i).mode ≡ Spent). absurd (cc)) (open_mode sizes node edges frozen x i c o t)) (λ f. f)
 
-  popped_list : (x : ℕ) → IsOpenList sizes node edges frozen x → popped x ≡ edges x
+  pub popped_list : (x : ℕ) → IsOpenList sizes node edges frozen x → popped x ≡ edges x
   popped_list x o = put_other i [] (λ y. unlinked_from i (edges y)) x (not_free x o.used) ∙ unlinked_none i (edges x) (popped_not x o)
 
   popped_finished : (x : ℕ) → x ≢ i → IsFinished node edges frozen x → IsFinished (put i v node) popped opened x
@@ -55,7 +58,7 @@ module _ (sizes : Sizes) (node : ℕ → Node) (edges : ℕ → List ℕ) (froze
     each = λ y h. let r = popped_was x y h in ap (λ (n : Node). n.marked) (popped_node y r.2) ∙ f.each y r.1;
   }
 
-  popped_open : (x : ℕ) → IsOpenList sizes (put i v node) popped opened x → IsOpenList sizes node edges frozen x
+  pub popped_open : (x : ℕ) → IsOpenList sizes (put i v node) popped opened x → IsOpenList sizes node edges frozen x
   popped_open x o =
       let ne = not_fresh x o.used in
       record { there = o.there; used = subst (λ (n : Node). IsUsed n.mode) (popped_node x ne) o.used; vertex = ap (λ (n : Node). n.vertex) (sym (popped_node x ne)) ∙ o.vertex; unfinished = λ f. o.unfinished (popped_finished x ne f) }
@@ -151,7 +154,7 @@ module _ (sizes : Sizes) (node : ℕ → Node) (edges : ℕ → List ℕ) (froze
     each = λ y h. dite (ℕ_discrete y i) (λ same. ap (λ (z : ℕ). (node z).marked) same ∙ marked) (λ ne. sym (cut_mark y) ∙ f.each y (unlinked_keeps i y (edges x) h ne));
   }
 
-  cut_open : (x : ℕ) → IsOpenList sizes (put i v node) cut frozen x → IsOpenList sizes node edges frozen x
+  pub cut_open : (x : ℕ) → IsOpenList sizes (put i v node) cut frozen x → IsOpenList sizes node edges frozen x
   cut_open x o =
       let same = cut_node x (now_vertex x o.vertex) in
       record { there = o.there; used = subst (λ (n : Node). IsUsed n.mode) same o.used; vertex = ap (λ (n : Node). n.vertex) (sym same) ∙ o.vertex; unfinished = λ f. o.unfinished (cut_finished x f) }
@@ -229,10 +232,10 @@ module _ (sizes : Sizes) (node : ℕ → Node) (edges : ℕ → List ℕ) (froze
   now_vertex' : (x : ℕ) → (put i v node x).vertex ≡ true → x ≢ i
   now_vertex' x t same = let u : (put i v node x).vertex ≡ false = ap (λ (y : ℕ). (put i v node y).vertex) same ∙ (ap (λ (n : Node). n.vertex) (put_same i v node) ∙ edge) in absurd (cc)
 
-  joined_else : (x : ℕ) → x ≢ v.source.index → joined x ≡ edges x
+  pub joined_else : (x : ℕ) → x ≢ v.source.index → joined x ≡ edges x
   joined_else x ne = linked_none sizes (second_at sizes x) place i (edges x) (λ at. ne (only x at))
 
-  joined_was : (x y : ℕ) → stands y (joined x) ≡ true → ((stands y (edges x) ≡ true) × (y ≢ i)) ⊎ ((y ≡ i) × (x ≡ v.source.index))
+  pub joined_was : (x y : ℕ) → stands y (joined x) ≡ true → ((stands y (edges x) ≡ true) × (y ≢ i)) ⊎ ((y ≡ i) × (x ≡ v.source.index))
   joined_was x y h = ⊎_elim (λ (t : stands y (edges x) ≡ true). inl (t, not_new x y t)) (λ (t : (y ≡ i) × IsWordOf sizes (second_at sizes x) place (edges x)). inr (t.0, only x t.1)) (linked_was sizes (second_at sizes x) place i y (edges x) h)
 
   -- the list of the source isn't frozen to its end
@@ -250,7 +253,7 @@ module _ (sizes : Sizes) (node : ℕ → Node) (edges : ℕ → List ℕ) (froze
   finished_join : (x : ℕ) → IsFinished (put i v node) joined frozen x → IsFinished node edges frozen x
   finished_join x f = record { head = f.head; each = λ y h. sym (join_mark y) ∙ f.each y (linked_keeps sizes (second_at sizes x) place i y (edges x) h) }
 
-  join_open : (x : ℕ) → IsOpenList sizes (put i v node) joined frozen x → IsOpenList sizes node edges frozen x
+  pub join_open : (x : ℕ) → IsOpenList sizes (put i v node) joined frozen x → IsOpenList sizes node edges frozen x
   join_open x o =
       let same = join_node x (now_vertex' x o.vertex) in
       record { there = o.there; used = subst (λ (n : Node). IsUsed n.mode) same o.used; vertex = ap (λ (n : Node). n.vertex) (sym same) ∙ o.vertex; unfinished = λ f. o.unfinished (join_finished x f) }
@@ -327,6 +330,31 @@ module _ (sizes : Sizes) (node : ℕ → Node) (edges : ℕ → List ℕ) (froze
     source = join_source;
   }
 
+-- what an edge has that joins the list of its source
+pub record IsJoining (sizes : Sizes) (node : ℕ → Node) (edges : ℕ → List ℕ) (frozen : ℕ → Bool) (i place : ℕ) (v : Node) : Type 0 where
+  pub there : i < sizes.nodes
+  pub fresh : (node i).mode ≡ Fresh
+  pub linked : v.mode ≡ Linked
+  pub edge : v.vertex ≡ false
+  pub tag : v.tag ≡ (node i).tag
+  pub mark : v.marked ≡ (node i).marked
+  pub stored : v.stored ≡ false
+  pub used : IsUsed (node v.source.index).mode
+  pub vertex : (node v.source.index).vertex ≡ true
+  pub inside : v.source.index < sizes.nodes
+  pub life : v.source.tag ≡ (node v.source.index).tag
+  pub word : IsWordOf sizes (second_at sizes v.source.index) place (edges v.source.index)
+  pub only : (x : ℕ) → IsWordOf sizes (second_at sizes x) place (edges x) → x ≡ v.source.index
+  pub head : place ≡ second_at sizes v.source.index → frozen v.source.index ≡ false
+  pub unmarked : (z : ℕ) → place ≡ link_at sizes z → (node z).marked ≡ false
+
+module _ (sizes : Sizes) (node : ℕ → Node) (edges : ℕ → List ℕ) (frozen : ℕ → Bool) (c : Listing sizes node edges frozen) (i place : ℕ) (v : Node) (j : IsJoining sizes node edges frozen i place v) where
+  pub joins : Listing sizes (put i v node) (λ x. linked_in sizes (second_at sizes x) place i (edges x)) frozen
+  joins = join_listing sizes node edges frozen c i place v j.there j.fresh j.linked j.edge j.tag j.mark j.stored j.used j.vertex j.inside j.life j.word j.only j.head j.unmarked
+
+  pub joins_open : (x : ℕ) → IsOpenList sizes (put i v node) (λ x. linked_in sizes (second_at sizes x) place i (edges x)) frozen x → IsOpenList sizes node edges frozen x
+  joins_open = join_open sizes node edges frozen c i place v j.there j.fresh j.linked j.edge j.tag j.mark j.stored j.used j.vertex j.inside j.life j.word j.only j.head j.unmarked
+
 marked_same : {A : Type 0} (f : Node → A) (node : ℕ → Node) (i y : ℕ) → f (record (node i) { marked = true }) ≡ f (node i) → f (put i (record (node i) { marked = true }) node y) ≡ f (node y)
 marked_same f node i y h = put_case (λ (u : Node). f u ≡ f (node y)) i (record (node i) { marked = true }) node y (λ same. h ∙ ap (λ (z : ℕ). f (node z)) (sym same)) (λ _. refl)
 
@@ -367,7 +395,7 @@ module _ (sizes : Sizes) (z : IsLayout sizes) (past : List Event) (e : Event) (k
   fresh_off x i f h = (c.on x i h).unfresh f
 
   -- the source of the edges that are linked there
-  link_only : (ok : IsLinkEdge sizes past e) → (x : ℕ) → IsWordOf sizes (second_at sizes x) e.place ((state sizes past).edges x) → x ≡ e.source.index
+  pub link_only : (ok : IsLinkEdge sizes past e) → (x : ℕ) → IsWordOf sizes (second_at sizes x) e.place ((state sizes past).edges x) → x ≡ e.source.index
   link_only ok x at = ⊎_elim
       (λ (h : e.place ≡ second_at sizes x). omega (arith, h, ok.place))
       (λ (h : (y : ℕ) × (stands y ((state sizes past).edges x) ≡ true) × (e.place ≡ link_at sizes y)). sym (c.on x h.0 h.1).index ∙ ap (λ (l : Life). l.index) (ok.linked h.0 h.2).from) at
@@ -392,76 +420,100 @@ module _ (sizes : Sizes) (z : IsLayout sizes) (past : List Event) (e : Event) (k
   not_closed : (x : ℕ) → x < sizes.nodes → IsUsed (node_in sizes past x).mode → (node_in sizes past x).vertex ≡ true → mark_of (word_at sizes past (second_at sizes x)) ≡ 0 → (state sizes past).frozen x ≡ false
   not_closed x t u v m = mark_isnt ((state sizes past).frozen x) (sym (((contents sizes z past kept).each x t).vertex u v).second_mark ∙ m)
 
-  pub link_listing : IsLinkEdge sizes past e → ListingOf sizes (state_by LinkEdge sizes e (state sizes past))
-  link_listing ok =
-      let s : State = state sizes past in
-      let m = ((link_words sizes z past kept).each e.life.index ok.there).unmarked ok.fresh.fresh in
-      join_listing sizes s.node s.edges s.frozen c e.life.index e.place (record (s.node e.life.index) { mode = Linked; vertex = false; key = e.key; source = e.source; target = e.target; weight = e.weight })
-      ok.there ok.fresh.fresh refl refl refl refl m.1 ok.source.used ok.source.vertex ok.source.there ok.source.life (link_word ok) (link_only ok)
-      (λ h. not_closed e.source.index ok.source.there ok.source.used ok.source.vertex (subst (λ (p : ℕ). mark_of (word_at sizes past p) ≡ 0) h ok.unmarked))
-      (λ y h. let l = (ok.linked y h).linked.linked in not_marked y (omega (arith, ok.place, h, ok.source.there)) l (subst (λ (p : ℕ). mark_of (word_at sizes past p) ≡ 0) h ok.unmarked))
+  pub link_joins : IsLinkEdge sizes past e → IsJoining sizes (state sizes past).node (state sizes past).edges (state sizes past).frozen e.life.index e.place (record (node_in sizes past e.life.index) { mode = Linked; vertex = false; key = e.key; source = e.source; target = e.target; weight = e.weight })
+  link_joins ok = record {
+    there = ok.there;
+    fresh = ok.fresh.fresh;
+    linked = refl;
+    edge = refl;
+    tag = refl;
+    mark = refl;
+    stored = (((link_words sizes z past kept).each e.life.index ok.there).unmarked ok.fresh.fresh).1;
+    used = ok.source.used;
+    vertex = ok.source.vertex;
+    inside = ok.source.there;
+    life = ok.source.life;
+    word = link_word ok;
+    only = link_only ok;
+    head = λ h. not_closed e.source.index ok.source.there ok.source.used ok.source.vertex (subst (λ (p : ℕ). mark_of (word_at sizes past p) ≡ 0) h ok.unmarked);
+    unmarked = λ y h. let l = (ok.linked y h).linked.linked in not_marked y (omega (arith, ok.place, h, ok.source.there)) l (subst (λ (p : ℕ). mark_of (word_at sizes past p) ≡ 0) h ok.unmarked);
+  }
 
-  pub cut_listing_by : IsUnlinkEdge sizes past e → ListingOf sizes (state_by UnlinkEdge sizes e (state sizes past))
-  cut_listing_by ok =
-      let s : State = state sizes past in
-      let m = is_marked e.life.index ok.there ok.linked.linked ok.dead in
-      cut_listing sizes s.node s.edges s.frozen c e.life.index (record (s.node e.life.index) { mode = Spent; who = e.caller; ended = s.count + 1; epoch = s.epoch })
-      ok.linked.linked ok.linked.edge m refl refl ok.linked.edge m
+  pub cut_marked : IsUnlinkEdge sizes past e → (node_in sizes past e.life.index).marked ≡ true
+  cut_marked ok = is_marked e.life.index ok.there ok.linked.linked ok.dead
+
+  -- the changes of one node that keep the lists
+  pub link_moves : IsLinkVertex sizes past e → IsMoved sizes (state sizes past).node (state sizes past).edges (state sizes past).frozen e.life.index (record (node_in sizes past e.life.index) { mode = Linked; vertex = true; key = e.key })
+  link_moves ok = record {
+    tag = refl;
+    fresh = λ f. absurd (cc);
+    edge = λ x h. absurd (fresh_off x e.life.index ok.fresh.fresh h);
+    member = λ x o h. absurd (fresh_off x e.life.index ok.fresh.fresh h);
+    used = λ _ _. inr ok.fresh.fresh;
+    unstored = λ _ _ _. (((link_words sizes z past kept).each e.life.index ok.there).unmarked ok.fresh.fresh).1;
+    linked = λ _ h. absurd (cc);
+    still = λ o. absurd (subst IsUsed ok.fresh.fresh o.used);
+  }
+
+  pub mark_moves : IsMarkVertex sizes past e → IsMoved sizes (state sizes past).node (state sizes past).edges (state sizes past).frozen e.life.index (record (node_in sizes past e.life.index) { marked = true })
+  mark_moves ok = record {
+    tag = refl;
+    fresh = λ f. f;
+    edge = λ x h. absurd (vertex_off x e.life.index ok.linked.vertex h);
+    member = λ x o h. absurd (vertex_off x e.life.index ok.linked.vertex h);
+    used = λ u v. inl (u, v);
+    unstored = λ u v f. c.unstored e.life.index record { there = ok.there; used = u; vertex = v; unfinished = f };
+    linked = λ _ h. let v = ok.linked.vertex in absurd (cc);
+    still = λ o. (o.used, o.vertex);
+  }
+
+  pub unlink_moves : IsUnlinkVertex sizes past e → IsMoved sizes (state sizes past).node (state sizes past).edges (state sizes past).frozen e.life.index (record (node_in sizes past e.life.index) { mode = Spent; who = e.caller; ended = (state sizes past).count + 1; epoch = (state sizes past).epoch })
+  unlink_moves ok = record {
+    tag = refl;
+    fresh = λ f. absurd (cc);
+    edge = λ x h. absurd (vertex_off x e.life.index ok.linked.vertex h);
+    member = λ x o h. absurd (vertex_off x e.life.index ok.linked.vertex h);
+    used = λ _ v. inl (subst IsUsed (sym ok.linked.linked) tt, v);
+    unstored = λ _ v f. c.unstored e.life.index record { there = ok.there; used = subst IsUsed (sym ok.linked.linked) tt; vertex = v; unfinished = f };
+    linked = λ m _. absurd (cc);
+    still = λ o. (tt, o.vertex);
+  }
+
+  pub store_moves : IsStoreFree sizes past e → IsMoved sizes (state sizes past).node (state sizes past).edges (state sizes past).frozen e.life.index (record (node_in sizes past e.life.index) { stored = true })
+  store_moves ok = record {
+    tag = refl;
+    fresh = λ f. f;
+    edge = λ x h. ((c.on x e.life.index h).edge, refl, refl);
+    member = λ x o h. let f = ok.list x o.there h in absurd (o.unfinished record { head = f.head; each = f.edges });
+    used = λ u v. inl (u, v);
+    unstored = λ u v f. let g = ok.own_list v in absurd (f record { head = g.head; each = g.edges });
+    linked = λ m _. let t = ok.ripe.spent in absurd (cc);
+    still = λ o. (o.used, o.vertex);
+  }
+
+  pub push_moves : IsPushFree sizes past e → IsMoved sizes (state sizes past).node (state sizes past).edges (state sizes past).frozen e.life.index (record (node_in sizes past e.life.index) { mode = Free })
+  push_moves ok = record {
+    tag = refl;
+    fresh = λ f. absurd (cc);
+    edge = λ x h. ((c.on x e.life.index h).edge, refl, refl);
+    member = λ x o h. let t = c.held x e.life.index o h in let u = ok.stored in absurd (cc);
+    used = λ u _. absurd u;
+    unstored = λ u _ _. absurd u;
+    linked = λ m _. absurd (cc);
+    still = λ o. let t = c.unstored e.life.index o in let u = ok.stored in absurd (cc);
+  }
 
 listing_step : (sizes : Sizes) → IsLayout sizes → Keeps sizes (λ (s : State) (w : ℕ → ℕ). ListingOf sizes s)
 listing_step sizes z past e kept c PopFree by ok w a = popped_listing sizes (state sizes past).node (state sizes past).edges (state sizes past).frozen c e.life.index _ (taken sizes z past e kept ok).free refl
-listing_step sizes z past e kept c LinkVertex by ok w a = moved sizes (state sizes past).node (state sizes past).edges (state sizes past).frozen c e.life.index _ record {
-  tag = refl;
-  fresh = λ f. absurd (cc);
-  edge = λ x h. absurd (fresh_off sizes z past e kept c x e.life.index ok.fresh.fresh h);
-  member = λ x o h. absurd (fresh_off sizes z past e kept c x e.life.index ok.fresh.fresh h);
-  used = λ _ _. inr ok.fresh.fresh;
-  unstored = λ _ _ _. (((link_words sizes z past kept).each e.life.index ok.there).unmarked ok.fresh.fresh).1;
-  linked = λ _ h. absurd (cc);
-  still = λ o. absurd (subst IsUsed ok.fresh.fresh o.used);
-}
-listing_step sizes z past e kept c MarkVertex by ok w a = moved sizes (state sizes past).node (state sizes past).edges (state sizes past).frozen c e.life.index _ record {
-  tag = refl;
-  fresh = λ f. f;
-  edge = λ x h. absurd (vertex_off sizes z past e kept c x e.life.index ok.linked.vertex h);
-  member = λ x o h. absurd (vertex_off sizes z past e kept c x e.life.index ok.linked.vertex h);
-  used = λ u v. inl (u, v);
-  unstored = λ u v f. c.unstored e.life.index record { there = ok.there; used = u; vertex = v; unfinished = f };
-  linked = λ _ h. let v = ok.linked.vertex in absurd (cc);
-  still = λ o. (o.used, o.vertex);
-}
-listing_step sizes z past e kept c UnlinkVertex by ok w a = moved sizes (state sizes past).node (state sizes past).edges (state sizes past).frozen c e.life.index _ record {
-  tag = refl;
-  fresh = λ f. absurd (cc);
-  edge = λ x h. absurd (vertex_off sizes z past e kept c x e.life.index ok.linked.vertex h);
-  member = λ x o h. absurd (vertex_off sizes z past e kept c x e.life.index ok.linked.vertex h);
-  used = λ _ v. inl (subst IsUsed (sym ok.linked.linked) tt, v);
-  unstored = λ _ v f. c.unstored e.life.index record { there = ok.there; used = subst IsUsed (sym ok.linked.linked) tt; vertex = v; unfinished = f };
-  linked = λ m _. absurd (cc);
-  still = λ o. (tt, o.vertex);
-}
-listing_step sizes z past e kept c StoreFree by ok w a = moved sizes (state sizes past).node (state sizes past).edges (state sizes past).frozen c e.life.index _ record {
-  tag = refl;
-  fresh = λ f. f;
-  edge = λ x h. ((c.on x e.life.index h).edge, refl, refl);
-  member = λ x o h. let f = ok.list x o.there h in absurd (o.unfinished record { head = f.head; each = f.edges });
-  used = λ u v. inl (u, v);
-  unstored = λ u v f. let g = ok.own_list v in absurd (f record { head = g.head; each = g.edges });
-  linked = λ m _. let t = ok.ripe.spent in absurd (cc);
-  still = λ o. (o.used, o.vertex);
-}
-listing_step sizes z past e kept c PushFree by ok w a = moved sizes (state sizes past).node (state sizes past).edges (state sizes past).frozen c e.life.index _ record {
-  tag = refl;
-  fresh = λ f. absurd (cc);
-  edge = λ x h. ((c.on x e.life.index h).edge, refl, refl);
-  member = λ x o h. let t = c.held x e.life.index o h in let u = ok.stored in absurd (cc);
-  used = λ u _. absurd u;
-  unstored = λ u _ _. absurd u;
-  linked = λ m _. absurd (cc);
-  still = λ o. let t = c.unstored e.life.index o in let u = ok.stored in absurd (cc);
-}
-listing_step sizes z past e kept c LinkEdge by ok w a = link_listing sizes z past e kept c ok
-listing_step sizes z past e kept c UnlinkEdge by ok w a = cut_listing_by sizes z past e kept c ok
+listing_step sizes z past e kept c LinkVertex by ok w a = moved sizes (state sizes past).node (state sizes past).edges (state sizes past).frozen c e.life.index _ (link_moves sizes z past e kept c ok)
+listing_step sizes z past e kept c MarkVertex by ok w a = moved sizes (state sizes past).node (state sizes past).edges (state sizes past).frozen c e.life.index _ (mark_moves sizes z past e kept c ok)
+listing_step sizes z past e kept c UnlinkVertex by ok w a = moved sizes (state sizes past).node (state sizes past).edges (state sizes past).frozen c e.life.index _ (unlink_moves sizes z past e kept c ok)
+listing_step sizes z past e kept c StoreFree by ok w a = moved sizes (state sizes past).node (state sizes past).edges (state sizes past).frozen c e.life.index _ (store_moves sizes z past e kept c ok)
+listing_step sizes z past e kept c PushFree by ok w a = moved sizes (state sizes past).node (state sizes past).edges (state sizes past).frozen c e.life.index _ (push_moves sizes z past e kept c ok)
+listing_step sizes z past e kept c LinkEdge by ok w a = joins sizes (state sizes past).node (state sizes past).edges (state sizes past).frozen c e.life.index e.place _ (link_joins sizes z past e kept c ok)
+listing_step sizes z past e kept c UnlinkEdge by ok w a =
+    let m = cut_marked sizes z past e kept c ok in
+    cut_listing sizes (state sizes past).node (state sizes past).edges (state sizes past).frozen c e.life.index _ ok.linked.linked ok.linked.edge m refl refl ok.linked.edge m
 listing_step sizes z past e kept c MarkEdge by ok w a = handed_over sizes (state sizes past).node (state sizes past).frozen (marked_state (state sizes past) e.life.index) (node_in sizes past e.life.index).source.index c (mark_grows sizes (state sizes past) e.life.index c)
 listing_step sizes z past e kept c FreezeEdge by ok w a = handed_over sizes (state sizes past).node (state sizes past).frozen (marked_state (state sizes past) e.life.index) (node_in sizes past e.life.index).source.index c (mark_grows sizes (state sizes past) e.life.index c)
 listing_step sizes z past e kept c FreezeHead by ok w a = handed_over sizes (state sizes past).node (state sizes past).frozen (closed_state (state sizes past) e.life.index) e.life.index c (close_grows (state sizes past) e.life.index)
@@ -478,6 +530,39 @@ listing sizes z journal kept = holds_all sizes (λ (s : State) (w : ℕ → ℕ)
   held = λ x y o h. absurd (o.used);
   source = λ y t l e. absurd (cc);
 } journal kept
+
+-- the kinds that link no vertex
+abbrev pub IsNoVertex : Kind → Type 0
+IsNoVertex LinkVertex = ⊥
+IsNoVertex _ = Unit {0}
+
+-- a vertex has a list that isn't frozen to its end
+abbrev pub IsOpenIn : Sizes → State → ℕ → Type 0
+IsOpenIn sizes s x = IsOpenList sizes s.node s.edges s.frozen x
+
+-- it had one before, where no vertex is linked
+pub open_before : (sizes : Sizes) → IsLayout sizes → (past : List Event) (e : Event) → IsKept sizes past → (k : Kind) → IsNoVertex k → AllowedAs k sizes past e → (x : ℕ) → IsOpenIn sizes (state_by k sizes e (state sizes past)) x → IsOpenIn sizes (state sizes past) x
+open_before sizes z past e kept LinkVertex n ok x o = absurd n
+open_before sizes z past e kept PopFree n ok x o = popped_open sizes (state sizes past).node (state sizes past).edges (state sizes past).frozen (listing sizes z past kept) e.life.index _ (taken sizes z past e kept ok).free refl x o
+open_before sizes z past e kept MarkVertex n ok x o = moved_back sizes (state sizes past).node (state sizes past).edges (state sizes past).frozen (listing sizes z past kept) e.life.index _ (mark_moves sizes z past e kept (listing sizes z past kept) ok) (λ u v. (u, v)) x o
+open_before sizes z past e kept UnlinkVertex n ok x o = moved_back sizes (state sizes past).node (state sizes past).edges (state sizes past).frozen (listing sizes z past kept) e.life.index _ (unlink_moves sizes z past e kept (listing sizes z past kept) ok) (λ u v. (subst IsUsed (sym ok.linked.linked) tt, v)) x o
+open_before sizes z past e kept StoreFree n ok x o = moved_back sizes (state sizes past).node (state sizes past).edges (state sizes past).frozen (listing sizes z past kept) e.life.index _ (store_moves sizes z past e kept (listing sizes z past kept) ok) (λ u v. (u, v)) x o
+open_before sizes z past e kept PushFree n ok x o = moved_back sizes (state sizes past).node (state sizes past).edges (state sizes past).frozen (listing sizes z past kept) e.life.index _ (push_moves sizes z past e kept (listing sizes z past kept) ok) (λ u v. absurd u) x o
+open_before sizes z past e kept LinkEdge n ok x o = joins_open sizes (state sizes past).node (state sizes past).edges (state sizes past).frozen (listing sizes z past kept) e.life.index e.place _ (link_joins sizes z past e kept (listing sizes z past kept) ok) x o
+open_before sizes z past e kept UnlinkEdge n ok x o =
+    let m = cut_marked sizes z past e kept (listing sizes z past kept) ok in
+    cut_open sizes (state sizes past).node (state sizes past).edges (state sizes past).frozen (listing sizes z past kept) e.life.index _ ok.linked.linked ok.linked.edge m refl refl ok.linked.edge m x o
+open_before sizes z past e kept MarkEdge n ok x o = then_open sizes (state sizes past).node (state sizes past).frozen (marked_state (state sizes past) e.life.index) (node_in sizes past e.life.index).source.index (listing sizes z past kept) (mark_grows sizes (state sizes past) e.life.index (listing sizes z past kept)) x o
+open_before sizes z past e kept FreezeEdge n ok x o = then_open sizes (state sizes past).node (state sizes past).frozen (marked_state (state sizes past) e.life.index) (node_in sizes past e.life.index).source.index (listing sizes z past kept) (mark_grows sizes (state sizes past) e.life.index (listing sizes z past kept)) x o
+open_before sizes z past e kept FreezeHead n ok x o = then_open sizes (state sizes past).node (state sizes past).frozen (closed_state (state sizes past) e.life.index) e.life.index (listing sizes z past kept) (close_grows (state sizes past) e.life.index) x o
+open_before sizes z past e kept _ n ok x o = o
+
+-- where a vertex is linked, it had one before, or is that vertex, which was fresh
+pub open_linked : (sizes : Sizes) → IsLayout sizes → (past : List Event) (e : Event) → IsKept sizes past → IsLinkVertex sizes past e → (x : ℕ) → IsOpenIn sizes (state_by LinkVertex sizes e (state sizes past)) x → IsOpenIn sizes (state sizes past) x ⊎ (x ≡ e.life.index)
+open_linked sizes z past e kept ok x o = dite (ℕ_discrete x e.life.index) (λ same. inr same) (λ ne.
+    inl (⊎_elim (λ (h : IsOpenIn sizes (state sizes past) x). h)
+    (λ (f : (node_in sizes past x).mode ≡ Fresh). absurd (subst IsUsed (ap (λ (n : Node). n.mode) (put_other e.life.index (record (node_in sizes past e.life.index) { mode = Linked; vertex = true; key = e.key }) (state sizes past).node x ne) ∙ f) o.used))
+    (moved_open sizes (state sizes past).node (state sizes past).edges (state sizes past).frozen (listing sizes z past kept) e.life.index _ (link_moves sizes z past e kept (listing sizes z past kept) ok) x o)))
 
 -- the same of a list that isn't frozen to its end, in the words of the journal
 pub has_open : (sizes : Sizes) (journal : List Event) (x : ℕ) → HasList sizes journal x → IsOpenList sizes (state sizes journal).node (state sizes journal).edges (state sizes journal).frozen x

@@ -108,13 +108,21 @@ module _ (sizes : Sizes) (node : ℕ → Node) (edges : ℕ → List ℕ) (froze
   moved_finished : (x : ℕ) → IsFinished (put i v node) edges frozen x → IsFinished node edges frozen x
   moved_finished x f = record { head = f.head; each = λ y h. sym (moved_mark x y h) ∙ f.each y h }
 
-  moved_open : (x : ℕ) → IsOpenList sizes (put i v node) edges frozen x → IsOpenList sizes node edges frozen x ⊎ ((node x).mode ≡ Fresh)
+  pub moved_open : (x : ℕ) → IsOpenList sizes (put i v node) edges frozen x → IsOpenList sizes node edges frozen x ⊎ ((node x).mode ≡ Fresh)
   moved_open x o = put_case (λ (u : Node). IsUsed u.mode → u.vertex ≡ true → IsOpenList sizes node edges frozen x ⊎ ((node x).mode ≡ Fresh)) i v node x
       (λ same u t. ⊎_elim (λ (a : IsUsed (node i).mode × ((node i).vertex ≡ true)). inl (build (subst (λ (y : ℕ). IsUsed (node y).mode) (sym same) a.0) (ap (λ (y : ℕ). (node y).vertex) same ∙ a.1))) (λ (f : (node i).mode ≡ Fresh). inr (ap (λ (y : ℕ). (node y).mode) same ∙ f)) (m.used u t))
       (λ _ u t. inl (build u t)) o.used o.vertex
     where
       build : IsUsed (node x).mode → (node x).vertex ≡ true → IsOpenList sizes node edges frozen x
       build u t = record { there = o.there; used = u; vertex = t; unfinished = λ f. o.unfinished (moved_finish x f) }
+
+  -- where the node was no fresh one
+  pub moved_back : (IsUsed v.mode → v.vertex ≡ true → IsUsed (node i).mode × ((node i).vertex ≡ true)) → (x : ℕ) → IsOpenList sizes (put i v node) edges frozen x → IsOpenList sizes node edges frozen x
+  moved_back was x o =
+      let q = put_case (λ (u : Node). IsUsed u.mode → u.vertex ≡ true → IsUsed (node x).mode × ((node x).vertex ≡ true)) i v node x
+      (λ same u t. let r = was u t in (subst (λ (y : ℕ). IsUsed (node y).mode) (sym same) r.0, ap (λ (y : ℕ). (node y).vertex) same ∙ r.1))
+      (λ _ u t. (u, t)) o.used o.vertex in
+      record { there = o.there; used = q.0; vertex = q.1; unfinished = λ f. o.unfinished (moved_finish x f) }
 
   moved_still : (x : ℕ) → IsOpenList sizes node edges frozen x → IsOpenList sizes (put i v node) edges frozen x
   moved_still x o =
@@ -243,7 +251,7 @@ module _ (sizes : Sizes) (node : ℕ → Node) (frozen : ℕ → Bool) (s : Stat
   then_finished : (x : ℕ) → IsFinished node s.edges frozen x → IsFinished then s.edges s.frozen x
   then_finished x f = record { head = g.head x f.head; each = λ y h. (then_is y).marked ∙ g.marked y (f.each y h) }
 
-  then_open : (x : ℕ) → IsOpenList sizes then s.edges s.frozen x → IsOpenList sizes node s.edges frozen x
+  pub then_open : (x : ℕ) → IsOpenList sizes then s.edges s.frozen x → IsOpenList sizes node s.edges frozen x
   then_open x o = record { there = o.there; used = then_used x o.used; vertex = sym (then_vertex x) ∙ o.vertex; unfinished = λ f. o.unfinished (then_finished x f) }
 
   -- the frozen part of that list grows, and every other stays
