@@ -38,7 +38,7 @@ not_none None h = absurd (h refl)
 not_none (Some x) h = (x, refl)
 
 -- what is linked in a longer journal was linked before, or is the last event
-link_split : (past : List Event) (e : Event) (x : Life) (link : Event) → link_of (past ++ e ∷ []) x ≡ Some link → (P : Event → Type 0) → ((d : Event) → link_of past x ≡ Some d → P d) → (links_edge e.kind ≡ true → P e) → P link
+pub link_split : (past : List Event) (e : Event) (x : Life) (link : Event) → link_of (past ++ e ∷ []) x ≡ Some link → (P : Event → Type 0) → ((d : Event) → link_of past x ≡ Some d → P d) → (links_edge e.kind ≡ true → P e) → P link
 unfolding link_of
 link_split past e x link h P old new = by (find (λ (d : Event). links_edge d.kind && same_life x d.life) past) refl
   where

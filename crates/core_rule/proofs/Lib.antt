@@ -29,3 +29,12 @@ pub mod SameNodes
 pub mod Lifts
 pub mod VertexLifts
 pub mod EdgeLifts
+pub mod BucketSteps
+pub mod Living
+pub mod LivingEdges
+pub mod Present
+pub mod VertexEffects
+pub mod ListParts
+pub mod Listed
+pub mod ListSteps
+pub mod EdgeChains

@@ -4,15 +4,21 @@
 //! of the table are laws of kept journals. The crate has definitions and laws, and no code.
 #![tactic(auto)]
 
+mod buckets;
 mod graph;
 mod journals;
+mod lists;
 mod own;
 mod rule;
 mod view;
 mod words;
 
+pub use buckets::{
+    a_present_vertex_is_on_its_chain, buckets_hold_their_vertices, one_present_vertex_has_a_key,
+};
 pub use graph::{edges_have_ends, links_are_new};
 pub use journals::{a_vertex_is_added, kept_journals_grow};
+pub use lists::linked_edges_are_at_their_source;
 pub use own::{callers_have_numbers, own_events_are_counted, own_facts_stay};
 pub use rule::{
     a_draw_keeps_the_rule, a_last_token_knows_the_journal, a_new_table_meets_the_rule,

@@ -129,18 +129,18 @@ stands_alone sizes j (Node n) low = record { words = λ p ne h. word p ne h; key
 writes_at : (sizes : Sizes) (past : List Event) (e : Event) (w : ℕ → ℕ) (place word : ℕ) → IsAfter sizes past e w → place ≡ e.place → e.place < word_count sizes → e.word ≡ word → Writes (word_at sizes past) w place word
 writes_at sizes past e w place word a at near is = record { written = ap w at ∙ (a.here near ∙ is); others = λ i ne. a.else i (λ h. ne (h ∙ sym at)) }
 
-module _ (sizes : Sizes) (z : IsLayout sizes) (past : List Event) (e : Event) (kept : IsKept sizes past) where
+module _ (sizes : Sizes) (z : IsLayout sizes) (past : List Event) (kept : IsKept sizes past) where
   -- the key word of a vertex on a chain is its key
-  key_word : (x j : ℕ) → IsVertexIn sizes (node_in sizes past x) j → word_at sizes past (key_at sizes x) ≡ (node_in sizes past x).key
+  pub key_word : (x j : ℕ) → IsVertexIn sizes (node_in sizes past x) j → word_at sizes past (key_at sizes x) ≡ (node_in sizes past x).key
   key_word x j v =
       let there : x < sizes.nodes = used_there sizes past x kept (λ f. let m = v.linked in absurd (cc)) in
       (((contents sizes z past kept).each x there).vertex (subst IsUsed (sym v.linked) tt) v.vertex).key_word
 
   -- a linked vertex is on the chain of its key's bucket
-  home_in : (x j : ℕ) → IsLinkedVertex sizes past x → (node_in sizes past x).key % sizes.buckets ≡ j → is_of_bucket sizes (state sizes past) j x ≡ true
+  pub home_in : (x j : ℕ) → IsLinkedVertex sizes past x → (node_in sizes past x).key % sizes.buckets ≡ j → is_of_bucket sizes (state sizes past) j x ≡ true
   home_in x j v of = in_is sizes (state sizes past) j x record { linked = v.linked; vertex = v.vertex; of_bucket = of }
 
-  home_low : (key : ℕ) → key % sizes.buckets < sizes.buckets
+  pub home_low : (key : ℕ) → key % sizes.buckets < sizes.buckets
   home_low key = mod-lt key (omega (arith, z.some_buckets))
 
 -- an event writes a word of the chain of a bucket
@@ -153,13 +153,13 @@ module _ (sizes : Sizes) (z : IsLayout sizes) (past : List Event) (e : Event) (k
   abbrev link_home : ℕ
   link_home = e.key % sizes.buckets
 
-  link_spot : IsSpot sizes past e link_home
+  pub link_spot : IsSpot sizes past e link_home
   link_spot = ⊎_elim
       (λ h. record { at = Head; place = ap (bucket_at sizes) (sym (ok.gap.bucket_word ok.bucket h.0 h.1)) ∙ sym h.0; on = tt })
       (λ h.
       let v = ok.linked ok.before h.0 in
-      let word = key_word sizes z past e kept ok.before _ record { linked = v.linked; vertex = v.vertex; of_bucket = refl } in
-      record { at = Node ok.before; place = sym h.0; on = home_in sizes z past e kept ok.before link_home v (ap (λ (k : ℕ). k % sizes.buckets) (sym word) ∙ ok.gap.bucket ok.before h.0) })
+      let word = key_word sizes z past kept ok.before _ record { linked = v.linked; vertex = v.vertex; of_bucket = refl } in
+      record { at = Node ok.before; place = sym h.0; on = home_in sizes z past kept ok.before link_home v (ap (λ (k : ℕ). k % sizes.buckets) (sym word) ∙ ok.gap.bucket ok.before h.0) })
       ok.place
 
   -- the state of the node that is linked, and after the event
@@ -172,7 +172,7 @@ module _ (sizes : Sizes) (z : IsLayout sizes) (past : List Event) (e : Event) (k
   link_fresh : (j : ℕ) → IsVertexIn sizes (node_in sizes past e.life.index) j → ⊥
   link_fresh j v = let m = v.linked in let f = ok.fresh.fresh in absurd (cc)
 
-  link_can : (s : IsSpot sizes past e link_home) → CanInsert (bucket_chain sizes past link_home) s.at e.life.index
+  pub link_can : (s : IsSpot sizes past e link_home) → CanInsert (bucket_chain sizes past link_home) s.at e.life.index
   link_can s =
       let word : word_at sizes past (bucket_word sizes link_home s.at) ≡ word_at sizes past e.place = ap (word_at sizes past) s.place in
       record {
@@ -212,11 +212,11 @@ module _ (sizes : Sizes) (z : IsLayout sizes) (past : List Event) (e : Event) (k
     pub link_inserts : (s : IsSpot sizes past e link_home) → Inserts (bucket_chain sizes past link_home) (chain_of sizes link_state w link_home) s.at e.life.index
     link_inserts s =
         Inserts-in (word_at sizes past) w (bucket_places sizes link_home) (is_of_bucket sizes (state sizes past) link_home) (is_of_bucket sizes link_state link_home) s.at e.life.index (tag_of (word_at sizes past e.place))
-        (stands_alone sizes link_home s.at (home_low sizes z past e kept e.key)) (omega (arith, ok.there, z.few_nodes)) (link_can s) (writes_at sizes past e w _ _ a s.place link_near ok.word) link_nodes
+        (stands_alone sizes link_home s.at (home_low sizes z past kept e.key)) (omega (arith, ok.there, z.few_nodes)) (link_can s) (writes_at sizes past e w _ _ a s.place link_near ok.word) link_nodes
 
     -- and no word of another is written
     link_apart : (j : ℕ) → j < sizes.buckets → j ≢ link_home → (x : ℕ) → IsVertexIn sizes (node_in sizes past x) j → e.place ≢ link_at sizes x
-    link_apart j low ne x v h = ne (sym v.of_bucket ∙ (ap (λ (k : ℕ). k % sizes.buckets) (sym (key_word sizes z past e kept x j v)) ∙ ok.gap.bucket x h))
+    link_apart j low ne x v h = ne (sym v.of_bucket ∙ (ap (λ (k : ℕ). k % sizes.buckets) (sym (key_word sizes z past kept x j v)) ∙ ok.gap.bucket x h))
 
     pub link_others : (j : ℕ) → j < sizes.buckets → j ≢ link_home → Untouched (bucket_chain sizes past j) (chain_of sizes link_state w j)
     link_others j low ne = untouched sizes past e w link_state j a (λ h. ne (ok.gap.bucket_word j h low)) (λ x v. (link_apart j low ne x v, λ h. omega (arith, ok.place, h))) (link_same j ne)
@@ -232,7 +232,7 @@ module _ (sizes : Sizes) (z : IsLayout sizes) (past : List Event) (e : Event) (k
             subst (IsBucket sizes link_state w) (sym same) record {
               chain = IsChain-inserted (bucket_chain sizes past link_home) (chain_of sizes link_state w link_home) s.at e.life.index old.chain step;
               met = subst (λ (p : ℕ). Meets (chain_of sizes link_state w link_home) Head (linked_in sizes (bucket_at sizes link_home) p e.life.index ((state sizes past).bucket link_home))) s.place
-                  (meets_inserted sizes (bucket_places sizes link_home) (bucket_links sizes link_home (home_low sizes z past e kept e.key)) (bucket_chain sizes past link_home) (chain_of sizes link_state w link_home) s.at e.life.index ((state sizes past).bucket link_home) old.chain step old.met);
+                  (meets_inserted sizes (bucket_places sizes link_home) (bucket_links sizes link_home (home_low sizes z past kept e.key)) (bucket_chain sizes past link_home) (chain_of sizes link_state w link_home) s.at e.life.index ((state sizes past).bucket link_home) old.chain step old.met);
             }
 
         other : j ≢ link_home → IsBucket sizes link_state w j
@@ -258,9 +258,9 @@ module _ (sizes : Sizes) (z : IsLayout sizes) (past : List Event) (e : Event) (k
     -- the vertex stays on its chain, with a mark
     pub mark_sets : Marks (bucket_chain sizes past mark_home) (chain_of sizes mark_state w mark_home) e.life.index
     mark_sets = record {
-      present = home_in sizes z past e kept e.life.index mark_home ok.linked refl;
+      present = home_in sizes z past kept e.life.index mark_home ok.linked refl;
       sets = SetsMark-in (word_at sizes past) w (bucket_places sizes mark_home) (is_of_bucket sizes (state sizes past) mark_home) (is_of_bucket sizes mark_state mark_home) (Node e.life.index)
-          (stands_alone sizes mark_home (Node e.life.index) (home_low sizes z past e kept (node_in sizes past e.life.index).key))
+          (stands_alone sizes mark_home (Node e.life.index) (home_low sizes z past kept (node_in sizes past e.life.index).key))
           (writes_at sizes past e w (link_at sizes e.life.index) (with_mark (word_at sizes past (link_at sizes e.life.index))) a (sym ok.place) (omega (arith, ok.place, ok.there)) (ok.word ∙ ap (λ (p : ℕ). with_mark (word_at sizes past p)) ok.place))
           (mark_same mark_home);
     }
@@ -301,13 +301,13 @@ module _ (sizes : Sizes) (z : IsLayout sizes) (past : List Event) (e : Event) (k
       let here : is_of_bucket sizes (state sizes past) j e.life.index ≡ true = subst (λ (y : ℕ). is_of_bucket sizes (state sizes past) j y ≡ true) to led in
       sym (is_in sizes (state sizes past) j e.life.index here).of_bucket
 
-  cut_spot : IsSpot sizes past e cut_home
+  pub cut_spot : IsSpot sizes past e cut_home
   cut_spot = ⊎_elim
       (λ h. subst (IsSpot sizes past e) (led_home ok.bucket h.1 Head tt (sym h.0)) record { at = Head; place = sym h.0; on = tt })
       (λ h.
       let j : ℕ = (node_in sizes past ok.before).key % sizes.buckets in
-      let on = home_in sizes z past e kept ok.before j (ok.before_linked ok.before h.0) refl in
-      subst (IsSpot sizes past e) (led_home j (home_low sizes z past e kept (node_in sizes past ok.before).key) (Node ok.before) on (sym h.0)) record { at = Node ok.before; place = sym h.0; on = on })
+      let on = home_in sizes z past kept ok.before j (ok.before_linked ok.before h.0) refl in
+      subst (IsSpot sizes past e) (led_home j (home_low sizes z past kept (node_in sizes past ok.before).key) (Node ok.before) on (sym h.0)) record { at = Node ok.before; place = sym h.0; on = on })
       ok.place
 
   cut_can : (s : IsSpot sizes past e cut_home) → CanUnlink (bucket_chain sizes past cut_home) s.at e.life.index
@@ -334,7 +334,7 @@ module _ (sizes : Sizes) (z : IsLayout sizes) (past : List Event) (e : Event) (k
     pub cut_unlinks : (s : IsSpot sizes past e cut_home) → Unlinks (bucket_chain sizes past cut_home) (chain_of sizes cut_state w cut_home) s.at e.life.index
     cut_unlinks s =
         Unlinks-in (word_at sizes past) w (bucket_places sizes cut_home) (is_of_bucket sizes (state sizes past) cut_home) (is_of_bucket sizes cut_state cut_home) s.at e.life.index (tag_of (word_at sizes past e.place))
-        (stands_alone sizes cut_home s.at (home_low sizes z past e kept (node_in sizes past e.life.index).key)) (cut_can s) (writes_at sizes past e w _ _ a s.place (omega (arith, ok.place)) ok.word) cut_nodes
+        (stands_alone sizes cut_home s.at (home_low sizes z past kept (node_in sizes past e.life.index).key)) (cut_can s) (writes_at sizes past e w _ _ a s.place (omega (arith, ok.place)) ok.word) cut_nodes
 
     pub cut_others : (j : ℕ) → j < sizes.buckets → j ≢ cut_home → Untouched (bucket_chain sizes past j) (chain_of sizes cut_state w j)
     cut_others j low ne = untouched sizes past e w cut_state j a (λ h. ne (led_home j low Head tt (sym h)))
