@@ -23,7 +23,6 @@ pub mod Ripe
 pub mod Staying
 pub mod Meets
 pub mod Placed
-pub mod Buckets
 pub mod SpentNodes
 pub mod SameNodes
 pub mod Lifts
@@ -38,3 +37,4 @@ pub mod ListParts
 pub mod Listed
 pub mod ListSteps
 pub mod EdgeChains
+pub mod UnlinkLifts
