@@ -18,7 +18,7 @@ use Rattle.core_rule.specs.OwnEvents.{link_edge_event, mark_edge_event, freeze_h
 use Rattle.core_rule.specs.Owes.{Reaches}
 use Rattle.core_rule.specs.declared.view.View.{View}
 use Rattle.core_rule.proofs.Ends.{vertex_key}
-use Rattle.core_rule.proofs.Lifts.{own_pass, own_fresh, still_fresh}
+use Rattle.core_rule.proofs.OwnLifts.{own_pass, own_fresh, still_fresh}
 use Rattle.core_rule.proofs.SameNodes.{IsMetStill, met_still, met_linked, met_key, key_word_is}
 use Rattle.core_rule.proofs.SpentNodes.{IsSpentStill, spent_with_stays}
 use Rattle.core_rule.proofs.VertexLifts.{vertex_still, vertex_now, vertex_key_now}
@@ -63,7 +63,7 @@ module _ (v : View) (z : IsLayout v.sizes) (journal : List Event) (r : Reaches v
       let from : IsVertex v.sizes journal source = vertex_now v z journal r source m.from in
       let end : IsVertex v.sizes journal target = vertex_now v z journal r target m.to in
       let end_key : key_of journal target ≡ Some key =
-          vertex_key v.sizes z journal r.kept target end ∙ ap Some (sym (key_word_is v.sizes z journal r.kept target.index end.there end.used) ∙ (vertex_key_now v z journal r target m.to ∙ m.to_key)) in
+      vertex_key v.sizes z journal r.kept target end ∙ ap Some (sym (key_word_is v.sizes z journal r.kept target.index end.there end.used) ∙ (vertex_key_now v z journal r target m.to ∙ m.to_key)) in
       let pass : (pass_in v.sizes journal v.number).is_open ≡ true = (vertex_still v z journal r source m.from).met.pass in
       let filled : IsFilledEdge v.sizes journal x.index key (index_of (word_at v.sizes journal place)) target weight = record {
         key_word = h.key ∙ m.filled.key_word;
@@ -75,53 +75,53 @@ module _ (v : View) (z : IsLayout v.sizes) (journal : List Event) (r : Reaches v
         weight_fits = m.filled.weight_fits;
       } in
       let above : index_of (word_at v.sizes journal place) ≢ nowhere → key < word_at v.sizes journal (key_at v.sizes (index_of (word_at v.sizes journal place))) = λ some.
-          let b = m.behind (λ none. some (to ∙ none)) in
-          let at : key_at v.sizes (index_of (word_at v.sizes journal place)) ≡ key_at v.sizes b.life.index = ap (key_at v.sizes) (to ∙ sym b.is) in
-          let now : word_at v.sizes journal (key_at v.sizes b.life.index) ≡ key_in v b.life.index = edge_key_now source b.life b.met in
-          let same : key_in v b.life.index ≡ key_in v (index_of seen) = ap (key_in v) b.is in
-          omega (arith, b.above, same, now, ap (word_at v.sizes journal) at) in
+      let b = m.behind (λ none. some (to ∙ none)) in
+      let at : key_at v.sizes (index_of (word_at v.sizes journal place)) ≡ key_at v.sizes b.life.index = ap (key_at v.sizes) (to ∙ sym b.is) in
+      let now : word_at v.sizes journal (key_at v.sizes b.life.index) ≡ key_in v b.life.index = edge_key_now source b.life b.met in
+      let same : key_in v b.life.index ≡ key_in v (index_of seen) = ap (key_in v) b.is in
+      omega (arith, b.above, same, now, ap (word_at v.sizes journal) at) in
       ⊎_elim
-          (λ (head : place ≡ second_at v.sizes source.index). record {
-          life = m.life.tag ∙ sym tag;
-          there = m.life.there;
-          source = from;
-          before = 0;
-          place = inl (head, from.there);
-          linked = λ y at. absurd (omega (arith, head, at));
-          unmarked = live;
-          gap = record { below = λ y at. absurd (omega (arith, head, at)); above = above };
-          word = ap (λ (w : ℕ). pack x.index 0 (tag_of w)) (sym is);
-          fresh = still_fresh v journal x.index h m.fresh;
-          filled = filled;
-          target = end_key;
-          target_there = end.there;
-          pass = pass;
-        })
-          (λ (b : (y : Life) × IsEdgeBelow v source key place y).
-          let y = b.0 in
-          let below = b.1 in
-          let linked : IsEdgeFrom v.sizes journal source y.index = edge_linked_now source y below.met (ap (λ (i : ℕ). mark_of (word_at v.sizes journal i)) (sym below.place_is) ∙ live) in
-          let now : word_at v.sizes journal (key_at v.sizes y.index) ≡ key_in v y.index = edge_key_now source y below.met in
-          record {
-            life = m.life.tag ∙ sym tag;
-            there = m.life.there;
-            source = from;
-            before = y.index;
-            place = inr (below.place_is, below.met.life.there);
-            linked = λ u at. let same : y.index ≡ u = omega (arith, at, below.place_is) in subst (λ (i : ℕ). IsEdgeFrom v.sizes journal source i) same linked;
-            unmarked = live;
-            gap = record {
-              below = λ u at. let same : u ≡ y.index = omega (arith, at, below.place_is) in let is : word_at v.sizes journal (key_at v.sizes u) ≡ key_in v y.index = ap (λ (i : ℕ). word_at v.sizes journal (key_at v.sizes i)) same ∙ now in omega (arith, is, below.below);
-              above = above;
-            };
-            word = ap (λ (w : ℕ). pack x.index 0 (tag_of w)) (sym is);
-            fresh = still_fresh v journal x.index h m.fresh;
-            filled = filled;
-            target = end_key;
-            target_there = end.there;
-            pass = pass;
-          })
-          m.before
+      (λ (head : place ≡ second_at v.sizes source.index). record {
+        life = m.life.tag ∙ sym tag;
+        there = m.life.there;
+        source = from;
+        before = 0;
+        place = inl (head, from.there);
+        linked = λ y at. absurd (omega (arith, head, at));
+        unmarked = live;
+        gap = record { below = λ y at. absurd (omega (arith, head, at)); above = above };
+        word = ap (λ (w : ℕ). pack x.index 0 (tag_of w)) (sym is);
+        fresh = still_fresh v journal x.index h m.fresh;
+        filled = filled;
+        target = end_key;
+        target_there = end.there;
+        pass = pass;
+      })
+      (λ (b : (y : Life) × IsEdgeBelow v source key place y).
+      let y = b.0 in
+      let below = b.1 in
+      let linked : IsEdgeFrom v.sizes journal source y.index = edge_linked_now source y below.met (ap (λ (i : ℕ). mark_of (word_at v.sizes journal i)) (sym below.place_is) ∙ live) in
+      let now : word_at v.sizes journal (key_at v.sizes y.index) ≡ key_in v y.index = edge_key_now source y below.met in
+      record {
+        life = m.life.tag ∙ sym tag;
+        there = m.life.there;
+        source = from;
+        before = y.index;
+        place = inr (below.place_is, below.met.life.there);
+        linked = λ u at. let same : y.index ≡ u = omega (arith, at, below.place_is) in subst (λ (i : ℕ). IsEdgeFrom v.sizes journal source i) same linked;
+        unmarked = live;
+        gap = record {
+          below = λ u at. let same : u ≡ y.index = omega (arith, at, below.place_is) in let is : word_at v.sizes journal (key_at v.sizes u) ≡ key_in v y.index = ap (λ (i : ℕ). word_at v.sizes journal (key_at v.sizes i)) same ∙ now in omega (arith, is, below.below);
+          above = above;
+        };
+        word = ap (λ (w : ℕ). pack x.index 0 (tag_of w)) (sym is);
+        fresh = still_fresh v journal x.index h m.fresh;
+        filled = filled;
+        target = end_key;
+        target_there = end.there;
+        pass = pass;
+      })
+      m.before
 
   -- an edge is marked
   pub lift_mark_edge : (source x : Life) → MayMarkEdge v source x → mark_of (word_at v.sizes journal (link_at v.sizes x.index)) ≡ 0 → IsMarkEdge v.sizes journal (mark_edge_event v x (word_at v.sizes journal (link_at v.sizes x.index)))

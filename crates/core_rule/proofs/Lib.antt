@@ -25,7 +25,7 @@ pub mod Meets
 pub mod Placed
 pub mod SpentNodes
 pub mod SameNodes
-pub mod Lifts
+pub mod OwnLifts
 pub mod VertexLifts
 pub mod EdgeLifts
 pub mod BucketSteps

@@ -28,7 +28,7 @@ use Rattle.core_rule.proofs.BucketSteps.{IsVertexIn, is_in, in_is, buckets, buck
 use Rattle.core_rule.proofs.Contents.{contents}
 use Rattle.core_rule.proofs.EdgeChains.{edge_lists, lists}
 use Rattle.core_rule.proofs.EdgeLifts.{edge_still, edge_linked_now}
-use Rattle.core_rule.proofs.Lifts.{own_pass}
+use Rattle.core_rule.proofs.OwnLifts.{own_pass}
 use Rattle.core_rule.proofs.LinkWords.{link_words, mark_isnt}
 use Rattle.core_rule.proofs.Listed.{Listing, value_of}
 use Rattle.core_rule.proofs.ListParts.{part_was, stands_case, stands_here, stands_later}
@@ -61,16 +61,16 @@ before_part c is test p on q (a ∷ rest) here met before some h =
     let on_a : IsOn c (Node a) = subst (λ (y : ℕ). IsOn c (Node y)) leads there.0 in
     let next : Precedes c (Node a) (Node p) → stands (c.next (Node p)) (take_while test rest) ≡ true → stands p (take_while test rest) ≡ true = λ low. before_part c is test p on (Node a) rest on_a met.2 low some in
     value_of (stands p (take_while test (a ∷ rest)) ≡ true) (test a)
-        (λ t. ap (λ (l : List ℕ). stands p l) (take_while-cons test a rest ∙ ap (λ (b : Bool). cond b (a ∷ take_while test rest) []) t)
-        ∙ stands_case (stands p (a ∷ take_while test rest) ≡ true) a (c.next (Node p)) (take_while test rest) (sym (ap (λ (l : List ℕ). stands (c.next (Node p)) l) (take_while-cons test a rest ∙ ap (λ (b : Bool). cond b (a ∷ take_while test rest) []) t)) ∙ h)
-        (λ same. let one : Node p ≡ q = one_leads c (Node p) q is on here some (sym same ∙ sym leads) in absurd (let r : rank_of c (Node p) ≡ rank_of c q = ap (rank_of c) one in omega (arith, r, before)))
-        (λ _ later. dite (ℕ_discrete a p)
-        (λ same. stands_here a p (take_while test rest) same)
-        (λ ne. stands_later a p (take_while test rest) (by_rank c (Node a) (Node p)
-        (λ e. absurd (ne (ap node_of (is.alone (Node a) (Node p) on_a on e))))
-        (λ low. next low later)
-        (λ high. absurd (is.gap q (Node p) here on before (subst (λ (y : ℕ). Precedes c (Node p) (Node y)) (sym leads) high)))))))
-        (λ f. let none : stands (c.next (Node p)) [] ≡ true = sym (ap (λ (l : List ℕ). stands (c.next (Node p)) l) (take_while-cons test a rest ∙ ap (λ (b : Bool). cond b (a ∷ take_while test rest) []) f)) ∙ h in absurd (cc))
+    (λ t. ap (λ (l : List ℕ). stands p l) (take_while-cons test a rest ∙ ap (λ (b : Bool). cond b (a ∷ take_while test rest) []) t)
+    ∙ stands_case (stands p (a ∷ take_while test rest) ≡ true) a (c.next (Node p)) (take_while test rest) (sym (ap (λ (l : List ℕ). stands (c.next (Node p)) l) (take_while-cons test a rest ∙ ap (λ (b : Bool). cond b (a ∷ take_while test rest) []) t)) ∙ h)
+    (λ same. let one : Node p ≡ q = one_leads c (Node p) q is on here some (sym same ∙ sym leads) in absurd (let r : rank_of c (Node p) ≡ rank_of c q = ap (rank_of c) one in omega (arith, r, before)))
+    (λ _ later. dite (ℕ_discrete a p)
+    (λ same. stands_here a p (take_while test rest) same)
+    (λ ne. stands_later a p (take_while test rest) (by_rank c (Node a) (Node p)
+    (λ e. absurd (ne (ap node_of (is.alone (Node a) (Node p) on_a on e))))
+    (λ low. next low later)
+    (λ high. absurd (is.gap q (Node p) here on before (subst (λ (y : ℕ). Precedes c (Node p) (Node y)) (sym leads) high)))))))
+    (λ f. let none : stands (c.next (Node p)) [] ≡ true = sym (ap (λ (l : List ℕ). stands (c.next (Node p)) l) (take_while-cons test a rest ∙ ap (λ (b : Bool). cond b (a ∷ take_while test rest) []) f)) ∙ h in absurd (cc))
 
 -- the unmarked second word of a vertex, or the unmarked link of an edge of it, leads to linked edges
 module _ (sizes : Sizes) (z : IsLayout sizes) (journal : List Event) (kept : IsKept sizes journal) where
@@ -97,7 +97,7 @@ module _ (sizes : Sizes) (z : IsLayout sizes) (journal : List Event) (kept : IsK
       let f = head_open x v live in
       let has = head_list x v f in
       edge_of x.index y has (on_list x.index y Head has tt next there)
-          (ap (λ (b : Bool). stands y (cond b (take_while (λ i. (node_in sizes journal i).marked) ((state sizes journal).edges x.index)) [])) f)
+      (ap (λ (b : Bool). stands y (cond b (take_while (λ i. (node_in sizes journal i).marked) ((state sizes journal).edges x.index)) [])) f)
 
   leads_from_edge : (source : Life) (p y : ℕ) → p < sizes.nodes → IsEdgeFrom sizes journal source p → index_of (word_at sizes journal (link_at sizes p)) ≡ y → y < sizes.nodes → IsLinkedEdge sizes journal y
   leads_from_edge source p y within from next there =
@@ -106,12 +106,12 @@ module _ (sizes : Sizes) (z : IsLayout sizes) (journal : List Event) (kept : IsK
       let c = (lists sizes z journal kept).each x (has_open sizes journal x at.list) in
       let some : (edge_chain sizes journal x).next (Node p) ≢ nowhere = λ h. omega (arith, h, next, there, z.few_nodes) in
       edge_of x y at.list (on_list x y (Node p) at.list at.on next there)
-          (value_of (is_frozen (state sizes journal) x y ≡ false) (is_frozen (state sizes journal) x y)
-          (λ t. let part = frozen_before x p at.on c.chain c.met some (subst (λ (i : ℕ). is_frozen (state sizes journal) x i ≡ true) (sym next) t) in
-          let spent = (listing sizes z journal kept).handed x p (has_open sizes journal x at.list) part in
-          let linked = from.linked.linked in
-          absurd (cc))
-          (λ f. f))
+      (value_of (is_frozen (state sizes journal) x y ≡ false) (is_frozen (state sizes journal) x y)
+      (λ t. let part = frozen_before x p at.on c.chain c.met some (subst (λ (i : ℕ). is_frozen (state sizes journal) x i ≡ true) (sym next) t) in
+      let spent = (listing sizes z journal kept).handed x p (has_open sizes journal x at.list) part in
+      let linked = from.linked.linked in
+      absurd (cc))
+      (λ f. f))
     where
       frozen_before : (x p : ℕ) → is_listed (state sizes journal) x p ≡ true → IsChain (edge_chain sizes journal x) → Meets (edge_chain sizes journal x) Head ((state sizes journal).edges x) → (edge_chain sizes journal x).next (Node p) ≢ nowhere
           → is_frozen (state sizes journal) x ((edge_chain sizes journal x).next (Node p)) ≡ true → is_frozen (state sizes journal) x p ≡ true
@@ -131,46 +131,46 @@ module _ (v : View) (z : IsLayout v.sizes) (journal : List Event) (r : Reaches v
       let live : mark_of (word_at v.sizes journal place) ≡ 0 = ap mark_of is ∙ m.unmarked in
       let pass : (pass_in v.sizes journal v.number).is_open ≡ true = ap (λ (q : Pass). q.is_open) (own_pass v journal r) ∙ m.pass in
       ⊎_elim
-          (λ (b : (j : ℕ) × (j < v.sizes.buckets) × (place ≡ bucket_at v.sizes j)).
-          let linked : IsLinkedVertex v.sizes journal x.index = leads_to_vertex v.sizes z journal r.kept b.0 x.index Head b.1 tt (ap (λ (i : ℕ). index_of (word_at v.sizes journal i)) (sym b.2) ∙ leads) there in
-          let link = dead_link linked in
-          record {
-            life = m.vertex.life.tag ∙ sym s.tag;
-            there = there;
-            bucket = b.0;
-            before = 0;
-            place = inl (b.2, b.1);
-            before_linked = λ y at. absurd (let low = b.1 in let head = b.2 in omega (arith, head, at, low));
-            unmarked = live;
-            leads = leads;
-            linked = linked;
-            dead = ap mark_of link ∙ m.dead;
-            word = λ i. pack ((m.next_is ∙ ap index_of (sym link)) i) 0 (tag_of (sym is i));
-            pass = pass;
-          })
-          (λ (b : (y : Life) × IsVertexLink v place y).
-          let y = b.0 in
-          let at_y = b.1 in
-          let before : IsLinkedVertex v.sizes journal y.index = vertex_linked_now v z journal r y at_y.met (ap (λ (i : ℕ). mark_of (word_at v.sizes journal i)) (sym at_y.place_is) ∙ live) in
-          let low : (node_in v.sizes journal y.index).key % v.sizes.buckets < v.sizes.buckets = mod-lt (node_in v.sizes journal y.index).key (omega (arith, z.some_buckets)) in
-          let on = in_is v.sizes (state v.sizes journal) ((node_in v.sizes journal y.index).key % v.sizes.buckets) y.index record { linked = before.linked; vertex = before.vertex; of_bucket = refl } in
-          let linked : IsLinkedVertex v.sizes journal x.index = leads_to_vertex v.sizes z journal r.kept ((node_in v.sizes journal y.index).key % v.sizes.buckets) x.index (Node y.index) low on (ap (λ (i : ℕ). index_of (word_at v.sizes journal i)) (sym at_y.place_is) ∙ leads) there in
-          let link = dead_link linked in
-          record {
-            life = m.vertex.life.tag ∙ sym s.tag;
-            there = there;
-            bucket = 0;
-            before = y.index;
-            place = inr (at_y.place_is, at_y.met.life.there);
-            before_linked = λ u at. let same : y.index ≡ u = omega (arith, at, at_y.place_is) in subst (λ (i : ℕ). IsLinkedVertex v.sizes journal i) same before;
-            unmarked = live;
-            leads = leads;
-            linked = linked;
-            dead = ap mark_of link ∙ m.dead;
-            word = λ i. pack ((m.next_is ∙ ap index_of (sym link)) i) 0 (tag_of (sym is i));
-            pass = pass;
-          })
-          m.before
+      (λ (b : (j : ℕ) × (j < v.sizes.buckets) × (place ≡ bucket_at v.sizes j)).
+      let linked : IsLinkedVertex v.sizes journal x.index = leads_to_vertex v.sizes z journal r.kept b.0 x.index Head b.1 tt (ap (λ (i : ℕ). index_of (word_at v.sizes journal i)) (sym b.2) ∙ leads) there in
+      let link = dead_link linked in
+      record {
+        life = m.vertex.life.tag ∙ sym s.tag;
+        there = there;
+        bucket = b.0;
+        before = 0;
+        place = inl (b.2, b.1);
+        before_linked = λ y at. absurd (let low = b.1 in let head = b.2 in omega (arith, head, at, low));
+        unmarked = live;
+        leads = leads;
+        linked = linked;
+        dead = ap mark_of link ∙ m.dead;
+        word = λ i. pack ((m.next_is ∙ ap index_of (sym link)) i) 0 (tag_of (sym is i));
+        pass = pass;
+      })
+      (λ (b : (y : Life) × IsVertexLink v place y).
+      let y = b.0 in
+      let at_y = b.1 in
+      let before : IsLinkedVertex v.sizes journal y.index = vertex_linked_now v z journal r y at_y.met (ap (λ (i : ℕ). mark_of (word_at v.sizes journal i)) (sym at_y.place_is) ∙ live) in
+      let low : (node_in v.sizes journal y.index).key % v.sizes.buckets < v.sizes.buckets = mod-lt (node_in v.sizes journal y.index).key (omega (arith, z.some_buckets)) in
+      let on = in_is v.sizes (state v.sizes journal) ((node_in v.sizes journal y.index).key % v.sizes.buckets) y.index record { linked = before.linked; vertex = before.vertex; of_bucket = refl } in
+      let linked : IsLinkedVertex v.sizes journal x.index = leads_to_vertex v.sizes z journal r.kept ((node_in v.sizes journal y.index).key % v.sizes.buckets) x.index (Node y.index) low on (ap (λ (i : ℕ). index_of (word_at v.sizes journal i)) (sym at_y.place_is) ∙ leads) there in
+      let link = dead_link linked in
+      record {
+        life = m.vertex.life.tag ∙ sym s.tag;
+        there = there;
+        bucket = 0;
+        before = y.index;
+        place = inr (at_y.place_is, at_y.met.life.there);
+        before_linked = λ u at. let same : y.index ≡ u = omega (arith, at, at_y.place_is) in subst (λ (i : ℕ). IsLinkedVertex v.sizes journal i) same before;
+        unmarked = live;
+        leads = leads;
+        linked = linked;
+        dead = ap mark_of link ∙ m.dead;
+        word = λ i. pack ((m.next_is ∙ ap index_of (sym link)) i) 0 (tag_of (sym is i));
+        pass = pass;
+      })
+      m.before
     where
       dead_link : IsLinkedVertex v.sizes journal x.index → word_at v.sizes journal (link_at v.sizes x.index) ≡ word_at v.sizes v.front (link_at v.sizes x.index)
       dead_link linked =
@@ -187,44 +187,44 @@ module _ (v : View) (z : IsLayout v.sizes) (journal : List Event) (r : Reaches v
       let from : IsVertex v.sizes journal source = vertex_now v z journal r source m.from in
       let source_is : (node_in v.sizes journal x.index).source ≡ source = s.same.source ∙ m.edge.from in
       ⊎_elim
-          (λ (head : place ≡ second_at v.sizes source.index).
-          let linked : IsLinkedEdge v.sizes journal x.index = leads_from_head v.sizes z journal r.kept source x.index from (ap (λ (i : ℕ). mark_of (word_at v.sizes journal i)) (sym head) ∙ live) (ap (λ (i : ℕ). index_of (word_at v.sizes journal i)) (sym head) ∙ leads) there in
-          let link = dead_link linked in
-          record {
-            life = m.edge.life.tag ∙ sym s.tag;
-            there = there;
-            source = subst (λ (y : Life). IsVertex v.sizes journal y) (sym source_is) from;
-            before = 0;
-            place = inl (head ∙ ap (λ (y : Life). second_at v.sizes y.index) (sym source_is), subst (λ (y : Life). y.index < v.sizes.nodes) (sym source_is) from.there);
-            before_linked = λ y at. absurd (omega (arith, head, at));
-            unmarked = live;
-            leads = leads;
-            linked = linked;
-            dead = ap mark_of link ∙ m.dead;
-            word = λ i. pack ((m.next_is ∙ ap index_of (sym link)) i) 0 (tag_of (sym is i));
-            pass = s.met.pass;
-          })
-          (λ (b : (y : Life) × IsEdgeLink v source place y).
-          let y = b.0 in
-          let at_y = b.1 in
-          let before : IsEdgeFrom v.sizes journal source y.index = edge_linked_now v z journal r source y at_y.met (ap (λ (i : ℕ). mark_of (word_at v.sizes journal i)) (sym at_y.place_is) ∙ live) in
-          let linked : IsLinkedEdge v.sizes journal x.index = leads_from_edge v.sizes z journal r.kept source y.index x.index at_y.met.life.there before (ap (λ (i : ℕ). index_of (word_at v.sizes journal i)) (sym at_y.place_is) ∙ leads) there in
-          let link = dead_link linked in
-          record {
-            life = m.edge.life.tag ∙ sym s.tag;
-            there = there;
-            source = subst (λ (u : Life). IsVertex v.sizes journal u) (sym source_is) from;
-            before = y.index;
-            place = inr (at_y.place_is, at_y.met.life.there);
-            before_linked = λ u at. let same : y.index ≡ u = omega (arith, at, at_y.place_is) in subst (λ (w : Life). IsEdgeFrom v.sizes journal w u) (sym source_is) (subst (λ (i : ℕ). IsEdgeFrom v.sizes journal source i) same before);
-            unmarked = live;
-            leads = leads;
-            linked = linked;
-            dead = ap mark_of link ∙ m.dead;
-            word = λ i. pack ((m.next_is ∙ ap index_of (sym link)) i) 0 (tag_of (sym is i));
-            pass = s.met.pass;
-          })
-          m.before
+      (λ (head : place ≡ second_at v.sizes source.index).
+      let linked : IsLinkedEdge v.sizes journal x.index = leads_from_head v.sizes z journal r.kept source x.index from (ap (λ (i : ℕ). mark_of (word_at v.sizes journal i)) (sym head) ∙ live) (ap (λ (i : ℕ). index_of (word_at v.sizes journal i)) (sym head) ∙ leads) there in
+      let link = dead_link linked in
+      record {
+        life = m.edge.life.tag ∙ sym s.tag;
+        there = there;
+        source = subst (λ (y : Life). IsVertex v.sizes journal y) (sym source_is) from;
+        before = 0;
+        place = inl (head ∙ ap (λ (y : Life). second_at v.sizes y.index) (sym source_is), subst (λ (y : Life). y.index < v.sizes.nodes) (sym source_is) from.there);
+        before_linked = λ y at. absurd (omega (arith, head, at));
+        unmarked = live;
+        leads = leads;
+        linked = linked;
+        dead = ap mark_of link ∙ m.dead;
+        word = λ i. pack ((m.next_is ∙ ap index_of (sym link)) i) 0 (tag_of (sym is i));
+        pass = s.met.pass;
+      })
+      (λ (b : (y : Life) × IsEdgeLink v source place y).
+      let y = b.0 in
+      let at_y = b.1 in
+      let before : IsEdgeFrom v.sizes journal source y.index = edge_linked_now v z journal r source y at_y.met (ap (λ (i : ℕ). mark_of (word_at v.sizes journal i)) (sym at_y.place_is) ∙ live) in
+      let linked : IsLinkedEdge v.sizes journal x.index = leads_from_edge v.sizes z journal r.kept source y.index x.index at_y.met.life.there before (ap (λ (i : ℕ). index_of (word_at v.sizes journal i)) (sym at_y.place_is) ∙ leads) there in
+      let link = dead_link linked in
+      record {
+        life = m.edge.life.tag ∙ sym s.tag;
+        there = there;
+        source = subst (λ (u : Life). IsVertex v.sizes journal u) (sym source_is) from;
+        before = y.index;
+        place = inr (at_y.place_is, at_y.met.life.there);
+        before_linked = λ u at. let same : y.index ≡ u = omega (arith, at, at_y.place_is) in subst (λ (w : Life). IsEdgeFrom v.sizes journal w u) (sym source_is) (subst (λ (i : ℕ). IsEdgeFrom v.sizes journal source i) same before);
+        unmarked = live;
+        leads = leads;
+        linked = linked;
+        dead = ap mark_of link ∙ m.dead;
+        word = λ i. pack ((m.next_is ∙ ap index_of (sym link)) i) 0 (tag_of (sym is i));
+        pass = s.met.pass;
+      })
+      m.before
     where
       dead_link : IsLinkedEdge v.sizes journal x.index → word_at v.sizes journal (link_at v.sizes x.index) ≡ word_at v.sizes v.front (link_at v.sizes x.index)
       dead_link linked =

@@ -18,7 +18,7 @@ use Rattle.core_rule.specs.OwnEvents.{link_vertex_event, mark_vertex_event, rais
 use Rattle.core_rule.specs.Owes.{Reaches}
 use Rattle.core_rule.specs.declared.view.View.{View}
 use Rattle.core_rule.proofs.Called.{made_quiet}
-use Rattle.core_rule.proofs.Lifts.{own_pass, own_fresh, still_fresh}
+use Rattle.core_rule.proofs.OwnLifts.{own_pass, own_fresh, still_fresh}
 use Rattle.core_rule.proofs.SameNodes.{IsMetStill, met_still, met_linked, met_key}
 
 module _ (v : View) (z : IsLayout v.sizes) (journal : List Event) (r : Reaches v journal) where
@@ -51,54 +51,54 @@ module _ (v : View) (z : IsLayout v.sizes) (journal : List Event) (r : Reaches v
         third_word = h.third ∙ m.filled.third_word;
       } in
       let above : index_of (word_at v.sizes journal place) ≢ nowhere → key < word_at v.sizes journal (key_at v.sizes (index_of (word_at v.sizes journal place))) = λ some.
-          let b = m.behind (λ none. some (to ∙ none)) in
-          let at : key_at v.sizes (index_of (word_at v.sizes journal place)) ≡ key_at v.sizes b.life.index = ap (key_at v.sizes) (to ∙ sym b.is) in
-          let now : word_at v.sizes journal (key_at v.sizes b.life.index) ≡ key_in v b.life.index = vertex_key_now b.life b.met in
-          let same : key_in v b.life.index ≡ key_in v (index_of seen) = ap (key_in v) b.is in
-          omega (arith, b.above, same, now, ap (word_at v.sizes journal) at) in
+      let b = m.behind (λ none. some (to ∙ none)) in
+      let at : key_at v.sizes (index_of (word_at v.sizes journal place)) ≡ key_at v.sizes b.life.index = ap (key_at v.sizes) (to ∙ sym b.is) in
+      let now : word_at v.sizes journal (key_at v.sizes b.life.index) ≡ key_in v b.life.index = vertex_key_now b.life b.met in
+      let same : key_in v b.life.index ≡ key_in v (index_of seen) = ap (key_in v) b.is in
+      omega (arith, b.above, same, now, ap (word_at v.sizes journal) at) in
       ⊎_elim
-          (λ (head : place ≡ bucket_at v.sizes (key % v.sizes.buckets)).
-          let within : key % v.sizes.buckets < v.sizes.buckets = mod-lt key (omega (arith, z.some_buckets)) in
-          record {
-            life = m.life.tag ∙ sym tag;
-            there = m.life.there;
-            bucket = key % v.sizes.buckets;
-            before = 0;
-            place = inl (head, within);
-            linked = λ y at. absurd (omega (arith, head, at, within));
-            unmarked = live;
-            gap = record { bucket_word = λ j at _. omega (arith, head, at); bucket = λ y at. absurd (omega (arith, head, at, within)); below = λ y at. absurd (omega (arith, head, at, within)); above = above };
-            word = ap (λ (w : ℕ). pack x.index 0 (tag_of w)) (sym is);
-            fresh = still_fresh v journal x.index h m.fresh;
-            filled = filled;
-            pass = pass;
-          })
-          (λ (b : (y : Life) × IsVertexBelow v key place y).
-          let y = b.0 in
-          let below = b.1 in
-          let there = below.met.life.there in
-          let linked : IsLinkedVertex v.sizes journal y.index = vertex_linked_now y below.met (ap (λ (i : ℕ). mark_of (word_at v.sizes journal i)) (sym below.place_is) ∙ live) in
-          let now : word_at v.sizes journal (key_at v.sizes y.index) ≡ key_in v y.index = vertex_key_now y below.met in
-          record {
-            life = m.life.tag ∙ sym tag;
-            there = m.life.there;
-            bucket = 0;
-            before = y.index;
-            place = inr (below.place_is, there);
-            linked = λ u at. let same : y.index ≡ u = omega (arith, at, below.place_is) in subst (λ (i : ℕ). IsLinkedVertex v.sizes journal i) same linked;
-            unmarked = live;
-            gap = record {
-              bucket_word = λ j at within. absurd (omega (arith, at, within, below.place_is));
-              bucket = λ u at. let same : u ≡ y.index = omega (arith, at, below.place_is) in ap (λ (i : ℕ). word_at v.sizes journal (key_at v.sizes i) % v.sizes.buckets) same ∙ (ap (λ (k : ℕ). k % v.sizes.buckets) now ∙ below.bucket);
-              below = λ u at. let same : u ≡ y.index = omega (arith, at, below.place_is) in let is : word_at v.sizes journal (key_at v.sizes u) ≡ key_in v y.index = ap (λ (i : ℕ). word_at v.sizes journal (key_at v.sizes i)) same ∙ now in omega (arith, is, below.below);
-              above = above;
-            };
-            word = ap (λ (w : ℕ). pack x.index 0 (tag_of w)) (sym is);
-            fresh = still_fresh v journal x.index h m.fresh;
-            filled = filled;
-            pass = pass;
-          })
-          m.before
+      (λ (head : place ≡ bucket_at v.sizes (key % v.sizes.buckets)).
+      let within : key % v.sizes.buckets < v.sizes.buckets = mod-lt key (omega (arith, z.some_buckets)) in
+      record {
+        life = m.life.tag ∙ sym tag;
+        there = m.life.there;
+        bucket = key % v.sizes.buckets;
+        before = 0;
+        place = inl (head, within);
+        linked = λ y at. absurd (omega (arith, head, at, within));
+        unmarked = live;
+        gap = record { bucket_word = λ j at _. omega (arith, head, at); bucket = λ y at. absurd (omega (arith, head, at, within)); below = λ y at. absurd (omega (arith, head, at, within)); above = above };
+        word = ap (λ (w : ℕ). pack x.index 0 (tag_of w)) (sym is);
+        fresh = still_fresh v journal x.index h m.fresh;
+        filled = filled;
+        pass = pass;
+      })
+      (λ (b : (y : Life) × IsVertexBelow v key place y).
+      let y = b.0 in
+      let below = b.1 in
+      let there = below.met.life.there in
+      let linked : IsLinkedVertex v.sizes journal y.index = vertex_linked_now y below.met (ap (λ (i : ℕ). mark_of (word_at v.sizes journal i)) (sym below.place_is) ∙ live) in
+      let now : word_at v.sizes journal (key_at v.sizes y.index) ≡ key_in v y.index = vertex_key_now y below.met in
+      record {
+        life = m.life.tag ∙ sym tag;
+        there = m.life.there;
+        bucket = 0;
+        before = y.index;
+        place = inr (below.place_is, there);
+        linked = λ u at. let same : y.index ≡ u = omega (arith, at, below.place_is) in subst (λ (i : ℕ). IsLinkedVertex v.sizes journal i) same linked;
+        unmarked = live;
+        gap = record {
+          bucket_word = λ j at within. absurd (omega (arith, at, within, below.place_is));
+          bucket = λ u at. let same : u ≡ y.index = omega (arith, at, below.place_is) in ap (λ (i : ℕ). word_at v.sizes journal (key_at v.sizes i) % v.sizes.buckets) same ∙ (ap (λ (k : ℕ). k % v.sizes.buckets) now ∙ below.bucket);
+          below = λ u at. let same : u ≡ y.index = omega (arith, at, below.place_is) in let is : word_at v.sizes journal (key_at v.sizes u) ≡ key_in v y.index = ap (λ (i : ℕ). word_at v.sizes journal (key_at v.sizes i)) same ∙ now in omega (arith, is, below.below);
+          above = above;
+        };
+        word = ap (λ (w : ℕ). pack x.index 0 (tag_of w)) (sym is);
+        fresh = still_fresh v journal x.index h m.fresh;
+        filled = filled;
+        pass = pass;
+      })
+      m.before
 
   -- a vertex is marked
   pub lift_mark_vertex : (x : Life) → MayMarkVertex v x → mark_of (word_at v.sizes journal (link_at v.sizes x.index)) ≡ 0 → IsMarkVertex v.sizes journal (mark_vertex_event v x (word_at v.sizes journal (link_at v.sizes x.index)))

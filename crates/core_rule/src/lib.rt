@@ -7,6 +7,7 @@
 mod buckets;
 mod graph;
 mod journals;
+mod lifts;
 mod lists;
 mod own;
 mod rule;
@@ -18,6 +19,10 @@ pub use buckets::{
 };
 pub use graph::{edges_have_ends, links_are_new};
 pub use journals::{a_vertex_is_added, kept_journals_grow};
+pub use lifts::{
+    steps_on_closed_lists_are_allowed, steps_on_edges_are_allowed, steps_on_free_nodes_are_allowed,
+    steps_on_passes_are_allowed, steps_on_vertices_are_allowed,
+};
 pub use lists::linked_edges_are_at_their_source;
 pub use own::{callers_have_numbers, own_events_are_counted, own_facts_stay};
 pub use rule::{
