@@ -32,3 +32,4 @@ pub mod ListParts
 pub mod Listed
 pub mod ListSteps
 pub mod EdgeChains
+pub mod Counted

@@ -13,3 +13,4 @@ pub mod Owes
 pub mod Plays
 pub mod Chains
 pub mod Effects
+pub mod Raised

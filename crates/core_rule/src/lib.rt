@@ -9,6 +9,7 @@ mod graph;
 mod journals;
 mod lists;
 mod own;
+mod raises;
 mod rule;
 mod view;
 mod words;
@@ -20,6 +21,7 @@ pub use graph::{edges_have_ends, links_are_new};
 pub use journals::{a_vertex_is_added, kept_journals_grow};
 pub use lists::linked_edges_are_at_their_source;
 pub use own::{callers_have_numbers, own_events_are_counted, own_facts_stay};
+pub use raises::marked_edges_were_linked_at_a_lower_counter;
 pub use rule::{
     a_draw_keeps_the_rule, a_last_token_knows_the_journal, a_new_table_meets_the_rule,
     a_reply_keeps_the_rule, splits_and_joins_keep_the_rule, steps_keep_the_rule,
