@@ -235,7 +235,7 @@ module _ (sizes : Sizes) (z : IsLayout sizes) (past : List Event) (e : Event) (k
       record { at = Node ok.before; place = sym h.0; on = t; behind = λ y p. let q : ok.before ≡ y = cc in subst (λ (v : ℕ). stands v ((state sizes past).edges link_home) ≡ true) q t })
       ok.place
 
-  link_can : (s : IsSpot sizes past e link_home) → CanInsert (edge_chain sizes past link_home) s.at e.life.index
+  pub link_can : (s : IsSpot sizes past e link_home) → CanInsert (edge_chain sizes past link_home) s.at e.life.index
   link_can s =
       let word : word_at sizes past (list_word sizes link_home s.at) ≡ word_at sizes past e.place = ap (word_at sizes past) s.place in
       record {

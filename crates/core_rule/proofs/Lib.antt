@@ -33,3 +33,4 @@ pub mod Listed
 pub mod ListSteps
 pub mod EdgeChains
 pub mod Counted
+pub mod Pairs
