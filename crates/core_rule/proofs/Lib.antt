@@ -34,3 +34,5 @@ pub mod ListSteps
 pub mod EdgeChains
 pub mod Counted
 pub mod Pairs
+pub mod EdgeLives
+pub mod FrozenLists
