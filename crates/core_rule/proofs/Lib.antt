@@ -36,3 +36,4 @@ pub mod Counted
 pub mod Pairs
 pub mod EdgeLives
 pub mod FrozenLists
+pub mod ListEffects
