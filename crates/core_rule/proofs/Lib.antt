@@ -37,3 +37,4 @@ pub mod Pairs
 pub mod EdgeLives
 pub mod FrozenLists
 pub mod ListEffects
+pub mod EdgeEffects
