@@ -38,3 +38,4 @@ pub mod EdgeLives
 pub mod FrozenLists
 pub mod ListEffects
 pub mod EdgeEffects
+pub mod KindEffects
