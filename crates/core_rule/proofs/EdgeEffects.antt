@@ -1,93 +1,61 @@
 -- What the events on edges do to the lists and to the graph.
-use Rattle.std.proofs.Common.{◌≡◌, ◌≢◌, ℕ, ◌<◌, Bool, true, false, List, [], ◌∷◌, ◌++◌, Option, Some, None, refl, sym, ap, ◌∙◌, subst, arith}
+use Rattle.std.proofs.Common.{◌≡◌, ℕ, true, List, [], ◌∷◌, ◌++◌, Some, refl, ap, ◌∙◌}
 use Rattle.std.specs.Prelude.{option_map, option_and_then}
-use Rattle.packed_link.specs.Layout.{Sizes, IsLayout, word_count}
-use Rattle.graph_kinds.specs.declared.call.Call.{Call}
+use Rattle.packed_link.specs.Layout.{Sizes, IsLayout}
 use Rattle.graph_kinds.specs.declared.call.Call.TheVariants.{AddEdge, RemoveEdge}
-use Rattle.core_chain.specs.Chain.{Position, Head, Node, IsOn}
-use Rattle.core_chain.specs.Steps.{Inserts, Marks, SetsMark, Unlinks, Untouched}
 use Rattle.core_journal.specs.declared.event.Kind.{Kind}
 use Rattle.core_journal.specs.declared.event.Kind.TheVariants.{LinkEdge, MarkEdge, UnlinkEdge, FreezeHead, FreezeEdge}
 use Rattle.core_journal.specs.declared.event.Event.{Event}
 use Rattle.core_journal.specs.Event.{marks_edge}
 use Rattle.core_journal.specs.Changes.{is_idle}
-use Rattle.core_journal.specs.GraphOf.{graph_of, both, ends_of, call_by, call_of, present_key, present_pair, CarriesOut}
-use Rattle.core_journal.specs.Machine.{word_at}
-use Rattle.core_journal.specs.State.{State, state_by, state}
+use Rattle.core_journal.specs.GraphOf.{graph_of, both, ends_of, call_by, call_of, present_key, present_pair}
 use Rattle.core_journal.proofs.Calls.{adds_edge, removes_edge}
 use Rattle.core_journal.proofs.GraphRows.{idle_graph, hidden_graph, new_edge_graph, no_edge_graph, removed_edge_graph, frozen_graph}
 use Rattle.core_journal.proofs.LivesOf.{present_is, joined_is, key_of_life, only_pair}
 use Rattle.core_rule.specs.Kept.{AllowedAs, IsKept}
-use Rattle.core_rule.specs.Nodes.{node_in, IsLinkedEdge}
+use Rattle.core_rule.specs.Nodes.{node_in}
 use Rattle.core_rule.specs.Edges.{IsLinkEdge, IsMarkEdge, IsUnlinkEdge}
 use Rattle.core_rule.specs.Freezing.{IsFreezeHead, IsFreezeEdge}
-use Rattle.core_rule.specs.Chains.{edge_chain, HasList}
-use Rattle.core_rule.specs.Effects.{OthersThanList, AddsEdge, RemovesEdge, UnlinksEdge, ClosesList}
-use Rattle.core_rule.proofs.Steps.{after_event}
-use Rattle.core_rule.proofs.Ends.{new_edge}
+use Rattle.core_rule.specs.Effects.{OthersThanList, AddsEdge, RemovesEdge, UnlinksEdge, ClosesList, FreezesEdge}
 use Rattle.core_rule.proofs.BucketSteps.{IsOffBuckets}
-use Rattle.core_rule.proofs.EdgeChains.{IsOffLists, IsOff, list_chain, untouched, idle_list, off_mark, off_close, link_spot, link_inserts, link_others, cut_spot, cut_unlinks, cut_others, mark_sets}
-use Rattle.core_rule.proofs.ListSteps.{has_open, sources}
+use Rattle.core_rule.proofs.Ends.{new_edge, frozen_edge}
+use Rattle.core_rule.proofs.ListEffects.{OtherLists, link_spot_of, link_step, link_rest, cut_spot_of, cut_step, cut_rest, mark_step, mark_rest, close_step, close_rest, freeze_end, freeze_step, freeze_rest}
 use Rattle.core_rule.proofs.Pairs.{new_pair, removed_pair}
-use Rattle.core_rule.proofs.VertexEffects.{ListsStay, carries, next_state, buckets_stay}
+use Rattle.core_rule.proofs.VertexEffects.{carries, buckets_stay}
 
 module _ (sizes : Sizes) (z : IsLayout sizes) (past : List Event) (e : Event) (kept : IsKept sizes past) where
-  -- a kind that changes no list
-  pub lists_stay : (k : Kind) → e.kind ≡ k → IsOffLists k → AllowedAs k sizes past e → ListsStay sizes past e
-  lists_stay k is off ok x has = subst (λ (t : State). Untouched (edge_chain sizes past x) (list_chain sizes t (word_at sizes (past ++ e ∷ [])) x)) (next_state sizes past e k is)
-      (idle_list sizes z past e kept x (has_open sizes past x has) k off ok (word_at sizes (past ++ e ∷ [])) (after_event sizes past e))
-
-  -- an event that changes one list, as the words after it say of each other
-  others : (k : Kind) → e.kind ≡ k → IsOffBuckets k → AllowedAs k sizes past e → (home : ℕ)
-      → ((x : ℕ) → HasList sizes past x → x ≢ home → Untouched (edge_chain sizes past x) (list_chain sizes (state_by k sizes e (state sizes past)) (word_at sizes (past ++ e ∷ [])) x)) → OthersThanList sizes past e home
-  others k is off ok home stay = record {
-    buckets = buckets_stay sizes z past e kept k is off ok;
-    lists = λ x has ne. subst (λ (t : State). Untouched (edge_chain sizes past x) (list_chain sizes t (word_at sizes (past ++ e ∷ [])) x)) (next_state sizes past e k is) (stay x has ne);
-  }
+  -- an event that changes one list, as the lists of the other vertices say
+  others : (k : Kind) → e.kind ≡ k → IsOffBuckets k → AllowedAs k sizes past e → (home : ℕ) → OtherLists sizes z past e kept home → OthersThanList sizes past e home
+  others k is off ok home stay = record { buckets = buckets_stay sizes z past e kept k is off ok; lists = stay }
 
   pub adds_edge_of : e.kind ≡ LinkEdge → IsLinkEdge sizes past e → AddsEdge sizes past e
   adds_edge_of is ok =
-      let w = word_at sizes (past ++ e ∷ []) in
-      let a = after_event sizes past e in
-      let s = link_spot sizes z past e kept ok in
-      let home : ℕ = e.source.index in
+      let s = link_spot_of sizes z past e kept ok in
       let call : (a b : ℕ) → present_key past e.source ≡ Some a → present_key past e.target ≡ Some b → call_of past e ≡ Some (AddEdge a b e.weight) = λ a b from to.
       ap (λ (k : Kind). call_by k past e) is ∙ (λ i. option_map (λ (p : ℕ × ℕ). AddEdge p.0 p.1 e.weight) (both ((present_is past e.source a from).1 i) ((present_is past e.target b to).1 i))) in
       let new = new_edge sizes z past e kept is ok in
       record {
         at = s.at;
         place = s.place;
-        chain = subst (λ (t : State). Inserts (edge_chain sizes past home) (list_chain sizes t w home) s.at e.life.index) (next_state sizes past e LinkEdge is) (link_inserts sizes z past e kept ok w a s);
-        others = others LinkEdge is tt ok home (λ x has ne. link_others sizes z past e kept ok w a x (has_open sizes past x has) ne);
+        chain = link_step sizes z past e kept is ok s;
+        others = others LinkEdge is tt ok e.source.index (link_rest sizes z past e kept is ok);
         call = call;
         graph = λ a b from to. carries past e (AddEdge a b e.weight) (call a b from to)
             (adds_edge (graph_of past) a b e.weight (key_of_life past e.source a from) (key_of_life past e.target b to) (new_pair sizes z past kept e a b ok from to)) (new_edge_graph past e a b new from to);
         none = λ gone. no_edge_graph past e new gone;
       }
 
-  -- a linked edge is on the list of its source
-  at_source : e.life.index < sizes.nodes → IsLinkedEdge sizes past e.life.index → IsOn (edge_chain sizes past (node_in sizes past e.life.index).source.index) (Node e.life.index)
-  at_source there linked = ((sources sizes z past kept).each e.life.index there linked).on
-
   pub removes_edge_of : e.kind ≡ MarkEdge → IsMarkEdge sizes past e → RemovesEdge sizes past e
   removes_edge_of is ok =
-      let w = word_at sizes (past ++ e ∷ []) in
-      let a = after_event sizes past e in
-      let home : ℕ = (node_in sizes past e.life.index).source.index in
-      let s : State = state_by MarkEdge sizes e (state sizes past) in
       let call : (a b w : ℕ) → present_pair past e.life ≡ Some ((a, b), w) → call_of past e ≡ Some (RemoveEdge a b) = λ a b w h.
       let j = joined_is past e.life a b w h in
       ap (λ (k : Kind). call_by k past e) is ∙ (ap (λ o. option_map (λ (p : ℕ × ℕ). RemoveEdge p.0 p.1) (option_and_then (ends_of past) o)) j.is
       ∙ (λ i. option_map (λ (p : ℕ × ℕ). RemoveEdge p.0 p.1) (both ((present_is past j.link.source a j.source).1 i) ((present_is past j.link.target b j.target).1 i)))) in
       record {
-        source = home;
+        source = (node_in sizes past e.life.index).source.index;
         of_source = refl;
-        chain = record {
-          present = at_source ok.there ok.linked;
-          sets = subst (λ (t : State). SetsMark (edge_chain sizes past home) (list_chain sizes t w home) (Node e.life.index)) (next_state sizes past e MarkEdge is)
-              (mark_sets sizes past e s (λ _. refl) home (Node e.life.index) (sym ok.place) (omega (arith, ok.place, ok.there)) ok.word w a);
-        };
-        others = others MarkEdge is tt ok home (λ x has ne. untouched sizes past e w s x a (off_mark sizes z past e kept x (has_open sizes past x has) ok.place ne) refl);
+        chain = mark_step sizes z past e kept is ok;
+        others = others MarkEdge is tt ok (node_in sizes past e.life.index).source.index (mark_rest sizes z past e kept is ok);
         call = call;
         graph = λ a b w h.
             let j = joined_is past e.life a b w h in
@@ -99,29 +67,28 @@ module _ (sizes : Sizes) (z : IsLayout sizes) (past : List Event) (e : Event) (k
 
   pub unlinks_edge : e.kind ≡ UnlinkEdge → IsUnlinkEdge sizes past e → UnlinksEdge sizes past e
   unlinks_edge is ok =
-      let w = word_at sizes (past ++ e ∷ []) in
-      let a = after_event sizes past e in
-      let home : ℕ = (node_in sizes past e.life.index).source.index in
-      let s = cut_spot sizes z past e kept ok in
+      let s = cut_spot_of sizes z past e kept ok in
       record {
-        source = home;
+        source = (node_in sizes past e.life.index).source.index;
         of_source = refl;
         at = s.at;
         place = s.place;
-        chain = subst (λ (t : State). Unlinks (edge_chain sizes past home) (list_chain sizes t w home) s.at e.life.index) (next_state sizes past e UnlinkEdge is) (cut_unlinks sizes z past e kept ok w a s);
-        others = others UnlinkEdge is tt ok home (λ x has ne. cut_others sizes z past e kept ok w a x (has_open sizes past x has) ne);
+        chain = cut_step sizes z past e kept is ok s;
+        others = others UnlinkEdge is tt ok (node_in sizes past e.life.index).source.index (cut_rest sizes z past e kept is ok);
         graph = idle_graph past e (ap is_idle is);
       }
 
   pub closes : e.kind ≡ FreezeHead → IsFreezeHead sizes past e → ClosesList sizes past e
-  closes is ok =
-      let w = word_at sizes (past ++ e ∷ []) in
-      let a = after_event sizes past e in
-      let home : ℕ = e.life.index in
-      let s : State = state_by FreezeHead sizes e (state sizes past) in
+  closes is ok = record { chain = close_step sizes z past e kept is ok; others = others FreezeHead is tt ok e.life.index (close_rest sizes z past e kept is ok); graph = idle_graph past e (ap is_idle is) }
+
+  pub freezes : e.kind ≡ FreezeEdge → IsFreezeEdge sizes past e → FreezesEdge sizes past e
+  freezes is ok =
+      let d = freeze_end sizes z past e kept ok in
       record {
-        chain = subst (λ (t : State). SetsMark (edge_chain sizes past home) (list_chain sizes t w home) Head) (next_state sizes past e FreezeHead is)
-            (mark_sets sizes past e s (λ _. refl) home Head (sym ok.place) (omega (arith, ok.place, ok.there)) ok.word w a);
-        others = others FreezeHead is tt ok home (λ x has ne. untouched sizes past e w s x a (off_close sizes z past e kept x (has_open sizes past x has) ok.place ne) refl);
-        graph = idle_graph past e (ap is_idle is);
+        source = (node_in sizes past e.life.index).source.index;
+        of_source = refl;
+        end = d.at;
+        chain = freeze_step sizes z past e kept is ok d;
+        others = others FreezeEdge is tt ok (node_in sizes past e.life.index).source.index (freeze_rest sizes z past e kept is ok);
+        graph = frozen_graph past e (frozen_edge sizes z past e kept is ok);
       }

@@ -7,15 +7,18 @@ use Rattle.core_journal.specs.declared.event.Event.{Event}
 use Rattle.core_journal.specs.Event.{marks_vertex, marks_edge}
 use Rattle.core_journal.specs.Changes.{is_idle}
 use Rattle.core_journal.specs.GraphOf.{both, weighed, present_key, present_pair, pair_between, IsRegularEvent, IsRegular}
-use Rattle.core_journal.proofs.GraphRows.{frozen_graph}
+use Rattle.core_journal.proofs.GraphRows.{idle_graph, frozen_graph}
 use Rattle.core_journal.proofs.Regular.{regular_still, new_vertex_regular, removed_vertex_regular, new_edge_regular, no_edge_regular, removed_edge_regular, hidden_regular, idle_regular, regular_snoc}
 use Rattle.core_rule.specs.Edges.{IsLinkEdge}
+use Rattle.core_rule.specs.Effects.{EffectAs}
 use Rattle.core_rule.specs.Kept.{Allowed, AllowedAs, IsKept}
 use Rattle.core_rule.specs.Nodes.{node_in}
+use Rattle.core_rule.proofs.EdgeEffects.{adds_edge_of, removes_edge_of, unlinks_edge, closes, freezes}
 use Rattle.core_rule.proofs.Ends.{new_vertex, new_edge, frozen_edge}
 use Rattle.core_rule.proofs.Induction.{kept_all}
+use Rattle.core_rule.proofs.ListEffects.{lists_stay}
 use Rattle.core_rule.proofs.Pairs.{new_pair, removed_pair}
-use Rattle.core_rule.proofs.VertexEffects.{new_key, removed}
+use Rattle.core_rule.proofs.VertexEffects.{buckets_stay, new_key, adds, removed, removes, unlinks_vertex}
 
 module _ (sizes : Sizes) (z : IsLayout sizes) (past : List Event) (e : Event) (kept : IsKept sizes past) where
   -- an edge that is linked is regular, whether or not its ends are present
@@ -43,6 +46,18 @@ module _ (sizes : Sizes) (z : IsLayout sizes) (past : List Event) (e : Event) (k
   regular_event MarkEdge is ok = mark_regular is
   regular_event FreezeEdge is ok = regular_still past e (frozen_graph past e (frozen_edge sizes z past e kept is ok)) (ap marks_vertex is)
   regular_event _ is ok = idle_regular past e (ap is_idle is)
+
+  -- the effect of each kind
+  pub effect : (k : Kind) → e.kind ≡ k → AllowedAs k sizes past e → EffectAs k sizes past e
+  effect LinkVertex is ok = adds sizes z past e kept is ok (lists_stay sizes z past e kept LinkVertex is tt ok)
+  effect MarkVertex is ok = removes sizes z past e kept is ok (lists_stay sizes z past e kept MarkVertex is tt ok)
+  effect UnlinkVertex is ok = unlinks_vertex sizes z past e kept is ok (lists_stay sizes z past e kept UnlinkVertex is tt ok)
+  effect LinkEdge is ok = adds_edge_of sizes z past e kept is ok
+  effect MarkEdge is ok = removes_edge_of sizes z past e kept is ok
+  effect UnlinkEdge is ok = unlinks_edge sizes z past e kept is ok
+  effect FreezeHead is ok = closes sizes z past e kept is ok
+  effect FreezeEdge is ok = freezes sizes z past e kept is ok
+  effect k is ok = record { buckets = buckets_stay sizes z past e kept k is tt ok; lists = lists_stay sizes z past e kept k is tt ok; graph = idle_graph past e (ap is_idle is) }
 
 -- kept journals are regular
 pub regular : (sizes : Sizes) → IsLayout sizes → (journal : List Event) → IsKept sizes journal → IsRegular journal

@@ -18,7 +18,7 @@ mod words;
 pub use buckets::{
     a_present_vertex_is_on_its_chain, buckets_hold_their_vertices, one_present_vertex_has_a_key,
 };
-pub use effects::kept_journals_are_regular;
+pub use effects::{each_kind_has_its_effect, kept_journals_are_regular};
 pub use graph::{edges_have_ends, links_are_new};
 pub use journals::{a_vertex_is_added, kept_journals_grow};
 pub use lists::{
