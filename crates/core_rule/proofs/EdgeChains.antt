@@ -195,7 +195,7 @@ module _ (sizes : Sizes) (z : IsLayout sizes) (past : List Event) (e : Event) (k
       (value_of (stands e.life.index ((state sizes past).edges x) ≡ false) (stands e.life.index ((state sizes past).edges x)) (λ t. absurd (ne (sym (of_source e.life.index t)))) (λ f. f))
 
   -- what is marked on another list
-  off_mark : e.place ≡ link_at sizes e.life.index → x ≢ (node_in sizes past e.life.index).source.index → IsOff sizes past e x
+  pub off_mark : e.place ≡ link_at sizes e.life.index → x ≢ (node_in sizes past e.life.index).source.index → IsOff sizes past e x
   off_mark place ne = record {
     head = λ h. omega (arith, place, h);
     links = λ y t h. let same : e.life.index ≡ y = omega (arith, place, h) in ne (sym (ap (λ (i : ℕ). (node_in sizes past i).source.index) same ∙ of_source y t));
@@ -203,7 +203,7 @@ module _ (sizes : Sizes) (z : IsLayout sizes) (past : List Event) (e : Event) (k
   }
 
   -- another list is closed
-  off_close : e.place ≡ second_at sizes e.life.index → x ≢ e.life.index → IsOff sizes past e x
+  pub off_close : e.place ≡ second_at sizes e.life.index → x ≢ e.life.index → IsOff sizes past e x
   off_close place ne = record { head = λ h. ne (omega (arith, place, h)); links = λ y _ h. omega (arith, place, h); keys = λ y _ h. omega (arith, place, h) }
 
 -- an event writes a word of a list
@@ -235,7 +235,7 @@ module _ (sizes : Sizes) (z : IsLayout sizes) (past : List Event) (e : Event) (k
       record { at = Node ok.before; place = sym h.0; on = t; behind = λ y p. let q : ok.before ≡ y = cc in subst (λ (v : ℕ). stands v ((state sizes past).edges link_home) ≡ true) q t })
       ok.place
 
-  link_can : (s : IsSpot sizes past e link_home) → CanInsert (edge_chain sizes past link_home) s.at e.life.index
+  pub link_can : (s : IsSpot sizes past e link_home) → CanInsert (edge_chain sizes past link_home) s.at e.life.index
   link_can s =
       let word : word_at sizes past (list_word sizes link_home s.at) ≡ word_at sizes past e.place = ap (word_at sizes past) s.place in
       record {

@@ -33,7 +33,7 @@ end_keys : (sizes : Sizes) → IsLayout sizes → (past : List Event) (e : Event
 end_keys sizes z past e kept LinkEdge is ok = (some_none _ _ (vertex_key sizes z past kept e.source ok.source), ok.target)
 end_keys sizes z past e kept _ is ok = absurd (cc)
 
-not_none : {A : Type 0} (o : Option A) → o ≢ None → (x : A) × (o ≡ Some x)
+pub not_none : {A : Type 0} (o : Option A) → o ≢ None → (x : A) × (o ≡ Some x)
 not_none None h = absurd (h refl)
 not_none (Some x) h = (x, refl)
 

@@ -38,3 +38,10 @@ pub mod Listed
 pub mod ListSteps
 pub mod EdgeChains
 pub mod UnlinkLifts
+pub mod Counted
+pub mod Pairs
+pub mod EdgeLives
+pub mod FrozenLists
+pub mod ListEffects
+pub mod EdgeEffects
+pub mod KindEffects

@@ -149,10 +149,10 @@ module _ (sizes : Sizes) (head place i : ℕ) where
 
 -- the longest part from the front on that passes a test, where the first passes and where it doesn't
 module _ (test : ℕ → Bool) where
-  part_more : (x : ℕ) (xs : List ℕ) → test x ≡ true → take_while test (x ∷ xs) ≡ x ∷ take_while test xs
+  pub part_more : (x : ℕ) (xs : List ℕ) → test x ≡ true → take_while test (x ∷ xs) ≡ x ∷ take_while test xs
   part_more x xs e = take_while-cons test x xs ∙ ap (λ (b : Bool). cond b (x ∷ take_while test xs) []) e
 
-  part_end : (x : ℕ) (xs : List ℕ) → test x ≡ false → take_while test (x ∷ xs) ≡ []
+  pub part_end : (x : ℕ) (xs : List ℕ) → test x ≡ false → take_while test (x ∷ xs) ≡ []
   part_end x xs e = take_while-cons test x xs ∙ ap (λ (b : Bool). cond b (x ∷ take_while test xs) []) e
 
   -- it's a part of the list, and passes the test

@@ -32,7 +32,7 @@ module _ (sizes : Sizes) (node : ℕ → Node) (edges : ℕ → List ℕ) (froze
   abbrev opened : ℕ → Bool
   opened x = put i false frozen x
 
-  popped_was : (x y : ℕ) → stands y (popped x) ≡ true → (x ≢ i) × (stands y (edges x) ≡ true) × (y ≢ i)
+  pub popped_was : (x y : ℕ) → stands y (popped x) ≡ true → (x ≢ i) × (stands y (edges x) ≡ true) × (y ≢ i)
   popped_was x y h = put_case (λ (l : List ℕ). stands y l ≡ true → (x ≢ i) × (stands y (edges x) ≡ true) × (y ≢ i)) i [] (λ y. unlinked_from i (edges y)) x
       (λ _ t. absurd (cc)) (λ ne t. let r = unlinked_was i y (edges x) t in (ne, r.0, r.1)) h
 

@@ -38,17 +38,17 @@ module _ (past : List Event) (e : Event) where
   unlinked_here h = any_last _ past e (ap (λ (b : Bool). b && same_life e.life e.life) h ∙ same_self e.life)
 
 -- a node is fresh or linked
-abbrev IsStanding : Mode → Type 0
+abbrev pub IsStanding : Mode → Type 0
 IsStanding Fresh = Unit {0}
 IsStanding Linked = Unit {0}
 IsStanding _ = ⊥
 
 -- the life of a node
-abbrev life_of : ℕ → Node → Life
+abbrev pub life_of : ℕ → Node → Life
 life_of x v = record { index = x; tag = v.tag }
 
 -- the life of a node that is fresh or linked wasn't unlinked
-record Standing (journal : List Event) (s : State) : Type 0 where
+pub record Standing (journal : List Event) (s : State) : Type 0 where
   pub each : (x : ℕ) → IsStanding (s.node x).mode → unlinked journal (life_of x (s.node x)) ≡ false
 
 put_standing : (past : List Event) (e : Event) (s : State) (i : ℕ) (v : Node) → unlinks e.kind ≡ false → Standing past s → (IsStanding v.mode → IsStanding (s.node i).mode) → v.tag ≡ (s.node i).tag
@@ -91,7 +91,7 @@ standing_step sizes z past e kept c UnlinkVertex is ok w a = record { each = cut
 standing_step sizes z past e kept c UnlinkEdge is ok w a = record { each = cut_standing past e (state sizes past) _ refl c }
 standing_step sizes z past e kept c _ is ok w a = record { each = λ x h. unlinked_skip past e (ap unlinks is) (life_of x (node_in sizes past x)) ∙ c.each x h }
 
-standing : (sizes : Sizes) → IsLayout sizes → (journal : List Event) → IsKept sizes journal → Standing journal (state sizes journal)
+pub standing : (sizes : Sizes) → IsLayout sizes → (journal : List Event) → IsKept sizes journal → Standing journal (state sizes journal)
 standing sizes z journal kept = all_in sizes (λ (j : List Event) (s : State) (w : ℕ → ℕ). Standing j s) (standing_step sizes z) (record { each = λ x h. refl }) journal kept
 
 -- the life of a linked node wasn't unlinked
@@ -141,7 +141,7 @@ live_still past e s s' l u c stays = record {
 }
 
 -- a life that isn't unlinked after an event that unlinks another is none that this event unlinks
-not_this : (past : List Event) (e : Event) (x : Life) → unlinks e.kind ≡ true → unlinked (past ++ e ∷ []) x ≡ false → same_life x e.life ≡ false
+pub not_this : (past : List Event) (e : Event) (x : Life) → unlinks e.kind ≡ true → unlinked (past ++ e ∷ []) x ≡ false → same_life x e.life ≡ false
 not_this past e x u f = by (same_life x e.life) refl
   where
     by : (b : Bool) → same_life x e.life ≡ b → same_life x e.life ≡ false

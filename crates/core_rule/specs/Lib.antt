@@ -15,3 +15,4 @@ pub mod Chains
 pub mod Effects
 pub mod Fronts
 pub mod OwnEvents
+pub mod Raised
