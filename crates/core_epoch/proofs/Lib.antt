@@ -1,0 +1,5 @@
+pub mod Births
+pub mod Beside
+pub mod Lists
+pub mod FreeList
+pub mod WorkedRun
