@@ -5,7 +5,7 @@ use native.Mathlib.Decide.{dec_le}
 use Rattle.core_epoch.specs.Run.{IsRun, last_of}
 use Rattle.core_epoch.specs.Clock.{Clock, IsNewClock, Announcements, IsNear}
 use Rattle.core_epoch.specs.Steps.{Step}
-use Rattle.core_epoch.specs.Ends.{Ends, Ended, Ordered, EndsSome, Moment, IsNewMoment, Follows, IsSafe}
+use Rattle.core_epoch.specs.Ends.{Ends, Ended, Ordered, EndsSome, GivesOld, Moment, IsNewMoment, Follows, IsSafe}
 use Rattle.core_epoch.proofs.Births.{announcements_kept, announcements_new, epoch_rises, steps_count, near_kept, near_new, open_after}
 
 -- two numbers in order
@@ -24,33 +24,33 @@ module _ (callers : ℕ) (old new : Clock) (before after : Ends) where
       let rises : old.epoch ≤ new.epoch = epoch_rises callers old new step in
       let count : new.count ≡ old.count + 1 = steps_count callers old new step in
       record {
-        epoch = λ x. ⊎_elim (λ k. omega (arith, k.epoch, c.epoch x, rises)) (λ n. omega (arith, n.epoch, rises)) (s.each x);
-        ended = λ x. ⊎_elim (λ k. omega (arith, k.ended, c.ended x, count)) (λ n. omega (arith, n.ended, count)) (s.each x);
+        epoch = λ x. ⊎_elim (λ k. omega (arith, k.epoch, c.epoch x, rises)) (λ n. omega (arith, n.epoch, rises)) (s x);
+        ended = λ x. ⊎_elim (λ k. omega (arith, k.ended, c.ended x, count)) (λ n. omega (arith, n.ended, count)) (s x);
       }
 
   -- of a pass that was open
   later_was : Announcements callers old → Ordered old before → EndsSome old before after → (x i : ℕ) → old.is_open i ≡ true → old.since i < after.ended x → old.birth i ≤ after.epoch x
   later_was a c s x i o h = ⊎_elim
       (λ k. omega (arith, c.later i x o (omega (arith, h, k.ended)), k.epoch))
-      (λ n. omega (arith, (a.inside i o).born, n.epoch)) (s.each x)
+      (λ n. omega (arith, (a.inside i o).born, n.epoch)) (s x)
 
-  unspent_was : IsNear old → Ordered old before → EndsSome old before after → (x i : ℕ) → after.is_spent x ≡ false → old.is_open i ≡ true → after.ended x ≤ old.since i
-  unspent_was near c s x i u o = ⊎_elim
+  unspent_was : IsNear old → Ordered old before → EndsSome old before after → GivesOld old before after → (x i : ℕ) → after.is_spent x ≡ false → old.is_open i ≡ true → after.ended x ≤ old.since i
+  unspent_was near c s g x i u o = ⊎_elim
       (λ k. omega (arith, k.ended, by (before.is_spent x) refl))
-      (λ n. let t : after.is_spent x ≡ true = n.spent in absurd (cc)) (s.each x)
+      (λ n. let t : after.is_spent x ≡ true = n.spent in absurd (cc)) (s x)
     where
       by : (b : Bool) → before.is_spent x ≡ b → before.ended x ≤ old.since i
-      by true is = old_end_before old before i x near c (s.given x is u) o
+      by true is = old_end_before old before i x near c (g x is u) o
       by false is = c.unspent i x o is
 
-  pub ordered_kept : Announcements callers old → IsNear old → Ended old before → Ordered old before → Step callers old new → EndsSome old before after → Ordered new after
-  ordered_kept a near e c step s = record {
+  pub ordered_kept : Announcements callers old → IsNear old → Ended old before → Ordered old before → Step callers old new → EndsSome old before after → GivesOld old before after → Ordered new after
+  ordered_kept a near e c step s g = record {
     later = λ i x. open_after callers old new (λ (i birth since : ℕ). since < after.ended x → birth ≤ after.epoch x) step
         (λ i o h. later_was a c s x i o h)
-        (λ i h. ⊎_elim (λ k. absurd (omega (arith, k.ended, e.ended x, h))) (λ n. omega (arith, n.epoch)) (s.each x)) i;
+        (λ i h. ⊎_elim (λ k. absurd (omega (arith, k.ended, e.ended x, h))) (λ n. omega (arith, n.epoch)) (s x)) i;
     unspent = λ i x o u. open_after callers old new (λ (i birth since : ℕ). after.ended x ≤ since) step
-        (λ i o. unspent_was near c s x i u o)
-        (λ i. ⊎_elim (λ k. omega (arith, k.ended, e.ended x)) (λ n. let t : after.is_spent x ≡ true = n.spent in absurd (cc)) (s.each x)) i o;
+        (λ i o. unspent_was near c s g x i u o)
+        (λ i. ⊎_elim (λ k. omega (arith, k.ended, e.ended x)) (λ n. let t : after.is_spent x ≡ true = n.spent in absurd (cc)) (s x)) i o;
   }
 
 pub ordered_new : (callers : ℕ) (clock : Clock) (ends : Ends) → IsNewClock callers clock → Ordered clock ends
@@ -63,7 +63,7 @@ module _ (callers : ℕ) where
     announcements = announcements_kept callers old.clock new.clock c.announcements f.step;
     near = near_kept callers old.clock new.clock c.announcements c.near f.step f.moves;
     ended = ended_kept callers old.clock new.clock old.ends new.ends c.ended f.step f.ends;
-    ordered = ordered_kept callers old.clock new.clock old.ends new.ends c.announcements c.near c.ended c.ordered f.step f.ends;
+    ordered = ordered_kept callers old.clock new.clock old.ends new.ends c.announcements c.near c.ended c.ordered f.step f.ends f.gives;
   }
 
   safe_run : (first : Moment) (rest : List Moment) → IsSafe callers first → IsRun (Follows callers) first rest → IsSafe callers (last_of first rest)

@@ -4,7 +4,7 @@ use mathlib.Core.Logic.{dite}
 use native.Mathlib.Decide.{ℕ_discrete}
 use Rattle.core_epoch.specs.Clock.{Clock, IsClear}
 use Rattle.core_epoch.specs.Steps.{announce, withdraw, move, rest, MovesClear}
-use Rattle.core_epoch.specs.Ends.{Ends, EndsSome, Moment, Follows}
+use Rattle.core_epoch.specs.Ends.{Ends, EndsSome, GivesOld, Moment, Follows}
 use Rattle.core_epoch.specs.Worked.{put, announced, withdrawn, moved, unlinked, given_back}
 
 module _ {A : Type 0} where
@@ -16,7 +16,10 @@ module _ {A : Type 0} where
 
 -- the ends of lives stay
 same_ends : (clock : Clock) (ends : Ends) → EndsSome clock ends ends
-same_ends clock ends = record { each = λ x. inl record { ended = refl; epoch = refl }; given = λ x h u. absurd (cc) }
+same_ends clock ends x = inl record { ended = refl; epoch = refl }
+
+none_given : (clock : Clock) (ends : Ends) → GivesOld clock ends ends
+none_given clock ends x h u = absurd (cc)
 
 -- the epoch stays
 stays : (callers : ℕ) (old new : Clock) → new.epoch ≡ old.epoch → MovesClear callers old new
@@ -44,6 +47,7 @@ module _ (callers : ℕ) (m : Moment) where
     };
     moves = stays callers m.clock (announced caller loaded m).clock refl;
     ends = same_ends m.clock m.ends;
+    gives = none_given m.clock m.ends;
   }
 
   pub withdrawn_follows : (caller : ℕ) → caller < callers → m.clock.is_open caller ≡ true → Follows callers m (withdrawn caller m)
@@ -59,6 +63,7 @@ module _ (callers : ℕ) (m : Moment) where
     };
     moves = stays callers m.clock (withdrawn caller m).clock refl;
     ends = same_ends m.clock m.ends;
+    gives = none_given m.clock m.ends;
   }
 
   pub moved_follows : ((i : ℕ) → i < callers → IsClear m.clock.epoch i m.clock) → Follows callers m (moved m)
@@ -66,32 +71,29 @@ module _ (callers : ℕ) (m : Moment) where
     step = move record { passes = λ i. record { is_open = refl; birth = refl; since = refl; word = λ _. refl }; epoch = refl; count = refl };
     moves = λ _. clear;
     ends = same_ends m.clock m.ends;
+    gives = none_given m.clock m.ends;
   }
 
   pub unlinked_follows : (x : ℕ) → Follows callers m (unlinked x m)
   unlinked_follows x = record {
     step = rest record { passes = λ i. record { is_open = refl; birth = refl; since = refl; word = λ _. refl }; epoch = refl; count = refl };
     moves = stays callers m.clock (unlinked x m).clock refl;
-    ends = record {
-      each = λ y. dite (ℕ_discrete y x)
-          (λ same. inr record { ended = put_here x (m.clock.count + 1) m.ends.ended y same; epoch = put_here x m.clock.epoch m.ends.epoch y same; spent = put_here x true m.ends.is_spent y same })
-          (λ ne. inl record { ended = put_else x (m.clock.count + 1) m.ends.ended y ne; epoch = put_else x m.clock.epoch m.ends.epoch y ne });
-      given = λ y h u. dite (ℕ_discrete y x)
-          (λ same. let t : put x true m.ends.is_spent y ≡ true = put_here x true m.ends.is_spent y same in absurd (cc))
-          (λ ne. let t : put x true m.ends.is_spent y ≡ m.ends.is_spent y = put_else x true m.ends.is_spent y ne in absurd (cc));
-    };
+    ends = λ y. dite (ℕ_discrete y x)
+        (λ same. inr record { ended = put_here x (m.clock.count + 1) m.ends.ended y same; epoch = put_here x m.clock.epoch m.ends.epoch y same; spent = put_here x true m.ends.is_spent y same })
+        (λ ne. inl record { ended = put_else x (m.clock.count + 1) m.ends.ended y ne; epoch = put_else x m.clock.epoch m.ends.epoch y ne });
+    gives = λ y h u. dite (ℕ_discrete y x)
+        (λ same. let t : put x true m.ends.is_spent y ≡ true = put_here x true m.ends.is_spent y same in absurd (cc))
+        (λ ne. let t : put x true m.ends.is_spent y ≡ m.ends.is_spent y = put_else x true m.ends.is_spent y ne in absurd (cc));
   }
 
   pub given_back_follows : (x : ℕ) → m.ends.epoch x + 2 ≤ m.clock.epoch → Follows callers m (given_back x m)
   given_back_follows x old = record {
     step = rest record { passes = λ i. record { is_open = refl; birth = refl; since = refl; word = λ _. refl }; epoch = refl; count = refl };
     moves = stays callers m.clock (given_back x m).clock refl;
-    ends = record {
-      each = λ y. inl record { ended = refl; epoch = refl };
-      given = λ y h u. dite (ℕ_discrete y x)
-          (λ same. omega (arith, ap m.ends.epoch same, old))
-          (λ ne. let t : put x false m.ends.is_spent y ≡ m.ends.is_spent y = put_else x false m.ends.is_spent y ne in absurd (cc));
-    };
+    ends = λ y. inl record { ended = refl; epoch = refl };
+    gives = λ y h u. dite (ℕ_discrete y x)
+        (λ same. omega (arith, ap m.ends.epoch same, old))
+        (λ ne. let t : put x false m.ends.is_spent y ≡ m.ends.is_spent y = put_else x false m.ends.is_spent y ne in absurd (cc));
   }
 
 -- two callers, each clear

@@ -32,10 +32,13 @@ pub record EndsNow (clock : Clock) (new : Ends) (x : ℕ) : Type 0 where
   pub epoch : new.epoch x ≡ clock.epoch
   pub spent : new.is_spent x ≡ true
 
--- in a step lives of some nodes end, and a spent node is given back only where the epoch is two above that of its end
-pub record EndsSome (clock : Clock) (old new : Ends) : Type 0 where
-  pub each : (x : ℕ) → KeepsEnd old new x ⊎ EndsNow clock new x
-  pub given : (x : ℕ) → old.is_spent x ≡ true → new.is_spent x ≡ false → old.epoch x + 2 ≤ clock.epoch
+-- in a step lives of some nodes end
+abbrev pub EndsSome : Clock → Ends → Ends → Type 0
+EndsSome clock old new = (x : ℕ) → KeepsEnd old new x ⊎ EndsNow clock new x
+
+-- a spent node is given back only where the epoch is two above that of its end
+abbrev pub GivesOld : Clock → Ends → Ends → Type 0
+GivesOld clock old new = (x : ℕ) → old.is_spent x ≡ true → new.is_spent x ≡ false → old.epoch x + 2 ≤ clock.epoch
 
 -- a clock with the ends of lives beside it
 pub record Moment : Type 0 where
@@ -52,6 +55,7 @@ pub record Follows (callers : ℕ) (old new : Moment) : Type 0 where
   pub step : Step callers old.clock new.clock
   pub moves : MovesClear callers old.clock new.clock
   pub ends : EndsSome old.clock old.ends new.ends
+  pub gives : GivesOld old.clock old.ends new.ends
 
 -- what each such step keeps
 pub record IsSafe (callers : ℕ) (m : Moment) : Type 0 where

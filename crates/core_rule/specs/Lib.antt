@@ -1,5 +1,6 @@
 pub mod Counts
 pub mod Nodes
+pub mod Moments
 pub mod Passes
 pub mod FreeNodes
 pub mod Vertices
