@@ -21,3 +21,6 @@ pub mod Ends
 pub mod Epochs
 pub mod Ripe
 pub mod Staying
+pub mod OnLists
+pub mod Fates
+pub mod SafeReuse

@@ -19,7 +19,7 @@ use Rattle.core_rule.proofs.LinkWords.{taken}
 use Rattle.core_rule.proofs.Epochs.{near}
 
 -- the last end of a node's lives stays, or it's this event, which spends a linked node
-abbrev EndsAs : State → Node → Node → Type 0
+abbrev pub EndsAs : State → Node → Node → Type 0
 EndsAs s v v' = ((v'.ended ≡ v.ended) × (v'.epoch ≡ v.epoch)) ⊎ ((v'.ended ≡ s.count + 1) × (v'.epoch ≡ s.epoch) × (v'.mode ≡ Spent) × (v.mode ≡ Linked))
 
 end_put : (s : State) (i : ℕ) (v : Node) (x : ℕ) → EndsAs s (s.node i) v → EndsAs s (s.node x) (put i v s.node x)
@@ -29,7 +29,7 @@ end_marked : (s : State) (i v x : ℕ) → EndsAs s (s.node x) ((handed v (marke
 end_marked s i v x = handed_case (λ (u : Node). EndsAs s (s.node x) u) (marked_state s i) v x (end_put s i (record (s.node i) { marked = true }) x (inl (refl, refl)))
     (λ m _ _. inr (refl, refl, refl, put_case (λ (u : Node). u.mode ≡ Linked → (s.node x).mode ≡ Linked) i (record (s.node i) { marked = true }) s.node x (λ same l. ap (λ (y : ℕ). (s.node y).mode) same ∙ l) (λ _ l. l) m))
 
-end_by : (k : Kind) (sizes : Sizes) (past : List Event) (e : Event) → AllowedAs k sizes past e → (x : ℕ) → EndsAs (state sizes past) (node_in sizes past x) ((state_by k sizes e (state sizes past)).node x)
+pub end_by : (k : Kind) (sizes : Sizes) (past : List Event) (e : Event) → AllowedAs k sizes past e → (x : ℕ) → EndsAs (state sizes past) (node_in sizes past x) ((state_by k sizes e (state sizes past)).node x)
 end_by PopFree sizes past e ok x = end_put (state sizes past) e.life.index _ x (inl (refl, refl))
 end_by LinkVertex sizes past e ok x = end_put (state sizes past) e.life.index _ x (inl (refl, refl))
 end_by MarkVertex sizes past e ok x = end_put (state sizes past) e.life.index _ x (inl (refl, refl))
@@ -58,7 +58,7 @@ pub ended : (sizes : Sizes) (journal : List Event) → IsKept sizes journal → 
 ended sizes journal kept = holds_all sizes (λ (s : State) (w : ℕ → ℕ). Ended (clock_by sizes s w) (ends_by s)) (ended_step sizes) (record { epoch = λ x. omega arith; ended = λ x. omega arith }) journal kept
 
 -- a life that is over stays so, with the same end
-record IsOver (tag end epoch : ℕ) (v : Node) : Type 0 where
+pub record IsOver (tag end epoch : ℕ) (v : Node) : Type 0 where
   pub low : tag ≤ v.tag
   pub fresh : v.tag ≡ tag → v.mode ≢ Fresh
   pub linked : v.tag ≡ tag → v.mode ≢ Linked
@@ -74,7 +74,7 @@ module _ (sizes : Sizes) (z : IsLayout sizes) (x tag end epoch : ℕ) where
   over_mark : (v : Node) → IsOver tag end epoch v → IsOver tag end epoch (record v { marked = true })
   over_mark v c = record { low = c.low; fresh = c.fresh; linked = c.linked; epoch_is = c.epoch_is }
 
-  over_step : Keeps sizes (λ (s : State) (w : ℕ → ℕ). IsOver tag end epoch (s.node x))
+  pub over_step : Keeps sizes (λ (s : State) (w : ℕ → ℕ). IsOver tag end epoch (s.node x))
   over_step past e kept c PopFree by ok w a = over_put (state sizes past) e.life.index _ c (λ d. let t = taken sizes z past e kept ok in record { low = omega (arith, d.low, t.tag); fresh = λ h. absurd (omega (arith, d.low, t.tag, h)); linked = λ h. absurd (omega (arith, d.low, t.tag, h)); epoch_is = λ h. absurd (omega (arith, d.low, t.tag, h)) })
   over_step past e kept c LinkVertex by ok w a = over_put (state sizes past) e.life.index _ c (λ d. record { low = d.low; fresh = λ h l. absurd (cc); linked = λ h. absurd (d.fresh h ok.fresh.fresh); epoch_is = λ h. absurd (d.fresh h ok.fresh.fresh) })
   over_step past e kept c LinkEdge by ok w a = over_put (state sizes past) e.life.index _ c (λ d. record { low = d.low; fresh = λ h l. absurd (cc); linked = λ h. absurd (d.fresh h ok.fresh.fresh); epoch_is = λ h. absurd (d.fresh h ok.fresh.fresh) })

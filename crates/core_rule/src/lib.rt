@@ -7,6 +7,7 @@
 mod graph;
 mod journals;
 mod own;
+mod reuse;
 mod rule;
 mod view;
 mod words;
@@ -14,6 +15,7 @@ mod words;
 pub use graph::{edges_have_ends, links_are_new};
 pub use journals::{a_vertex_is_added, kept_journals_grow};
 pub use own::{callers_have_numbers, own_events_are_counted, own_facts_stay};
+pub use reuse::nodes_are_given_again_safely;
 pub use rule::{
     a_draw_keeps_the_rule, a_last_token_knows_the_journal, a_new_table_meets_the_rule,
     a_reply_keeps_the_rule, splits_and_joins_keep_the_rule, steps_keep_the_rule,
