@@ -1,14 +1,12 @@
 -- Each life for which a node was taken is the node's present one, or it has ended, before the node's last end.
-use Rattle.std.proofs.Common.{◌≡◌, ◌≢◌, ℕ, zero, suc, ◌+◌, ◌<◌, ◌≤◌, ◌⊎◌, Bool, true, false, cond, ◌&&◌, ◌||◌, eqb, List, [], ◌∷◌, ◌++◌, length, filter, max, Some, refl, sym, ap, ◌∙◌, subst, arith, length-append, ⊎_elim, inl, inr}
+use Rattle.std.proofs.Common.{◌≡◌, ◌≢◌, ℕ, zero, suc, ◌+◌, ◌<◌, ◌≤◌, ◌⊎◌, Bool, true, false, cond, ◌&&◌, ◌||◌, List, [], ◌∷◌, ◌++◌, length, filter, max, Some, refl, sym, ap, ◌∙◌, subst, arith, length-append, ⊎_elim, inl, inr}
 use Rattle.std.specs.Prelude.{slice_get}
 use Rattle.std.specs.List.{list_any}
-use mathlib.Core.Logic.{dite}
-use native.Mathlib.Decide.{ℕ_discrete}
 use Rattle.graph_kinds.proofs.Calls.{and_left, and_right}
 use Rattle.packed_link.specs.Layout.{Sizes, IsLayout}
 use Rattle.packed_link.specs.declared.link.Life.{Life}
 use Rattle.core_journal.specs.declared.event.Kind.{Kind}
-use Rattle.core_journal.specs.declared.event.Kind.TheVariants.{PopFree, StorePrivate, LinkVertex, MarkVertex, UnlinkVertex, LinkEdge, MarkEdge, UnlinkEdge, FreezeHead, FreezeEdge, StoreFree, PushFree}
+use Rattle.core_journal.specs.declared.event.Kind.TheVariants.{PopFree, LinkVertex, MarkVertex, UnlinkVertex, LinkEdge, MarkEdge, UnlinkEdge, FreezeHead, FreezeEdge, StoreFree, PushFree}
 use Rattle.core_journal.specs.declared.event.Event.{Event}
 use Rattle.core_journal.specs.Event.{same_life, marks_edge, unlinks, freezes_head}
 use Rattle.core_journal.specs.Life.{link_of, edge_marked, head_frozen, unlinked}
@@ -17,8 +15,8 @@ use Rattle.core_journal.specs.Reuse.{IsUnlinkedAt, IsHandedAt, EndsAt}
 use Rattle.core_journal.specs.State.{Mode, Free, Fresh, Linked, Spent, Node, State, put, handed, frozen_part, state_by, state}
 use Rattle.core_journal.proofs.Lists.{get_here, get_front, get_short}
 use Rattle.core_journal.proofs.KeptLives.{link_more}
-use Rattle.core_journal.proofs.Snoc.{any_skip, same_is, same_self}
-use Rattle.core_journal.proofs.States.{state-nil, state-snoc, count-length}
+use Rattle.core_journal.proofs.Snoc.{any_skip, same_is}
+use Rattle.core_journal.proofs.States.{state-snoc, count-length}
 use Rattle.core_rule.specs.Counts.{draws, about}
 use Rattle.core_rule.specs.Kept.{Allowed, AllowedAs, IsKept}
 use Rattle.core_rule.specs.Nodes.{node_in, IsUsed}

@@ -21,7 +21,7 @@ use Rattle.core_rule.specs.Free.{is_free, pool_by, pool_in}
 use Rattle.core_rule.proofs.Induction.{kept_front}
 use Rattle.core_rule.proofs.Steps.{IsAfter, Keeps, put_case, put_same, put_other, handed_case, marked_state, closed_state, holds_all, holds_onward}
 
-free_is : (m : Mode) → is_free m ≡ true → m ≡ Free
+pub free_is : (m : Mode) → is_free m ≡ true → m ≡ Free
 free_is Free h = refl
 free_is _ h = absurd (cc)
 

@@ -24,3 +24,5 @@ pub mod Staying
 pub mod OnLists
 pub mod Fates
 pub mod SafeReuse
+pub mod Accounts
+pub mod MetWords

@@ -1,6 +1,6 @@
 -- Each linked edge on the list of a vertex has that vertex, in its present life, as its source; and a list that is closed was
 -- closed in that life.
-use Rattle.std.proofs.Common.{◌≡◌, ◌≢◌, ℕ, ◌+◌, ◌<◌, ◌⊎◌, Bool, true, false, cond, not, ◌&&◌, ◌||◌, eqb, List, [], ◌∷◌, ◌++◌, filter, refl, sym, ap, ◌∙◌, subst, arith, ⊎_elim, inl, inr, eqb-true, eq-eqb, ne_eqb}
+use Rattle.std.proofs.Common.{◌≡◌, ◌≢◌, ℕ, ◌⊎◌, Bool, true, false, cond, not, ◌&&◌, ◌||◌, List, [], ◌∷◌, ◌++◌, refl, sym, ap, ◌∙◌, subst, arith, ⊎_elim, inl, inr, eqb-true, eq-eqb}
 use Rattle.std.specs.Prelude.{take_while, ◌==◌}
 use Rattle.std.specs.List.{list_any}
 use Rattle.std.proofs.lemmas.List.Sums.{take_while-cons}
@@ -13,10 +13,10 @@ use Rattle.core_journal.specs.declared.event.Kind.TheVariants.{PopFree, LinkVert
 use Rattle.core_journal.specs.declared.event.Event.{Event}
 use Rattle.core_journal.specs.Event.{freezes_head, same_life}
 use Rattle.core_journal.specs.Life.{head_frozen}
-use Rattle.core_journal.specs.State.{Mode, Free, Fresh, Linked, Spent, Node, State, put, put_behind, linked_in, unlinked_from, handed, frozen_part, state_by, opening, state}
+use Rattle.core_journal.specs.State.{Fresh, Linked, Spent, Node, State, put, put_behind, linked_in, unlinked_from, handed, frozen_part, state_by, state}
 use Rattle.core_journal.proofs.Lists.{any_more}
 use Rattle.core_journal.proofs.Snoc.{any_last, same_self}
-use Rattle.core_rule.specs.Kept.{AllowedAs, IsKept}
+use Rattle.core_rule.specs.Kept.{IsKept}
 use Rattle.core_rule.specs.Nodes.{node_in}
 use Rattle.core_rule.specs.Edges.{IsLinkEdge}
 use Rattle.core_rule.proofs.Steps.{KeepsIn, put_case, put_both, put_same, put_other, handed_case, marked_state, closed_state, all_in}

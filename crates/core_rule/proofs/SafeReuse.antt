@@ -1,6 +1,6 @@
 -- Each kept journal reuses safely: where a node is taken, each of its earlier lives has ended, and each open pass was announced
 -- after that end.
-use Rattle.std.proofs.Common.{◌≡◌, ℕ, ◌<◌, List, Some, ap, ◌∙◌, subst, sym, refl, arith, ⊎_elim}
+use Rattle.std.proofs.Common.{◌≡◌, ℕ, List, Some, ap, ◌∙◌, subst, arith, ⊎_elim}
 use Rattle.std.specs.Prelude.{slice_get}
 use Rattle.packed_link.specs.Layout.{Sizes, IsLayout}
 use Rattle.core_journal.specs.declared.event.Kind.{Kind}

@@ -9,6 +9,7 @@ pub mod Freezing
 pub mod Kept
 pub mod Facts
 pub mod Free
+pub mod Standings
 pub mod Rule
 pub mod Owes
 pub mod Plays
