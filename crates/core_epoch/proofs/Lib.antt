@@ -3,3 +3,4 @@ pub mod Beside
 pub mod Lists
 pub mod FreeList
 pub mod WorkedRun
+pub mod WorkedPools

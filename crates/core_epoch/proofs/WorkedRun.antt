@@ -11,7 +11,7 @@ module _ {A : Type 0} where
   put_here : (i : ℕ) (a : A) (f : ℕ → A) (x : ℕ) → x ≡ i → put i a f x ≡ a
   put_here i a f x same = ap (λ (b : Bool). cond b a (f x)) (eq-eqb x i same)
 
-  put_else : (i : ℕ) (a : A) (f : ℕ → A) (x : ℕ) → x ≢ i → put i a f x ≡ f x
+  pub put_else : (i : ℕ) (a : A) (f : ℕ → A) (x : ℕ) → x ≢ i → put i a f x ≡ f x
   put_else i a f x ne = ap (λ (b : Bool). cond b a (f x)) (ne_eqb x i ne)
 
 -- the ends of lives stay

@@ -45,7 +45,7 @@ pub record Moment : Type 0 where
   pub clock : Clock
   pub ends : Ends
 
--- at the first moment no pass is open, and no life has ended
+-- at the first moment no pass is open, and no life ended in the future
 pub record IsNewMoment (callers : ℕ) (m : Moment) : Type 0 where
   pub clock : IsNewClock callers m.clock
   pub ends : Ended m.clock m.ends

@@ -34,7 +34,7 @@ pub record IsNewPool (nodes : ℕ) (pool : Pool) : Type 0 where
   pub free : pool.free ≡ range_with_len 0 nodes
   pub changes : pool.changes ≡ 0
 
--- which nodes are free stays but for one node
+-- no link word changes, and no node but one is free or not otherwise than before
 pub record KeepsOthers (old new : Pool) (x : ℕ) : Type 0 where
   pub is_free : (y : ℕ) → y ≢ x → new.is_free y ≡ old.is_free y
   pub link : (y : ℕ) → new.link y ≡ old.link y

@@ -4,3 +4,4 @@ pub mod Steps
 pub mod Ends
 pub mod Free
 pub mod Worked
+pub mod WorkedPool

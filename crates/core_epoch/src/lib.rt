@@ -18,4 +18,4 @@ pub use free::{a_first_node_is_free, an_unchanged_word_keeps_its_link, the_free_
 pub use passes::{
     a_checked_caller_is_clear, announcements_tell_passes, passes_stay_near, the_epoch_only_rises,
 };
-pub use worked::{a_worked_run, an_unchecked_move_is_unsafe};
+pub use worked::{a_worked_free_list, a_worked_run, an_unchecked_move_is_unsafe};
