@@ -20,13 +20,13 @@ use Rattle.core_journal.proofs.States.{state-snoc, count-length}
 use Rattle.core_rule.specs.Counts.{draws, about}
 use Rattle.core_rule.specs.Kept.{Allowed, AllowedAs, IsKept}
 use Rattle.core_rule.specs.Nodes.{node_in, IsUsed}
-use Rattle.core_rule.specs.Facts.{Named}
+use Rattle.core_rule.specs.Facts.{IsLinkOf, IsNamed, Named}
 use Rattle.core_rule.proofs.Induction.{kept_all, kept_snoc}
 use Rattle.core_rule.proofs.Steps.{put_case, put_same, handed_case, part_marked, marked_state, closed_state, after_event}
 use Rattle.core_rule.proofs.LinkWords.{taken}
 use Rattle.core_rule.proofs.Lives.{lives, other_index}
 use Rattle.core_rule.proofs.Named.{named, life_is}
-use Rattle.core_rule.proofs.OnLists.{On, part_on, listed, closed}
+use Rattle.core_rule.proofs.OnLists.{On, Closed, part_on, listed, closed}
 use Rattle.core_rule.proofs.Ripe.{end_by, ended, IsOver, over_step}
 
 -- a life has an end before a length of the journal
@@ -120,51 +120,60 @@ handed_same s v y m = handed_case (λ (u : Node). IsSameLife (s.node y) u) s v y
     record { tag = refl; vertex = refl; marked = refl; source = refl; used = subst IsUsed (sym m) tt }
     (λ _ _ _. record { tag = refl; vertex = refl; marked = refl; source = refl; used = tt })
 
+-- an edge that is never unlinked has ended where it's marked and the list of its source is closed
+handed_at : (journal : List Event) (x : Life) (link : Event) → unlinked journal x ≡ false → link_of journal x ≡ Some link → edge_marked journal x ≡ true → head_frozen journal link.source ≡ true → HasEnd journal x (length journal)
+handed_at journal x link stays edge marked head =
+    let a = any_at (λ (d : Event). marks_edge d.kind && same_life x d.life) journal marked in
+    let b = any_at (λ (d : Event). freezes_head d.kind && same_life link.source d.life) journal head in
+    record {
+      end = max a.number b.number;
+      ends = inr record {
+        stays = stays;
+        link = link;
+        edge = edge;
+        mark_place = a.number;
+        mark = a.event;
+        mark_at = a.at;
+        marks = and_left (marks_edge a.event.kind) (same_life x a.event.life) a.passes;
+        mark_life = sym (same_is x a.event.life (and_right (marks_edge a.event.kind) (same_life x a.event.life) a.passes));
+        head_place = b.number;
+        head = b.event;
+        head_at = b.at;
+        freezes = and_left (freezes_head b.event.kind) (same_life link.source b.event.life) b.passes;
+        head_life = sym (same_is link.source b.event.life (and_right (freezes_head b.event.kind) (same_life link.source b.event.life) b.passes));
+        later = refl;
+      };
+      before = max_below a.number b.number (length journal) (get_short journal a.number a.event a.at) (get_short journal b.number b.event b.at);
+    }
+
+-- a closed list was closed in the life that the source of an edge names
+head_of : (journal : List Event) (s : State) (v : ℕ) (source : Life) → Closed journal s → s.frozen v ≡ true → source.index ≡ v → source.tag ≡ (s.node v).tag → head_frozen journal source ≡ true
+head_of journal s v source c frozen index tag = subst (λ (y : Life). head_frozen journal y ≡ true) (sym (life_is source v (s.node v).tag index tag)) (c.each v frozen)
+
 module _ (sizes : Sizes) (z : IsLayout sizes) (past : List Event) (e : Event) (kept : IsKept sizes past) (ok : Allowed sizes past e) where
   -- a linked edge of the frozen part of a list ends as it's handed over
-  handed_end : (s : State) (v : ℕ) (x : Life) → x.index < sizes.nodes → state sizes (past ++ e ∷ []) ≡ handed v s → s.count ≡ length (past ++ e ∷ []) → s.edges ≡ (state sizes past).edges
-      → (s.node v).tag ≡ (node_in sizes past v).tag → (s.node x.index).source ≡ (node_in sizes past x.index).source → (s.node x.index).vertex ≡ (node_in sizes past x.index).vertex → (node_in sizes past x.index).mode ≡ Linked
-      → unlinked (past ++ e ∷ []) x ≡ false → (s.node x.index).tag ≡ x.tag → (s.node x.index).mode ≡ Linked → On (frozen_part s v) x.index → HasEnd (past ++ e ∷ []) x s.count
-  handed_end s v x there is count edges tag source vertex was stays life m part =
+  handed_end : (s : State) (v : ℕ) (x : Life) → x.index < sizes.nodes → state sizes (past ++ e ∷ []) ≡ handed v s → s.edges ≡ (state sizes past).edges → (s.node v).tag ≡ (node_in sizes past v).tag
+      → (s.node x.index).source ≡ (node_in sizes past x.index).source → (s.node x.index).vertex ≡ (node_in sizes past x.index).vertex → (node_in sizes past x.index).mode ≡ Linked
+      → unlinked (past ++ e ∷ []) x ≡ false → (s.node x.index).tag ≡ x.tag → (s.node x.index).mode ≡ Linked → On (frozen_part s v) x.index → HasEnd (past ++ e ∷ []) x (length (past ++ e ∷ []))
+  handed_end s v x there is edges tag source vertex was stays life m part =
       let journal : List Event = past ++ e ∷ [] in
       let keeps : IsKept sizes journal = kept_snoc sizes past e kept ok in
-      let y : ℕ = x.index in
-      let on : On (s.edges v) y × (s.frozen v ≡ true) = part_on s v y part in
-      let l = (listed sizes z past kept).each v y (subst (λ (edges : ℕ → List ℕ). On (edges v) y) edges on.0) in
-      let n : Node = (handed v s).node y in
-      let same : IsSameLife (s.node y) n = handed_same s v y m in
+      let on : On (s.edges v) x.index × (s.frozen v ≡ true) = part_on s v x.index part in
+      let l = (listed sizes z past kept).each v x.index (subst (λ (edges : ℕ → List ℕ). On (edges v) x.index) edges on.0) in
+      let n : Node = (handed v s).node x.index in
+      let same : IsSameLife (s.node x.index) n = handed_same s v x.index m in
       let named_now : Named sizes journal (handed v s) = subst (Named sizes journal) is (named sizes z journal keeps) in
-      let told = named_now.each y there in
-      let this : record { index = y; tag = n.tag } ≡ x = sym (life_is x y n.tag refl (sym (same.tag ∙ life))) in
+      let closed_now : Closed journal (handed v s) = subst (Closed journal) is (closed sizes journal keeps) in
+      let told : IsNamed journal n x.index = named_now.each x.index there in
+      let this : record { index = x.index; tag = n.tag } ≡ x = sym (life_is x x.index n.tag refl (sym (same.tag ∙ life))) in
       let edge : n.vertex ≡ false = same.vertex ∙ (vertex ∙ l.edge was) in
-      let link = told.edge_link same.used edge in
-      let marked : edge_marked journal x ≡ true = subst (λ (y : Life). edge_marked journal y ≡ true) this (told.edge_mark same.used edge ∙ (same.marked ∙ part_marked s v y part)) in
-      let source_is : record { index = v; tag = (node_in sizes past v).tag } ≡ n.source = sym (life_is n.source v (node_in sizes past v).tag (ap (λ (z : Life). z.index) (same.source ∙ source) ∙ l.index was) (ap (λ (z : Life). z.tag) (same.source ∙ source) ∙ l.tag was)) in
-      let head_tag : ((handed v s).node v).tag ≡ (node_in sizes past v).tag = handed_case (λ (u : Node). u.tag ≡ (node_in sizes past v).tag) s v v tag (λ _ _ _. tag) in
-      let head : head_frozen journal n.source ≡ true = subst (λ (y : Life). head_frozen journal y ≡ true) (ap (λ (t : ℕ). record { index = v; tag = t }) head_tag ∙ source_is)
-      ((subst (λ (s : State). (u : ℕ) → s.frozen u ≡ true → head_frozen journal (record { index = u; tag = (s.node u).tag }) ≡ true) is (closed sizes journal keeps).each) v on.1) in
-      let a = any_at (λ (d : Event). marks_edge d.kind && same_life x d.life) journal marked in
-      let b = any_at (λ (d : Event). freezes_head d.kind && same_life n.source d.life) journal head in
-      record {
-        end = max a.number b.number;
-        ends = inr record {
-          stays = stays;
-          link = link.link;
-          edge = subst (λ (y : Life). link_of journal y ≡ Some link.link) this link.is;
-          mark_place = a.number;
-          mark = a.event;
-          mark_at = a.at;
-          marks = and_left (marks_edge a.event.kind) (same_life x a.event.life) a.passes;
-          mark_life = sym (same_is x a.event.life (and_right (marks_edge a.event.kind) (same_life x a.event.life) a.passes));
-          head_place = b.number;
-          head = b.event;
-          head_at = b.at;
-          freezes = and_left (freezes_head b.event.kind) (same_life n.source b.event.life) b.passes;
-          head_life = sym (same_is n.source b.event.life (and_right (freezes_head b.event.kind) (same_life n.source b.event.life) b.passes)) ∙ sym link.from;
-          later = refl;
-        };
-        before = max_below a.number b.number s.count (omega (arith, count, get_short journal a.number a.event a.at)) (omega (arith, count, get_short journal b.number b.event b.at));
-      }
+      let link : IsLinkOf journal (record { index = x.index; tag = n.tag }) n.source n.target n.key n.weight = told.edge_link same.used edge in
+      let from : link.link.source ≡ (node_in sizes past x.index).source = link.from ∙ (same.source ∙ source) in
+      let now : ((handed v s).node v).tag ≡ (node_in sizes past v).tag = handed_case (λ (u : Node). u.tag ≡ (node_in sizes past v).tag) s v v tag (λ _ _ _. tag) in
+      handed_at journal x link.link stays
+      (subst (λ (y : Life). link_of journal y ≡ Some link.link) this link.is)
+      (subst (λ (y : Life). edge_marked journal y ≡ true) this (told.edge_mark same.used edge ∙ (same.marked ∙ part_marked s v x.index part)))
+      (head_of journal (handed v s) v link.link.source closed_now on.1 (ap (λ (y : Life). y.index) from ∙ l.index was) (ap (λ (y : Life). y.tag) from ∙ (l.tag was ∙ sym now)))
 
   -- an event that unlinks is about the linked node of its life
   unlinks_linked : (k : Kind) → e.kind ≡ k → AllowedAs k sizes past e → unlinks e.kind ≡ true → ((node_in sizes past e.life.index).mode ≡ Linked) × (e.life.tag ≡ (node_in sizes past e.life.index).tag)
@@ -242,6 +251,9 @@ module _ (sizes : Sizes) (z : IsLayout sizes) (past : List Event) (e : Event) (k
   long : (state sizes past).count + 1 ≡ length (past ++ e ∷ [])
   long = omega (arith, count-length sizes past, length-append past (e ∷ []))
 
+  longer : (n : ℕ) → n ≡ length (past ++ e ∷ []) → {x : Life} → HasEnd (past ++ e ∷ []) x (length (past ++ e ∷ [])) → HasEnd (past ++ e ∷ []) x n
+  longer n is h = record { end = h.end; ends = h.ends; before = omega (arith, h.before, is) }
+
   -- an edge is marked, and the frozen part of its list handed over
   present_marked : (x : Life) → x.index < sizes.nodes → (v : ℕ) → state sizes (past ++ e ∷ []) ≡ handed v (marked_state (state sizes past) e.life.index) → (unlinks e.kind && same_life x e.life) ≡ false → IsPresent past x (node_in sizes past x.index)
       → Fate (past ++ e ∷ []) x ((handed v (marked_state (state sizes past) e.life.index)).node x.index)
@@ -250,7 +262,7 @@ module _ (sizes : Sizes) (z : IsLayout sizes) (past : List Event) (e : Event) (k
       let t = marked_same e.life.index x.index in
       handed_case (λ (u : Node). Fate (past ++ e ∷ []) x u) s v x.index (present_mark x c not)
       (λ m _ part. inl record {
-        life = handed_end s v x there is long refl (marked_same e.life.index v).0 t.1 t.2 (sym t.3 ∙ m) (any_skip (λ (d : Event). unlinks d.kind && same_life x d.life) past e not ∙ c.stays) (t.0 ∙ c.tag) m part;
+        life = longer s.count long (handed_end s v x there is refl (marked_same e.life.index v).0 t.1 t.2 (sym t.3 ∙ m) (any_skip (λ (d : Event). unlinks d.kind && same_life x d.life) past e not ∙ c.stays) (t.0 ∙ c.tag) m part);
         low = omega (arith, t.0, c.tag);
         fresh = λ _ h. absurd (cc);
         linked = λ _ h. absurd (cc);
@@ -263,7 +275,7 @@ module _ (sizes : Sizes) (z : IsLayout sizes) (past : List Event) (e : Event) (k
       let s : State = closed_state (state sizes past) e.life.index in
       handed_case (λ (u : Node). Fate (past ++ e ∷ []) x u) s e.life.index x.index (present_same x (node_in sizes past x.index) _ not c refl c.free c.spent)
       (λ m _ part. inl record {
-        life = handed_end s e.life.index x there is long refl refl refl refl m (any_skip (λ (d : Event). unlinks d.kind && same_life x d.life) past e not ∙ c.stays) c.tag m part;
+        life = longer s.count long (handed_end s e.life.index x there is refl refl refl refl m (any_skip (λ (d : Event). unlinks d.kind && same_life x d.life) past e not ∙ c.stays) c.tag m part);
         low = omega (arith, c.tag);
         fresh = λ _ h. absurd (cc);
         linked = λ _ h. absurd (cc);
