@@ -45,3 +45,8 @@ pub mod FrozenLists
 pub mod ListEffects
 pub mod EdgeEffects
 pub mod KindEffects
+pub mod OnLists
+pub mod Fates
+pub mod SafeReuse
+pub mod Accounts
+pub mod MetWords
