@@ -19,7 +19,7 @@ use Rattle.core_rule.specs.Owes.{Reaches}
 use Rattle.core_rule.specs.declared.view.View.{View}
 use Rattle.core_rule.proofs.Ends.{vertex_key}
 use Rattle.core_rule.proofs.OwnLifts.{own_pass, own_fresh, still_fresh}
-use Rattle.core_rule.proofs.SameNodes.{IsMetStill, met_still, met_linked, met_key, key_word_is}
+use Rattle.core_rule.proofs.OwnMet.{IsMetStill, met_still, met_linked, key_word_is}
 use Rattle.core_rule.proofs.SpentNodes.{IsSpentStill, spent_with_stays}
 use Rattle.core_rule.proofs.VertexLifts.{vertex_still, vertex_now, vertex_key_now}
 
@@ -51,7 +51,7 @@ module _ (v : View) (z : IsLayout v.sizes) (journal : List Event) (r : Reaches v
       record { linked = record { linked = met_linked v.sizes z journal r.kept v.number x.index m.life.there s.met live; edge = s.same.vertex ∙ m.edge }; from = s.same.source ∙ m.from }
 
   pub edge_key_now : (source x : Life) → MetEdge v source x → word_at v.sizes journal (key_at v.sizes x.index) ≡ key_in v x.index
-  edge_key_now source x m = met_key v.sizes z v.number x.index v.front journal r.front r.kept m.life.there m.met (edge_still source x m)
+  edge_key_now source x m = (edge_still source x m).key m.life.there
 
   -- an edge is linked
   pub lift_link_edge : (place seen key : ℕ) (source target : Life) (weight : ℕ) (x : Life) → MayLinkEdge v place seen key source target weight x → word_at v.sizes journal place ≡ seen → IsLinkEdge v.sizes journal (link_edge_event v place seen key source target weight x)
@@ -129,7 +129,7 @@ module _ (v : View) (z : IsLayout v.sizes) (journal : List Event) (r : Reaches v
       let s = edge_still source x m.edge in
       let now = edge_linked_now source x m.edge live in
       record {
-        life = m.edge.life.tag ∙ sym s.tag;
+        life = m.edge.life.tag ∙ sym s.same.tag;
         there = m.edge.life.there;
         place = refl;
         linked = now.linked;

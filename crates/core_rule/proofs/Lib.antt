@@ -24,7 +24,7 @@ pub mod Staying
 pub mod Meets
 pub mod Placed
 pub mod SpentNodes
-pub mod SameNodes
+pub mod OwnMet
 pub mod OwnLifts
 pub mod VertexLifts
 pub mod EdgeLifts

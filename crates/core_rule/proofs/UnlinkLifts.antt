@@ -35,7 +35,7 @@ use Rattle.core_rule.proofs.ListParts.{part_was, stands_case, stands_here, stand
 use Rattle.core_rule.proofs.ListSteps.{listing, sources, has_open}
 use Rattle.core_rule.proofs.MarkedWords.{marked_link_stays}
 use Rattle.core_rule.proofs.Meets.{stands}
-use Rattle.core_rule.proofs.SameNodes.{IsMetStill}
+use Rattle.core_rule.proofs.OwnMet.{IsMetStill}
 use Rattle.core_rule.proofs.VertexLifts.{vertex_still, vertex_now, vertex_linked_now}
 
 -- the word of a bucket, or the link of a linked vertex of it, leads to linked vertices
@@ -135,7 +135,7 @@ module _ (v : View) (z : IsLayout v.sizes) (journal : List Event) (r : Reaches v
       let linked : IsLinkedVertex v.sizes journal x.index = leads_to_vertex v.sizes z journal r.kept b.0 x.index Head b.1 tt (ap (λ (i : ℕ). index_of (word_at v.sizes journal i)) (sym b.2) ∙ leads) there in
       let link = dead_link linked in
       record {
-        life = m.vertex.life.tag ∙ sym s.tag;
+        life = m.vertex.life.tag ∙ sym s.same.tag;
         there = there;
         bucket = b.0;
         before = 0;
@@ -157,7 +157,7 @@ module _ (v : View) (z : IsLayout v.sizes) (journal : List Event) (r : Reaches v
       let linked : IsLinkedVertex v.sizes journal x.index = leads_to_vertex v.sizes z journal r.kept ((node_in v.sizes journal y.index).key % v.sizes.buckets) x.index (Node y.index) low on (ap (λ (i : ℕ). index_of (word_at v.sizes journal i)) (sym at_y.place_is) ∙ leads) there in
       let link = dead_link linked in
       record {
-        life = m.vertex.life.tag ∙ sym s.tag;
+        life = m.vertex.life.tag ∙ sym s.same.tag;
         there = there;
         bucket = 0;
         before = y.index;
@@ -175,7 +175,7 @@ module _ (v : View) (z : IsLayout v.sizes) (journal : List Event) (r : Reaches v
       dead_link : IsLinkedVertex v.sizes journal x.index → word_at v.sizes journal (link_at v.sizes x.index) ≡ word_at v.sizes v.front (link_at v.sizes x.index)
       dead_link linked =
           let s = vertex_still v z journal r x m.vertex in
-          marked_link_stays v.sizes z x.index v.front journal r.front r.kept m.vertex.met.fresh m.dead s.tag (((link_words v.sizes z journal r.kept).each x.index m.vertex.life.there).unstored linked.linked)
+          marked_link_stays v.sizes z x.index v.front journal r.front r.kept m.vertex.met.fresh m.dead s.same.tag (((link_words v.sizes z journal r.kept).each x.index m.vertex.life.there).unstored linked.linked)
 
   -- an edge is unlinked
   pub lift_unlink_edge : (place seen next : ℕ) (source x : Life) → MayUnlinkEdge v place seen next source x → word_at v.sizes journal place ≡ seen → IsUnlinkEdge v.sizes journal (unlink_edge_event v place seen next x)
@@ -191,7 +191,7 @@ module _ (v : View) (z : IsLayout v.sizes) (journal : List Event) (r : Reaches v
       let linked : IsLinkedEdge v.sizes journal x.index = leads_from_head v.sizes z journal r.kept source x.index from (ap (λ (i : ℕ). mark_of (word_at v.sizes journal i)) (sym head) ∙ live) (ap (λ (i : ℕ). index_of (word_at v.sizes journal i)) (sym head) ∙ leads) there in
       let link = dead_link linked in
       record {
-        life = m.edge.life.tag ∙ sym s.tag;
+        life = m.edge.life.tag ∙ sym s.same.tag;
         there = there;
         source = subst (λ (y : Life). IsVertex v.sizes journal y) (sym source_is) from;
         before = 0;
@@ -211,7 +211,7 @@ module _ (v : View) (z : IsLayout v.sizes) (journal : List Event) (r : Reaches v
       let linked : IsLinkedEdge v.sizes journal x.index = leads_from_edge v.sizes z journal r.kept source y.index x.index at_y.met.life.there before (ap (λ (i : ℕ). index_of (word_at v.sizes journal i)) (sym at_y.place_is) ∙ leads) there in
       let link = dead_link linked in
       record {
-        life = m.edge.life.tag ∙ sym s.tag;
+        life = m.edge.life.tag ∙ sym s.same.tag;
         there = there;
         source = subst (λ (u : Life). IsVertex v.sizes journal u) (sym source_is) from;
         before = y.index;
@@ -229,4 +229,4 @@ module _ (v : View) (z : IsLayout v.sizes) (journal : List Event) (r : Reaches v
       dead_link : IsLinkedEdge v.sizes journal x.index → word_at v.sizes journal (link_at v.sizes x.index) ≡ word_at v.sizes v.front (link_at v.sizes x.index)
       dead_link linked =
           let s = edge_still v z journal r source x m.edge in
-          marked_link_stays v.sizes z x.index v.front journal r.front r.kept m.edge.met.fresh m.dead s.tag (((link_words v.sizes z journal r.kept).each x.index m.edge.life.there).unstored linked.linked)
+          marked_link_stays v.sizes z x.index v.front journal r.front r.kept m.edge.met.fresh m.dead s.same.tag (((link_words v.sizes z journal r.kept).each x.index m.edge.life.there).unstored linked.linked)

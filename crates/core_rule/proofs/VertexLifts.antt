@@ -19,7 +19,7 @@ use Rattle.core_rule.specs.Owes.{Reaches}
 use Rattle.core_rule.specs.declared.view.View.{View}
 use Rattle.core_rule.proofs.Called.{made_quiet}
 use Rattle.core_rule.proofs.OwnLifts.{own_pass, own_fresh, still_fresh}
-use Rattle.core_rule.proofs.SameNodes.{IsMetStill, met_still, met_linked, met_key}
+use Rattle.core_rule.proofs.OwnMet.{IsMetStill, met_still, met_linked}
 
 module _ (v : View) (z : IsLayout v.sizes) (journal : List Event) (r : Reaches v journal) where
   -- what a vertex that was met is in the journal
@@ -27,13 +27,13 @@ module _ (v : View) (z : IsLayout v.sizes) (journal : List Event) (r : Reaches v
   vertex_still x m = met_still v.sizes z v.number v.last x.index v.front journal r.front r.kept r.quiet r.old m.met
 
   pub vertex_now : (x : Life) → MetVertex v x → IsVertex v.sizes journal x
-  vertex_now x m = let s = vertex_still x m in record { there = m.life.there; life = m.life.tag ∙ sym s.tag; used = s.used; vertex = s.same.vertex ∙ m.vertex }
+  vertex_now x m = let s = vertex_still x m in record { there = m.life.there; life = m.life.tag ∙ sym s.same.tag; used = s.used; vertex = s.same.vertex ∙ m.vertex }
 
   pub vertex_linked_now : (x : Life) → MetVertex v x → mark_of (word_at v.sizes journal (link_at v.sizes x.index)) ≡ 0 → IsLinkedVertex v.sizes journal x.index
   vertex_linked_now x m live = let s = vertex_still x m in record { linked = met_linked v.sizes z journal r.kept v.number x.index m.life.there s.met live; vertex = s.same.vertex ∙ m.vertex }
 
   pub vertex_key_now : (x : Life) → MetVertex v x → word_at v.sizes journal (key_at v.sizes x.index) ≡ key_in v x.index
-  vertex_key_now x m = met_key v.sizes z v.number x.index v.front journal r.front r.kept m.life.there m.met (vertex_still x m)
+  vertex_key_now x m = (vertex_still x m).key m.life.there
 
   -- a vertex is linked
   pub lift_link_vertex : (place seen key : ℕ) (x : Life) → MayLinkVertex v place seen key x → word_at v.sizes journal place ≡ seen → IsLinkVertex v.sizes journal (link_vertex_event v place seen key x)
@@ -104,7 +104,7 @@ module _ (v : View) (z : IsLayout v.sizes) (journal : List Event) (r : Reaches v
   pub lift_mark_vertex : (x : Life) → MayMarkVertex v x → mark_of (word_at v.sizes journal (link_at v.sizes x.index)) ≡ 0 → IsMarkVertex v.sizes journal (mark_vertex_event v x (word_at v.sizes journal (link_at v.sizes x.index)))
   lift_mark_vertex x m live =
       let s = vertex_still x m.vertex in record {
-        life = m.vertex.life.tag ∙ sym s.tag;
+        life = m.vertex.life.tag ∙ sym s.same.tag;
         there = m.vertex.life.there;
         place = refl;
         linked = vertex_linked_now x m.vertex live;
@@ -117,7 +117,7 @@ module _ (v : View) (z : IsLayout v.sizes) (journal : List Event) (r : Reaches v
   pub lift_raise : (x : Life) → MayRaise v x → IsRaise v.sizes journal (raise_event v x (word_at v.sizes journal (third_at v.sizes x.index)))
   lift_raise x m =
       let s = vertex_still x m.vertex in record {
-        life = m.vertex.life.tag ∙ sym s.tag;
+        life = m.vertex.life.tag ∙ sym s.same.tag;
         there = m.vertex.life.there;
         place = refl;
         vertex = vertex_now x m.vertex;
