@@ -50,3 +50,4 @@ pub mod Fates
 pub mod SafeReuse
 pub mod Accounts
 pub mod MetWords
+pub mod OwnSpent

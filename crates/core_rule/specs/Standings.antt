@@ -1,6 +1,6 @@
 -- Where each node is: on the free list, with a caller who fills it, linked, or with the caller who unlinked it.
 use Rattle.std.specs.Prelude.{◌≡◌, ℕ, true, List, Contains}
-use Rattle.packed_link.specs.Layout.{Sizes, link_at}
+use Rattle.packed_link.specs.Layout.{Sizes, key_at, link_at}
 use Rattle.core_journal.specs.declared.event.Event.{Event}
 use Rattle.core_journal.specs.Prefix.{IsPrefix}
 use Rattle.core_journal.specs.Machine.{word_at}
@@ -51,3 +51,15 @@ pub record IsSamePass (sizes : Sizes) (front journal : List Event) (caller : ℕ
   pub before : IsPrefix front journal
   pub open_still : (pass_in sizes journal caller).is_open ≡ true
   pub since : (pass_in sizes journal caller).since ≡ (pass_in sizes front caller).since
+
+-- a node is spent with a caller
+pub record IsSpentWith (sizes : Sizes) (past : List Event) (caller x : ℕ) : Type 0 where
+  pub spent : (node_in sizes past x).mode ≡ Spent
+  pub mine : (node_in sizes past x).who ≡ caller
+
+-- a node, its key, its link and whether its list is closed are after a journal what they were after a front of it
+pub record IsKeptSpent (sizes : Sizes) (front journal : List Event) (x : ℕ) : Type 0 where
+  pub node : node_in sizes journal x ≡ node_in sizes front x
+  pub key : word_at sizes journal (key_at sizes x) ≡ word_at sizes front (key_at sizes x)
+  pub link : word_at sizes journal (link_at sizes x) ≡ word_at sizes front (link_at sizes x)
+  pub closed : (state sizes journal).frozen x ≡ (state sizes front).frozen x

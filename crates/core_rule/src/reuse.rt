@@ -1,15 +1,16 @@
 //! The laws of reuse: when a node is given again, in which state each node is, and what an open pass may rely on.
 
-ghost use Rattle.std.specs.Prelude.{◌≡◌, ℕ, ◌<◌, false, Contains, List};
+ghost use Rattle.std.specs.Prelude.{◌≡◌, ℕ, ◌<◌, ◌≤◌, false, Contains, List, length};
 ghost use Rattle.packed_link.specs.Layout.{Sizes, IsLayout, key_at, second_at, third_at};
 ghost use Rattle.core_journal.specs.declared.event.Event.{Event};
+ghost use Rattle.core_journal.specs.Prefix.{IsPrefix};
 ghost use Rattle.core_journal.specs.Machine.{word_at};
 ghost use Rattle.core_journal.specs.Reuse.{ReusesSafely};
 ghost use Rattle.core_journal.specs.State.{Free, state};
 ghost use Rattle.core_rule.specs.Facts.{IsMet};
-ghost use Rattle.core_rule.specs.Kept.{IsKept};
+ghost use Rattle.core_rule.specs.Kept.{IsKept, IsQuiet};
 ghost use Rattle.core_rule.specs.Nodes.{IsRipe, node_in};
-ghost use Rattle.core_rule.specs.Standings.{IsSamePass, Standing, StandsAs};
+ghost use Rattle.core_rule.specs.Standings.{IsKeptSpent, IsSamePass, IsSpentWith, Standing, StandsAs};
 
 /// No node is given again while an older pass is open: whenever a node is taken, each life for which it was taken before has
 /// ended, and each pass that is open then was announced after that end.
@@ -27,6 +28,14 @@ pub fn each_node_has_one_standing()
         → StandsAs sizes journal x a → StandsAs sizes journal x b → a ≡ b }
     ensures listed { (sizes : Sizes) → IsLayout sizes → (journal : List Event) → IsKept sizes journal
         → (x : ℕ) → Contains (state sizes journal).free x → (node_in sizes journal x).mode ≡ Free }
+{}
+
+/// A node that a caller has spent stays with it while only others make events: from a front with all events of the caller on
+/// it's the same node, in its life and with its end, and its key, its link and whether its list is closed stay.
+pub fn spent_nodes_stay_with_their_caller()
+    ensures { (sizes : Sizes) → IsLayout sizes → (caller last x : ℕ) → x < sizes.nodes
+        → (front journal : List Event) → IsPrefix front journal → IsKept sizes journal → IsQuiet journal caller last
+        → last ≤ length front → IsSpentWith sizes front caller x → IsKeptSpent sizes front journal x }
 {}
 
 /// A node that is ripe for anyone is met in no open pass.
