@@ -18,9 +18,8 @@ use Rattle.core_rule.specs.OwnEvents.{link_edge_event, mark_edge_event, freeze_h
 use Rattle.core_rule.specs.Owes.{Reaches}
 use Rattle.core_rule.specs.declared.view.View.{View}
 use Rattle.core_rule.proofs.Ends.{vertex_key}
-use Rattle.core_rule.proofs.OwnLifts.{own_pass, own_fresh, still_fresh}
+use Rattle.core_rule.proofs.OwnLifts.{own_fresh, own_spent, still_fresh}
 use Rattle.core_rule.proofs.OwnMet.{IsMetStill, met_still, met_linked, key_word_is}
-use Rattle.core_rule.proofs.SpentNodes.{IsSpentStill, spent_with_stays}
 use Rattle.core_rule.proofs.VertexLifts.{vertex_still, vertex_now, vertex_key_now}
 
 -- what a token raised for it raised for in a longer journal of the same pass
@@ -142,7 +141,7 @@ module _ (v : View) (z : IsLayout v.sizes) (journal : List Event) (r : Reaches v
   -- a list is closed at its head
   pub lift_freeze_head : (x : Life) → MayFreezeHead v x → mark_of (word_at v.sizes journal (second_at v.sizes x.index)) ≡ 0 → IsFreezeHead v.sizes journal (freeze_head_event v x (word_at v.sizes journal (second_at v.sizes x.index)))
   lift_freeze_head x m live =
-      let s = spent_with_stays v.sizes z v.number v.last x.index v.front journal r.front r.kept r.quiet r.old m.spent.spent m.spent.mine in
+      let s = own_spent v z journal r x.index m.life.there record { spent = m.spent.spent; mine = m.spent.mine } in
       record {
         life = m.life.tag ∙ sym (ap (λ (u : Node). u.tag) s.node);
         there = m.life.there;

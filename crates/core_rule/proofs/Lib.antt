@@ -23,7 +23,6 @@ pub mod Ripe
 pub mod Staying
 pub mod Meets
 pub mod Placed
-pub mod SpentNodes
 pub mod OwnMet
 pub mod OwnLifts
 pub mod VertexLifts

@@ -26,11 +26,11 @@ pub pass_stays : (sizes : Sizes) (caller last : ℕ) (front journal : List Event
 pass_stays sizes caller last front journal p kept quiet old = kept_beyond sizes (λ (j : List Event). pass_in sizes j caller ≡ pass_in sizes front caller) caller last
     (λ past e _ h other _. ap (λ (s : State). s.pass caller) (state-snoc sizes past e) ∙ (pass_else e.kind sizes e (state sizes past) caller other ∙ h)) front journal p kept quiet old refl
 
-handed_else : (s : State) (v x : ℕ) → (s.node x).mode ≢ Linked → (handed v s).node x ≡ s.node x
-handed_else s v x m = handed_case (λ (u : Node). u ≡ s.node x) s v x refl (λ l _ _. absurd (m l))
+handed_else : (s : State) (v x : ℕ) → (s.node x).mode ≡ Fresh → (handed v s).node x ≡ s.node x
+handed_else s v x m = handed_case (λ (u : Node). u ≡ s.node x) s v x refl (λ l _ _. absurd (cc))
 
 -- an event changes the node that it's about, and linked nodes of a frozen part
-pub node_else : (k : Kind) (sizes : Sizes) (e : Event) (s : State) (x : ℕ) → (s.node x).mode ≢ Linked → x ≢ e.life.index → (state_by k sizes e s).node x ≡ s.node x
+node_else : (k : Kind) (sizes : Sizes) (e : Event) (s : State) (x : ℕ) → (s.node x).mode ≡ Fresh → x ≢ e.life.index → (state_by k sizes e s).node x ≡ s.node x
 node_else PopFree sizes e s x m ne = put_other e.life.index _ s.node x ne
 node_else LinkVertex sizes e s x m ne = put_other e.life.index _ s.node x ne
 node_else MarkVertex sizes e s x m ne = put_other e.life.index _ s.node x ne
@@ -41,17 +41,14 @@ node_else StoreFree sizes e s x m ne = put_other e.life.index _ s.node x ne
 node_else PushFree sizes e s x m ne = put_other e.life.index _ s.node x ne
 node_else MarkEdge sizes e s x m ne =
     let is = put_other e.life.index (record (s.node e.life.index) { marked = true }) s.node x ne in
-    handed_else (marked_state s e.life.index) (s.node e.life.index).source.index x (λ h. m (sym (ap (λ (v : Node). v.mode) is) ∙ h)) ∙ is
+    handed_else (marked_state s e.life.index) (s.node e.life.index).source.index x (ap (λ (v : Node). v.mode) is ∙ m) ∙ is
 node_else FreezeEdge sizes e s x m ne =
     let is = put_other e.life.index (record (s.node e.life.index) { marked = true }) s.node x ne in
-    handed_else (marked_state s e.life.index) (s.node e.life.index).source.index x (λ h. m (sym (ap (λ (v : Node). v.mode) is) ∙ h)) ∙ is
+    handed_else (marked_state s e.life.index) (s.node e.life.index).source.index x (ap (λ (v : Node). v.mode) is ∙ m) ∙ is
 node_else FreezeHead sizes e s x m ne = handed_else (closed_state s e.life.index) e.life.index x m
 node_else _ sizes e s x m ne = refl
 
 module _ (sizes : Sizes) (z : IsLayout sizes) (past : List Event) (e : Event) (kept : IsKept sizes past) (caller x : ℕ) (there : x < sizes.nodes) (f : IsFreshWith sizes past caller x) (other : e.caller ≢ caller) where
-  unlinked : (node_in sizes past x).mode ≢ Linked
-  unlinked h = let u = f.fresh in absurd (cc)
-
   -- another node's mode tells it apart
   not_free : (i : ℕ) → (node_in sizes past i).mode ≡ Free → x ≢ i
   not_free i m same = let t : (node_in sizes past x).mode ≡ Free = ap (λ (y : ℕ). (node_in sizes past y).mode) same ∙ m in let u = f.fresh in absurd (cc)
@@ -70,19 +67,19 @@ module _ (sizes : Sizes) (z : IsLayout sizes) (past : List Event) (e : Event) (k
 
   -- another caller's event changes neither the node nor any of its words
   nowhere_near : (k : Kind) → AllowedAs k sizes past e → (state_by k sizes e (state sizes past)).node x ≡ node_in sizes past x × ((key_at sizes x ≢ e.place) × (link_at sizes x ≢ e.place) × (second_at sizes x ≢ e.place) × (third_at sizes x ≢ e.place))
-  nowhere_near PopFree ok = (node_else PopFree sizes e (state sizes past) x unlinked (not_free e.life.index (first_is_free sizes z past kept e.life.index ok.there ok.seen)), ((λ h. omega (arith, ok.place, h)), (λ h. omega (arith, ok.place, h)), (λ h. omega (arith, ok.place, h)), (λ h. omega (arith, ok.place, h))))
+  nowhere_near PopFree ok = (node_else PopFree sizes e (state sizes past) x f.fresh (not_free e.life.index (first_is_free sizes z past kept e.life.index ok.there ok.seen)), ((λ h. omega (arith, ok.place, h)), (λ h. omega (arith, ok.place, h)), (λ h. omega (arith, ok.place, h)), (λ h. omega (arith, ok.place, h))))
   nowhere_near StorePrivate ok = let ne = not_theirs e.life.index ok.fresh.mine in (refl, ((λ h. ne (omega (arith, ok.place, h))), (λ h. ne (omega (arith, ok.place, h))), (λ h. ne (omega (arith, ok.place, h))), (λ h. ne (omega (arith, ok.place, h)))))
-  nowhere_near LinkVertex ok = (node_else LinkVertex sizes e (state sizes past) x unlinked (not_theirs e.life.index ok.fresh.mine), ((λ h. omega (arith, ok.place, h)), (λ h. not_linked x (ok.linked x (sym h)).linked refl), (λ h. omega (arith, ok.place, h)), (λ h. omega (arith, ok.place, h))))
-  nowhere_near MarkVertex ok = let ne = not_linked e.life.index ok.linked.linked in (node_else MarkVertex sizes e (state sizes past) x unlinked ne, ((λ h. omega (arith, ok.place, h)), (λ h. ne (omega (arith, ok.place, h))), (λ h. omega (arith, ok.place, h)), (λ h. omega (arith, ok.place, h))))
-  nowhere_near UnlinkVertex ok = (node_else UnlinkVertex sizes e (state sizes past) x unlinked (not_linked e.life.index ok.linked.linked), ((λ h. omega (arith, ok.place, h)), (λ h. not_linked x (ok.before_linked x (sym h)).linked refl), (λ h. omega (arith, ok.place, h)), (λ h. omega (arith, ok.place, h))))
-  nowhere_near LinkEdge ok = let ne = not_used e.source.index ok.source.used in (node_else LinkEdge sizes e (state sizes past) x unlinked (not_theirs e.life.index ok.fresh.mine), ((λ h. omega (arith, ok.place, h)), (λ h. not_linked x (ok.linked x (sym h)).linked.linked refl), (λ h. ne (omega (arith, ok.place, h))), (λ h. omega (arith, ok.place, h))))
+  nowhere_near LinkVertex ok = (node_else LinkVertex sizes e (state sizes past) x f.fresh (not_theirs e.life.index ok.fresh.mine), ((λ h. omega (arith, ok.place, h)), (λ h. not_linked x (ok.linked x (sym h)).linked refl), (λ h. omega (arith, ok.place, h)), (λ h. omega (arith, ok.place, h))))
+  nowhere_near MarkVertex ok = let ne = not_linked e.life.index ok.linked.linked in (node_else MarkVertex sizes e (state sizes past) x f.fresh ne, ((λ h. omega (arith, ok.place, h)), (λ h. ne (omega (arith, ok.place, h))), (λ h. omega (arith, ok.place, h)), (λ h. omega (arith, ok.place, h))))
+  nowhere_near UnlinkVertex ok = (node_else UnlinkVertex sizes e (state sizes past) x f.fresh (not_linked e.life.index ok.linked.linked), ((λ h. omega (arith, ok.place, h)), (λ h. not_linked x (ok.before_linked x (sym h)).linked refl), (λ h. omega (arith, ok.place, h)), (λ h. omega (arith, ok.place, h))))
+  nowhere_near LinkEdge ok = let ne = not_used e.source.index ok.source.used in (node_else LinkEdge sizes e (state sizes past) x f.fresh (not_theirs e.life.index ok.fresh.mine), ((λ h. omega (arith, ok.place, h)), (λ h. not_linked x (ok.linked x (sym h)).linked.linked refl), (λ h. ne (omega (arith, ok.place, h))), (λ h. omega (arith, ok.place, h))))
   nowhere_near Raise ok = let ne = not_used e.life.index ok.vertex.used in (refl, ((λ h. omega (arith, ok.place, h)), (λ h. omega (arith, ok.place, h)), (λ h. omega (arith, ok.place, h)), (λ h. ne (omega (arith, ok.place, h)))))
-  nowhere_near MarkEdge ok = let ne = not_linked e.life.index ok.linked.linked in (node_else MarkEdge sizes e (state sizes past) x unlinked ne, ((λ h. omega (arith, ok.place, h)), (λ h. ne (omega (arith, ok.place, h))), (λ h. omega (arith, ok.place, h)), (λ h. omega (arith, ok.place, h))))
-  nowhere_near UnlinkEdge ok = let ne = not_used (node_in sizes past e.life.index).source.index ok.source.used in (node_else UnlinkEdge sizes e (state sizes past) x unlinked (not_linked e.life.index ok.linked.linked), ((λ h. omega (arith, ok.place, h)), (λ h. not_linked x (ok.before_linked x (sym h)).linked.linked refl), (λ h. ne (omega (arith, ok.place, h))), (λ h. omega (arith, ok.place, h))))
-  nowhere_near FreezeHead ok = let ne = not_spent e.life.index ok.spent.spent in (node_else FreezeHead sizes e (state sizes past) x unlinked ne, ((λ h. omega (arith, ok.place, h)), (λ h. omega (arith, ok.place, h)), (λ h. ne (omega (arith, ok.place, h))), (λ h. omega (arith, ok.place, h))))
-  nowhere_near FreezeEdge ok = let ne = not_linked e.life.index ok.linked.linked in (node_else FreezeEdge sizes e (state sizes past) x unlinked ne, ((λ h. omega (arith, ok.place, h)), (λ h. ne (omega (arith, ok.place, h))), (λ h. omega (arith, ok.place, h)), (λ h. omega (arith, ok.place, h))))
-  nowhere_near StoreFree ok = let ne = not_spent e.life.index ok.ripe.spent in (node_else StoreFree sizes e (state sizes past) x unlinked ne, ((λ h. omega (arith, ok.place, h)), (λ h. ne (omega (arith, ok.place, h))), (λ h. omega (arith, ok.place, h)), (λ h. omega (arith, ok.place, h))))
-  nowhere_near PushFree ok = let ne = not_spent e.life.index ok.ripe.spent in (node_else PushFree sizes e (state sizes past) x unlinked ne, ((λ h. omega (arith, ok.place, h)), (λ h. omega (arith, ok.place, h)), (λ h. omega (arith, ok.place, h)), (λ h. omega (arith, ok.place, h))))
+  nowhere_near MarkEdge ok = let ne = not_linked e.life.index ok.linked.linked in (node_else MarkEdge sizes e (state sizes past) x f.fresh ne, ((λ h. omega (arith, ok.place, h)), (λ h. ne (omega (arith, ok.place, h))), (λ h. omega (arith, ok.place, h)), (λ h. omega (arith, ok.place, h))))
+  nowhere_near UnlinkEdge ok = let ne = not_used (node_in sizes past e.life.index).source.index ok.source.used in (node_else UnlinkEdge sizes e (state sizes past) x f.fresh (not_linked e.life.index ok.linked.linked), ((λ h. omega (arith, ok.place, h)), (λ h. not_linked x (ok.before_linked x (sym h)).linked.linked refl), (λ h. ne (omega (arith, ok.place, h))), (λ h. omega (arith, ok.place, h))))
+  nowhere_near FreezeHead ok = let ne = not_spent e.life.index ok.spent.spent in (node_else FreezeHead sizes e (state sizes past) x f.fresh ne, ((λ h. omega (arith, ok.place, h)), (λ h. omega (arith, ok.place, h)), (λ h. ne (omega (arith, ok.place, h))), (λ h. omega (arith, ok.place, h))))
+  nowhere_near FreezeEdge ok = let ne = not_linked e.life.index ok.linked.linked in (node_else FreezeEdge sizes e (state sizes past) x f.fresh ne, ((λ h. omega (arith, ok.place, h)), (λ h. ne (omega (arith, ok.place, h))), (λ h. omega (arith, ok.place, h)), (λ h. omega (arith, ok.place, h))))
+  nowhere_near StoreFree ok = let ne = not_spent e.life.index ok.ripe.spent in (node_else StoreFree sizes e (state sizes past) x f.fresh ne, ((λ h. omega (arith, ok.place, h)), (λ h. ne (omega (arith, ok.place, h))), (λ h. omega (arith, ok.place, h)), (λ h. omega (arith, ok.place, h))))
+  nowhere_near PushFree ok = let ne = not_spent e.life.index ok.ripe.spent in (node_else PushFree sizes e (state sizes past) x f.fresh ne, ((λ h. omega (arith, ok.place, h)), (λ h. omega (arith, ok.place, h)), (λ h. omega (arith, ok.place, h)), (λ h. omega (arith, ok.place, h))))
   nowhere_near _ ok = (refl, ((λ h. omega (arith, ok.place, ok.there, h)), (λ h. omega (arith, ok.place, ok.there, h)), (λ h. omega (arith, ok.place, ok.there, h)), (λ h. omega (arith, ok.place, ok.there, h))))
 
 -- a node that is fresh with a caller stays so, and so do all of its words

@@ -21,7 +21,8 @@ use Rattle.core_rule.specs.declared.view.View.{View}
 use Rattle.core_rule.proofs.Called.{made_quiet}
 use Rattle.core_rule.proofs.FreeList.{pop_again}
 use Rattle.core_rule.proofs.OwnFacts.{pass_stays, fresh_stays, none_fresh_stays}
-use Rattle.core_rule.proofs.SpentNodes.{IsSpentStill, spent_with_stays}
+use Rattle.core_rule.proofs.OwnSpent.{spent_stays}
+use Rattle.core_rule.specs.Standings.{IsSpentWith, IsKeptSpent}
 
 -- the token's pass is what it was
 pub own_pass : (v : View) (journal : List Event) → Reaches v journal → pass_in v.sizes journal v.number ≡ pass_in v.sizes v.front v.number
@@ -35,11 +36,11 @@ pub still_fresh : (v : View) (journal : List Event) (x : ℕ) → IsHeld v.sizes
 still_fresh v journal x h f = record { fresh = ap (λ (u : Node). u.mode) h.node ∙ f.fresh; mine = ap (λ (u : Node). u.who) h.node ∙ f.mine }
 
 -- a node that's spent with the token is what it was, with its link
-pub own_spent : (v : View) → IsLayout v.sizes → (journal : List Event) → Reaches v journal → (x : ℕ) → IsRipe v.sizes v.front v.number x → IsSpentStill v.sizes v.front journal x
-own_spent v z journal r x ripe = spent_with_stays v.sizes z v.number v.last x v.front journal r.front r.kept r.quiet r.old ripe.spent ripe.mine
+pub own_spent : (v : View) → IsLayout v.sizes → (journal : List Event) → Reaches v journal → (x : ℕ) → x < v.sizes.nodes → IsSpentWith v.sizes v.front v.number x → IsKeptSpent v.sizes v.front journal x
+own_spent v z journal r x there s = spent_stays v.sizes z v.number v.last x there v.front journal r.front r.kept r.quiet r.old s
 
 -- a node that's ripe stays so
-pub still_ripe : (v : View) (journal : List Event) → Reaches v journal → (x : ℕ) → IsSpentStill v.sizes v.front journal x → IsRipe v.sizes v.front v.number x → IsRipe v.sizes journal v.number x
+pub still_ripe : (v : View) (journal : List Event) → Reaches v journal → (x : ℕ) → IsKeptSpent v.sizes v.front journal x → IsRipe v.sizes v.front v.number x → IsRipe v.sizes journal v.number x
 still_ripe v journal r x s ripe = record {
   spent = ap (λ (u : Node). u.mode) s.node ∙ ripe.spent;
   mine = ap (λ (u : Node). u.who) s.node ∙ ripe.mine;
@@ -86,7 +87,7 @@ lift_store v z x field word m journal r =
 -- a ripe node is given back
 pub lift_push : (v : View) → IsLayout v.sizes → (seen : ℕ) (x : Life) → MayPushFree v seen x → (journal : List Event) → Reaches v journal → word_at v.sizes journal (free_at v.sizes) ≡ seen → IsPushFree v.sizes journal (push_event v seen x)
 lift_push v z seen x m journal r is =
-    let s = own_spent v z journal r x.index m.ripe in
+    let s = own_spent v z journal r x.index m.life.there record { spent = m.ripe.spent; mine = m.ripe.mine } in
     record {
       life = m.life.tag ∙ sym (ap (λ (u : Node). u.tag) s.node);
       there = m.life.there;
