@@ -1,39 +1,37 @@
 -- The chain of each bucket after each kept journal, and what each kind of event does to it.
-use Rattle.std.proofs.Common.{◌≡◌, ◌≢◌, ℕ, ◌+◌, ◌<◌, ◌%◌, Bool, true, false, ◌&&◌, ◌==◌, List, [], ◌∷◌, ◌++◌, refl, sym, ap, ◌∙◌, subst, arith, ⊎_elim, inl, inr, eq-eqb, eqb-true}
+use Rattle.std.proofs.Common.{◌≡◌, ◌≢◌, ℕ, ◌+◌, ◌<◌, ◌%◌, Bool, true, false, ◌&&◌, ◌==◌, List, [], refl, sym, ap, ◌∙◌, subst, arith, ⊎_elim, eq-eqb, eqb-true}
 use Rattle.std.proofs.lemmas.Bool.{and_parts, and_from}
 use Rattle.std.proofs.Math.Nat.{mod-lt}
 use mathlib.Core.Logic.{dite}
 use native.Mathlib.Decide.{ℕ_discrete}
-use Rattle.graph_kinds.specs.History.{Every}
-use Rattle.packed_link.specs.Link.{pack, nowhere, index_of, mark_of, tag_of, with_mark}
+use Rattle.packed_link.specs.Link.{nowhere, index_of, mark_of, tag_of, with_mark}
 use Rattle.packed_link.specs.Layout.{Sizes, IsLayout, Bucket, word_count, bucket_at, key_at, link_at}
 use Rattle.packed_link.proofs.Links.{index_of-pack, index_of-bound}
 use Rattle.core_chain.specs.Chain.{Chain, Position, Head, Node, IsOn, IsChain}
 use Rattle.core_chain.specs.Met.{Meets, IsMet}
 use Rattle.core_chain.specs.Steps.{CanInsert, CanUnlink, Inserts, Joins, Leaves, Marks, Unlinks, Untouched}
-use Rattle.core_chain.specs.Table.{Places, StandsAlone, StandsElsewhere, Writes, chain_in}
-use Rattle.core_chain.specs.Walk.{IsBelow, Passes}
+use Rattle.core_chain.specs.Table.{StandsAlone, Writes, chain_in}
+use Rattle.core_chain.specs.Walk.{IsBelow}
 use Rattle.core_chain.proofs.Inserts.{IsChain-inserted}
 use Rattle.core_chain.proofs.Marks.{IsChain-marked, IsChain-untouched}
 use Rattle.core_chain.proofs.Meets.{IsMet-from_Meets, IsChain-from_IsMet}
-use Rattle.core_chain.proofs.Tables.{Inserts-in, SetsMark-in, Unlinks-in, Untouched-in}
+use Rattle.core_chain.proofs.Tables.{Inserts-in, SetsMark-in, Unlinks-in}
 use Rattle.core_chain.proofs.Unlinks.{IsChain-unlinked}
 use Rattle.core_journal.specs.declared.event.Kind.{Kind}
-use Rattle.core_journal.specs.declared.event.Kind.TheVariants.{PopFree, StorePrivate, LinkVertex, MarkVertex, UnlinkVertex, LinkEdge, Raise, MarkEdge, UnlinkEdge, FreezeHead, FreezeEdge, StoreFree, PushFree}
+use Rattle.core_journal.specs.declared.event.Kind.TheVariants.{PopFree, StorePrivate, LinkVertex, MarkVertex, UnlinkVertex, LinkEdge, MarkEdge, UnlinkEdge, FreezeHead, FreezeEdge, StoreFree, PushFree}
 use Rattle.core_journal.specs.declared.event.Event.{Event}
 use Rattle.core_journal.specs.Machine.{word_at}
-use Rattle.core_journal.specs.State.{Mode, Free, Fresh, Linked, Spent, Node as Nodes, State, is_linked, put, handed, linked_in, unlinked_from, state_by, opening, state}
+use Rattle.core_journal.specs.State.{Mode, Linked, Spent, Node as Nodes, State, is_linked, put, linked_in, state_by, opening, state}
 use Rattle.core_journal.proofs.MachineWords.{word_first}
 use Rattle.core_rule.specs.Kept.{AllowedAs, IsKept}
 use Rattle.core_rule.specs.Nodes.{node_in, IsUsed, IsLinkedVertex}
 use Rattle.core_rule.specs.Vertices.{IsLinkVertex, IsMarkVertex, IsUnlinkVertex}
-use Rattle.core_rule.specs.Facts.{Contents}
 use Rattle.core_rule.specs.Chains.{bucket_word, bucket_places, is_of_bucket, bucket_chain, BucketChains}
 use Rattle.core_rule.proofs.Steps.{IsAfter, Keeps, put_case, put_same, put_other, marked_state, closed_state, holds_all}
 use Rattle.core_rule.proofs.LinkWords.{taken}
 use Rattle.core_rule.proofs.Contents.{contents}
-use Rattle.core_rule.proofs.Placed.{on_lists, used_there, marked_lists, handed_bucket, OnLists}
-use Rattle.core_rule.proofs.Meets.{AreLinks, stands, meets_inserted, meets_unlinked, meets_marked, meets_untouched, unlinked_else, linked_else, each_absent, each_such}
+use Rattle.core_rule.proofs.Placed.{on_lists, used_there, marked_lists, handed_bucket}
+use Rattle.core_rule.proofs.Meets.{AreLinks, meets_inserted, meets_unlinked, meets_marked, meets_untouched, unlinked_else, linked_else, each_absent, each_such}
 
 -- the chain of a bucket, by a state and the words
 abbrev pub chain_of : Sizes → State → (ℕ → ℕ) → ℕ → Chain

@@ -1,5 +1,5 @@
 -- The counter of an edge's source is higher than when the edge was linked, once it was raised for the edge.
-use Rattle.std.proofs.Common.{◌≡◌, ◌≢◌, ℕ, zero, suc, ◌+◌, ◌<◌, ◌≤◌, Bool, true, false, cond, ◌&&◌, List, [], ◌∷◌, ◌++◌, length, filter, find, take, Option, Some, None, refl, sym, ap, ◌∙◌, subst, arith, append-nil, append_assoc}
+use Rattle.std.proofs.Common.{◌≡◌, ◌≢◌, ℕ, zero, suc, ◌<◌, ◌≤◌, Bool, true, false, cond, ◌&&◌, List, [], ◌∷◌, ◌++◌, length, filter, find, take, Option, Some, None, refl, sym, ap, ◌∙◌, subst, arith, append-nil, append_assoc}
 use Rattle.std.specs.Prelude.{slice_get, is_some}
 use Rattle.std.proofs.lemmas.Bool.{and_parts, and_from}
 use Rattle.std.proofs.Math.Seq.{take-length}
@@ -15,12 +15,12 @@ use Rattle.core_journal.specs.Life.{key_of, link_of, edge_linked, vertex_marked}
 use Rattle.core_journal.specs.GraphOf.{present_key}
 use Rattle.core_journal.specs.Machine.{word_at}
 use Rattle.core_journal.specs.Prefix.{IsPrefix}
-use Rattle.core_journal.specs.State.{Free, Fresh, Linked, Spent, Node, State, put, state_by, state}
+use Rattle.core_journal.specs.State.{Fresh, Node, State, state}
 use Rattle.core_journal.proofs.KeptLives.{link_more, linked-link}
-use Rattle.core_journal.proofs.Lists.{get_front, prefix_take}
-use Rattle.core_journal.proofs.Snoc.{same_is, same_self}
-use Rattle.core_rule.specs.Counts.{raises, about, raised}
-use Rattle.core_rule.specs.Edges.{IsLinkEdge, IsMarkEdge, IsRaisedFor}
+use Rattle.core_journal.proofs.Lists.{prefix_take}
+use Rattle.core_journal.proofs.Snoc.{same_self}
+use Rattle.core_rule.specs.Counts.{raises, raised}
+use Rattle.core_rule.specs.Edges.{IsLinkEdge, IsRaisedFor}
 use Rattle.core_rule.specs.Kept.{Allowed, AllowedAs, KeptFrom, IsKept}
 use Rattle.core_rule.specs.Nodes.{node_in, IsUsed, IsVertex, IsLinkedEdge}
 use Rattle.core_rule.specs.Raised.{IsLinkedLower}

@@ -1,17 +1,17 @@
 -- Each kind has its effect on the chains and the graph, and kept journals are regular.
-use Rattle.std.proofs.Common.{◌≡◌, ℕ, Bool, true, false, List, [], ◌∷◌, ◌++◌, Option, Some, None, refl, sym, ap, ◌∙◌, subst}
+use Rattle.std.proofs.Common.{◌≡◌, ℕ, List, Option, Some, None, refl, ap}
 use Rattle.packed_link.specs.Layout.{Sizes, IsLayout}
 use Rattle.core_journal.specs.declared.event.Kind.{Kind}
 use Rattle.core_journal.specs.declared.event.Kind.TheVariants.{LinkVertex, MarkVertex, UnlinkVertex, LinkEdge, MarkEdge, UnlinkEdge, FreezeHead, FreezeEdge}
 use Rattle.core_journal.specs.declared.event.Event.{Event}
 use Rattle.core_journal.specs.Event.{marks_vertex, marks_edge}
 use Rattle.core_journal.specs.Changes.{is_idle}
-use Rattle.core_journal.specs.GraphOf.{both, weighed, present_key, present_pair, pair_between, IsRegularEvent, IsRegular}
+use Rattle.core_journal.specs.GraphOf.{both, weighed, present_key, present_pair, IsRegularEvent, IsRegular}
 use Rattle.core_journal.proofs.GraphRows.{idle_graph, frozen_graph}
 use Rattle.core_journal.proofs.Regular.{regular_still, new_vertex_regular, removed_vertex_regular, new_edge_regular, no_edge_regular, removed_edge_regular, hidden_regular, idle_regular, regular_snoc}
 use Rattle.core_rule.specs.Edges.{IsLinkEdge}
 use Rattle.core_rule.specs.Effects.{EffectAs}
-use Rattle.core_rule.specs.Kept.{Allowed, AllowedAs, IsKept}
+use Rattle.core_rule.specs.Kept.{AllowedAs, IsKept}
 use Rattle.core_rule.specs.Nodes.{node_in}
 use Rattle.core_rule.proofs.EdgeEffects.{adds_edge_of, removes_edge_of, unlinks_edge, closes, freezes}
 use Rattle.core_rule.proofs.Ends.{new_vertex, new_edge, frozen_edge}

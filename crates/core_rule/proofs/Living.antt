@@ -1,25 +1,22 @@
 -- Lives that are linked and not yet unlinked are those of linked nodes.
-use Rattle.std.proofs.Common.{◌≡◌, ◌≢◌, ℕ, ◌<◌, Bool, true, false, ◌&&◌, List, [], ◌∷◌, ◌++◌, find, Option, Some, None, refl, sym, ap, ◌∙◌, subst, arith}
-use Rattle.std.specs.Prelude.{option_map}
-use mathlib.Core.Logic.{dite}
-use native.Mathlib.Decide.{ℕ_discrete}
+use Rattle.std.proofs.Common.{◌≡◌, ◌≢◌, ℕ, ◌<◌, Bool, true, false, ◌&&◌, List, [], ◌∷◌, ◌++◌, Option, Some, None, refl, sym, ap, ◌∙◌, subst, arith}
 use Rattle.packed_link.specs.Link.{mark_of}
 use Rattle.packed_link.specs.Layout.{Sizes, IsLayout, link_at}
 use Rattle.packed_link.specs.declared.link.Life.{Life}
 use Rattle.core_journal.specs.declared.event.Kind.TheVariants.{PopFree, LinkVertex, MarkVertex, UnlinkVertex, LinkEdge, MarkEdge, UnlinkEdge, FreezeHead, FreezeEdge, StoreFree, PushFree}
 use Rattle.core_journal.specs.declared.event.Event.{Event}
-use Rattle.core_journal.specs.Event.{same_life, links_vertex, marks_vertex, links_edge, marks_edge, unlinks}
-use Rattle.core_journal.specs.Life.{key_of, link_of, vertex_marked, edge_marked, unlinked}
+use Rattle.core_journal.specs.Event.{same_life, links_vertex, unlinks}
+use Rattle.core_journal.specs.Life.{key_of, vertex_marked, unlinked}
 use Rattle.core_journal.specs.Machine.{word_at}
-use Rattle.core_journal.specs.State.{Mode, Free, Fresh, Linked, Spent, Node, State, put, handed, opening, state}
-use Rattle.core_journal.proofs.Snoc.{any_skip, any_last, find_last, find_skip, same_is, same_self, key_skip, key_else, link_skip, link_else, marked_skip, cut_skip, cut_else, cut_here}
-use Rattle.core_journal.proofs.KeptLives.{key_more, vertex_marked_more, edge_marked_more}
+use Rattle.core_journal.specs.State.{Mode, Fresh, Linked, Spent, Node, State, put, handed, opening, state}
+use Rattle.core_journal.proofs.Snoc.{any_skip, any_last, same_is, same_self, key_skip, key_else}
+use Rattle.core_journal.proofs.KeptLives.{key_more, vertex_marked_more}
 use Rattle.core_rule.specs.Kept.{IsKept}
 use Rattle.core_rule.specs.Nodes.{node_in, IsUsed}
-use Rattle.core_rule.proofs.Steps.{KeepsIn, put_case, put_other, handed_case, marked_state, closed_state, all_in}
+use Rattle.core_rule.proofs.Steps.{KeepsIn, put_case, handed_case, marked_state, closed_state, all_in}
 use Rattle.core_rule.proofs.LinkWords.{link_words, taken, mark_is}
 use Rattle.core_rule.proofs.Lives.{other_index, this_life, lives}
-use Rattle.core_rule.proofs.Named.{life_is, named, none_any, key_first, link_first}
+use Rattle.core_rule.proofs.Named.{life_is, named, none_any, key_first}
 use Rattle.core_rule.proofs.Placed.{OnLists, on_lists, marked_lists, frozen_stands}
 
 module _ (past : List Event) (e : Event) where

@@ -1,12 +1,12 @@
 -- Edges that are linked and not marked are linked nodes.
-use Rattle.std.proofs.Common.{◌≡◌, ◌≢◌, ℕ, ◌<◌, Bool, true, false, List, [], ◌∷◌, ◌++◌, Some, refl, sym, ap, ◌∙◌, subst}
+use Rattle.std.proofs.Common.{◌≡◌, ◌≢◌, ℕ, Bool, true, false, List, [], ◌∷◌, ◌++◌, Some, refl, sym, ap, ◌∙◌, subst}
 use Rattle.packed_link.specs.Layout.{Sizes, IsLayout}
 use Rattle.packed_link.specs.declared.link.Life.{Life}
 use Rattle.core_journal.specs.declared.event.Kind.TheVariants.{PopFree, LinkVertex, MarkVertex, UnlinkVertex, LinkEdge, MarkEdge, UnlinkEdge, FreezeHead, FreezeEdge, StoreFree, PushFree}
 use Rattle.core_journal.specs.declared.event.Event.{Event}
 use Rattle.core_journal.specs.Event.{same_life, links_edge, marks_edge}
 use Rattle.core_journal.specs.Life.{link_of, edge_marked}
-use Rattle.core_journal.specs.State.{Free, Fresh, Linked, Spent, Node, State, put, handed, opening, state}
+use Rattle.core_journal.specs.State.{Linked, Node, State, put, handed, opening, state}
 use Rattle.core_journal.proofs.Snoc.{same_is, link_skip, link_else, cut_skip, cut_else, cut_here}
 use Rattle.core_rule.specs.Kept.{IsKept}
 use Rattle.core_rule.specs.Nodes.{node_in, IsUsed}

@@ -1,5 +1,5 @@
 -- What one meets from the head of a chain after each step: the list of the state after the event.
-use Rattle.std.proofs.Common.{◌≡◌, ◌≢◌, ℕ, zero, suc, ◌<◌, ◌≤◌, Bool, true, false, cond, not, ◌||◌, ◌==◌, List, [], ◌∷◌, refl, sym, ap, ◌∙◌, subst, arith, eq-eqb, eqb-true, ne_eqb}
+use Rattle.std.proofs.Common.{◌≡◌, ◌≢◌, ℕ, zero, suc, ◌≤◌, Bool, true, false, cond, not, ◌||◌, ◌==◌, List, [], ◌∷◌, refl, sym, ap, ◌∙◌, subst, arith, eq-eqb, eqb-true, ne_eqb}
 use Rattle.std.specs.Prelude.{Contains}
 use Rattle.std.specs.List.{list_any}
 use mathlib.Core.Logic.{dite}
@@ -20,17 +20,7 @@ use Rattle.core_journal.specs.State.{put_behind, linked_in, unlinked_from}
 abbrev pub stands : ℕ → List ℕ → Bool
 stands y xs = list_any (λ z. z == y) xs
 
--- an element is found
-pub stands_contains : (y : ℕ) (xs : List ℕ) → Contains xs y → stands y xs ≡ true
-stands_contains y [] h = absurd (omega (arith, h.1))
-stands_contains y (x ∷ xs) (zero, low, at) = ap (λ (b : Bool). b || stands y xs) (eq-eqb x y at)
-stands_contains y (x ∷ xs) (suc k, low, at) = by (x == y) (stands_contains y xs (k, omega arith, at))
-  where
-    by : (b : Bool) → stands y xs ≡ true → (b || stands y xs) ≡ true
-    by true h = refl
-    by false h = h
-
--- and what is found is an element
+-- what is found is an element
 pub contains_stands : (y : ℕ) (xs : List ℕ) → stands y xs ≡ true → Contains xs y
 contains_stands y [] h = absurd (cc)
 contains_stands y (x ∷ xs) h = by (x == y) refl (contains_stands y xs) h

@@ -1,5 +1,5 @@
 -- A present edge is on the list of its source by the key of its target; so no other is of its pair.
-use Rattle.std.proofs.Common.{◌≡◌, ◌≢◌, ℕ, Bool, true, false, List, Option, Some, None, refl, sym, ap, ◌∙◌, subst}
+use Rattle.std.proofs.Common.{◌≡◌, ℕ, true, List, Option, Some, None, refl, sym, ap, ◌∙◌, subst}
 use Rattle.packed_link.specs.Layout.{Sizes, IsLayout, key_at}
 use Rattle.packed_link.specs.declared.link.Life.{Life}
 use Rattle.graph_kinds.specs.Graph.{weight_of}
@@ -8,7 +8,7 @@ use Rattle.core_journal.specs.declared.event.Kind.TheVariants.{MarkEdge}
 use Rattle.core_journal.specs.declared.event.Event.{Event}
 use Rattle.core_journal.specs.Changes.{IsRemovedEdge}
 use Rattle.core_journal.specs.GraphOf.{graph_of, present_key, present_pair}
-use Rattle.core_journal.specs.Life.{link_of, key_of}
+use Rattle.core_journal.specs.Life.{link_of}
 use Rattle.core_journal.specs.Machine.{word_at}
 use Rattle.core_journal.specs.State.{state}
 use Rattle.core_journal.proofs.LivesOf.{present_is, joined_is, life_of_pair}

@@ -1,17 +1,16 @@
 -- Nodes past the end of the table are free, and what stands on a list of edges is no vertex and isn't being filled.
-use Rattle.std.proofs.Common.{◌≡◌, ◌≢◌, ℕ, ◌<◌, ◌≤◌, ◌⊎◌, ◌%◌, Bool, true, false, cond, ◌&&◌, ◌||◌, ◌==◌, List, [], ◌∷◌, refl, sym, ap, ◌∙◌, subst, arith, inl, inr}
+use Rattle.std.proofs.Common.{◌≡◌, ◌≢◌, ℕ, ◌<◌, ◌≤◌, ◌⊎◌, ◌%◌, Bool, true, false, cond, ◌&&◌, ◌||◌, ◌==◌, List, [], ◌∷◌, refl, sym, ◌∙◌, subst, arith, inl, inr}
 use Rattle.std.specs.Prelude.{take_while}
 use Rattle.std.proofs.lemmas.List.Sums.{take_while-cons}
 use Rattle.std.proofs.lemmas.Bool.{cases_lt}
-use Rattle.packed_link.specs.Layout.{Sizes, bucket_at, second_at}
+use Rattle.packed_link.specs.Layout.{Sizes, second_at}
 use Rattle.core_journal.specs.declared.event.Kind.TheVariants.{PopFree, LinkVertex, MarkVertex, UnlinkVertex, LinkEdge, MarkEdge, UnlinkEdge, FreezeHead, FreezeEdge, StoreFree, PushFree}
 use Rattle.core_journal.specs.declared.event.Event.{Event}
-use Rattle.core_journal.specs.Machine.{word_at}
-use Rattle.core_journal.specs.State.{Free, Fresh, Linked, Spent, Node, State, is_linked, put, handed, frozen_part, unlinked_from, opening, state}
+use Rattle.core_journal.specs.State.{Free, Fresh, Node, State, is_linked, put, handed, frozen_part, unlinked_from, state}
 use Rattle.core_rule.specs.Kept.{IsKept}
 use Rattle.core_rule.specs.Nodes.{node_in}
 use Rattle.core_rule.specs.Chains.{is_of_bucket}
-use Rattle.core_rule.proofs.Steps.{Keeps, put_case, put_same, put_other, handed_case, marked_state, closed_state, holds_all}
+use Rattle.core_rule.proofs.Steps.{Keeps, put_case, put_other, handed_case, marked_state, closed_state, holds_all}
 use Rattle.core_rule.proofs.Meets.{stands, linked_stands, unlinked_stands}
 
 -- a node past the end of the table is free

@@ -1,18 +1,17 @@
 -- A present vertex is on the chain of its bucket, and no other is of its key.
-use Rattle.std.proofs.Common.{◌≡◌, ◌≢◌, ℕ, ◌<◌, ◌%◌, Bool, true, false, List, Some, refl, sym, ap, ◌∙◌, subst}
+use Rattle.std.proofs.Common.{◌≡◌, ℕ, ◌%◌, Bool, true, false, List, Some, refl, sym, ap, ◌∙◌, subst}
 use Rattle.packed_link.specs.Layout.{Sizes, IsLayout}
 use Rattle.packed_link.specs.declared.link.Life.{Life}
 use Rattle.core_chain.proofs.Walks.{one_of_key}
 use Rattle.core_journal.specs.declared.event.Event.{Event}
 use Rattle.core_journal.specs.GraphOf.{present_key}
 use Rattle.core_journal.specs.Life.{key_of, vertex_marked, unlinked}
-use Rattle.core_journal.specs.Machine.{word_at}
 use Rattle.core_journal.specs.State.{state}
 use Rattle.core_journal.proofs.LivesOf.{present_is}
 use Rattle.core_rule.specs.Kept.{IsKept}
 use Rattle.core_rule.specs.Nodes.{node_in, IsUsed}
-use Rattle.core_rule.specs.Chains.{is_of_bucket, bucket_chain, IsVertexOf, IsInBucket}
-use Rattle.core_rule.proofs.BucketSteps.{IsVertexIn, is_in, in_is, key_word, home_low, buckets}
+use Rattle.core_rule.specs.Chains.{bucket_chain, IsVertexOf, IsInBucket}
+use Rattle.core_rule.proofs.BucketSteps.{is_in, in_is, key_word, home_low, buckets}
 use Rattle.core_rule.proofs.Living.{IsLiveVertex, linked_stays, live_vertices}
 use Rattle.core_rule.proofs.Named.{life_is, named}
 use Rattle.core_rule.proofs.Placed.{used_there}

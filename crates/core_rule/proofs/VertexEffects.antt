@@ -1,11 +1,10 @@
 -- What the events on vertices do to the chains of the buckets and to the graph.
-use Rattle.std.proofs.Common.{◌≡◌, ◌≢◌, ℕ, ◌%◌, ◌<◌, Bool, true, false, List, [], ◌∷◌, ◌++◌, Some, None, cond, refl, sym, ap, ◌∙◌, subst}
+use Rattle.std.proofs.Common.{◌≡◌, ℕ, ◌%◌, ◌<◌, Bool, true, false, List, [], ◌∷◌, ◌++◌, Some, None, cond, refl, sym, ap, ◌∙◌, subst}
 use Rattle.std.specs.Prelude.{option_map}
 use Rattle.packed_link.specs.Layout.{Sizes, IsLayout, key_at, link_at}
 use Rattle.packed_link.specs.Link.{mark_of}
-use Rattle.packed_link.specs.declared.link.Life.{Life}
 use Rattle.graph_kinds.specs.Graph.{has}
-use Rattle.graph_kinds.specs.Answer.{alters, after, change}
+use Rattle.graph_kinds.specs.Answer.{alters, change}
 use Rattle.graph_kinds.specs.declared.call.Call.{Call}
 use Rattle.graph_kinds.specs.declared.call.Call.TheVariants.{AddVertex, RemoveVertex}
 use Rattle.graph_kinds.proofs.Calls.{after_change}
@@ -26,8 +25,8 @@ use Rattle.core_journal.proofs.States.{state-snoc}
 use Rattle.core_rule.specs.Kept.{AllowedAs, IsKept}
 use Rattle.core_rule.specs.Nodes.{node_in, IsUsed}
 use Rattle.core_rule.specs.Vertices.{IsLinkVertex, IsMarkVertex, IsUnlinkVertex}
-use Rattle.core_rule.specs.Chains.{bucket_chain, edge_chain, is_of_bucket, HasList}
-use Rattle.core_rule.specs.Effects.{OthersThanBucket, AddsVertex, RemovesVertex, UnlinksVertex}
+use Rattle.core_rule.specs.Chains.{bucket_chain, edge_chain, HasList}
+use Rattle.core_rule.specs.Effects.{AddsVertex, RemovesVertex, UnlinksVertex}
 use Rattle.core_rule.proofs.Steps.{after_event}
 use Rattle.core_rule.proofs.BucketSteps.{IsOffBuckets, chain_of, is_in, key_word, buckets, home_low, link_spot, link_can, link_inserts, link_others, mark_sets, mark_others, cut_spot, cut_unlinks, cut_others, idle_bucket}
 use Rattle.core_rule.proofs.Ends.{new_vertex}
