@@ -1,15 +1,17 @@
 -- No number of the table wraps: each caller makes only so many events of three kinds, and there are few callers.
 use Rattle.std.proofs.Common.{◌≡◌, ◌≢◌, ℕ, zero, suc, ◌+◌, ◌*◌, ◌<◌, ◌≤◌, Bool, true, false, cond, ◌&&◌, eqb, List, [], ◌∷◌, ◌++◌, length, filter, refl, sym, ap, ◌∙◌, subst, arith, eq-eqb, ne_eqb}
-use Rattle.std.specs.List.{IsDistinct, list_any, AllByRecursion}
-use Rattle.std.proofs.lemmas.Map.Keys.{IsDistinct-cons}
+use Rattle.std.specs.Prelude.{AllPairs, drop, get_or}
+use Rattle.std.specs.List.{IsDistinct, list_any}
+use Rattle.std.proofs.lemmas.Map.Keys.{IsDistinct-from_apart}
 use Rattle.std.proofs.lemmas.Map.Steps.{length-le_from_distinct_below}
 use Rattle.std.proofs.lemmas.List.FromFn.{length-range_with_len}
 use mathlib.Core.Logic.{dite}
 use native.Mathlib.Decide.{ℕ_discrete}
-use Rattle.graph_kinds.specs.History.{Every}
 use Rattle.packed_link.specs.Link.{index_of}
-use Rattle.packed_link.specs.Layout.{Sizes, IsLayout, free_at, link_at}
+use Rattle.packed_link.specs.Layout.{Sizes, IsLayout, free_at}
 use Rattle.packed_link.specs.declared.link.Life.{Life}
+use Rattle.core_epoch.specs.Free.{Leads, FreeList}
+use Rattle.core_epoch.proofs.FreeList.{first_of_pool}
 use Rattle.core_journal.specs.declared.event.Kind.{Kind}
 use Rattle.core_journal.specs.declared.event.Kind.TheVariants.{PopFree, Raise, MoveEpoch}
 use Rattle.core_journal.specs.declared.event.Event.{Event}
@@ -19,12 +21,12 @@ use Rattle.core_journal.specs.State.{Node, State, behind, state}
 use Rattle.core_journal.proofs.States.{state-snoc}
 use Rattle.core_rule.specs.Counts.{pops, raises, moves, made, all_made, about, most_pops, most_raises, most_moves}
 use Rattle.core_rule.specs.Kept.{Allowed, AllowedAs, IsKept}
-use Rattle.core_rule.specs.Free.{IsOnce, Leads, FreeList}
+use Rattle.core_rule.specs.Free.{pool_in}
 use Rattle.core_rule.specs.Facts.{Bounds}
 use Rattle.core_rule.proofs.Induction.{kept_all, kept_snoc}
 use Rattle.core_rule.proofs.Steps.{KeepsIn, put_case, all_in}
 use Rattle.core_rule.proofs.Numbers.{numbers}
-use Rattle.core_rule.proofs.FreeList.{free_list, first_free}
+use Rattle.core_rule.proofs.FreeList.{free_list, few_nodes, behind_is}
 use Rattle.core_rule.proofs.LinkWords.{taken}
 use Rattle.core_rule.proofs.Lives.{count_snoc, same_tag, counters}
 use Rattle.core_rule.proofs.Called.{called_by, made_other}
@@ -126,9 +128,8 @@ record IsBalanced (sizes : Sizes) (journal : List Event) (s : State) : Type 0 wh
 balance_step : (sizes : Sizes) → IsLayout sizes → KeepsIn sizes (λ (j : List Event) (s : State) (w : ℕ → ℕ). IsBalanced sizes j s)
 balance_step sizes z past e kept c PopFree is ok w a =
     let s : State = state sizes past in
-    let f : FreeList sizes s (word_at sizes past) = free_list sizes z past kept in
-    let list : s.free ≡ e.life.index ∷ behind s.free = first_free sizes (word_at sizes past) e.life.index s.free z ok.there (subst (λ (i : ℕ). Leads sizes (word_at sizes past) i s.free) ok.seen f.leads) in
-    let size : length s.free ≡ length (behind s.free) + 1 = ap length list ∙ omega arith in
+    let list : s.free ≡ e.life.index ∷ drop 1 s.free = first_of_pool sizes.nodes (pool_in sizes past) e.life.index (few_nodes sizes z) (free_list sizes z past kept) ok.there ok.seen in
+    let size : length s.free ≡ length (behind s.free) + 1 = ap length list ∙ (ap (λ (xs : List ℕ). length (e.life.index ∷ xs)) (sym (behind_is s.free)) ∙ omega arith) in
     let more = all_this pops past e (ap pops is) in
     record {
       free = omega (arith, c.free, size, more);
@@ -150,27 +151,22 @@ balanced : (sizes : Sizes) → IsLayout sizes → (journal : List Event) → IsK
 balanced sizes z journal kept = all_in sizes (λ (j : List Event) (s : State) (w : ℕ → ℕ). IsBalanced sizes j s) (balance_step sizes z)
     (record { free = omega (arith, length-range_with_len 0 sizes.nodes); tag = λ x. omega arith; epoch = refl }) journal kept
 
-once_distinct : (xs : List ℕ) → IsOnce xs → IsDistinct eqb xs
+once_distinct : (xs : List ℕ) → AllPairs ◌≢◌ xs → IsDistinct eqb xs
 unfolding IsDistinct
-once_distinct [] o = tt
-once_distinct (x ∷ xs) o = IsDistinct-cons eqb x xs (apart xs o.0) (once_distinct xs o.1)
-  where
-    apart : (ys : List ℕ) → Every (λ y. y ≢ x) ys → AllByRecursion (λ y. eqb x y ≡ false) ys
-    apart [] h = tt
-    apart (y ∷ ys) h = (ne_eqb x y (λ s. h.0 (sym s)), apart ys h.1)
+once_distinct xs once = IsDistinct-from_apart eqb xs (λ i j d low high. ne_eqb (get_or xs i d) (get_or xs j d) (once i j d low high))
 
-leads_below : (sizes : Sizes) (w : ℕ → ℕ) (i : ℕ) (xs : List ℕ) → Leads sizes w i xs → (q : ℕ) → list_any (eqb q) xs ≡ true → q < sizes.nodes
-leads_below sizes w i [] c q h = absurd (cc)
-leads_below sizes w i (x ∷ xs) c q h = dite (ℕ_discrete q x)
+leads_below : (nodes : ℕ) (link : ℕ → ℕ) (i : ℕ) (xs : List ℕ) → Leads nodes link i xs → (q : ℕ) → list_any (eqb q) xs ≡ true → q < nodes
+leads_below nodes link i [] c q h = absurd (cc)
+leads_below nodes link i (x ∷ xs) c q h = dite (ℕ_discrete q x)
     (λ same. let t = c.1 in omega (arith, t, same))
-    (λ ne. leads_below sizes w (index_of (w (link_at sizes x))) xs c.2 q (let e : eqb q x ≡ false = ne_eqb q x ne in grind (arith, e, h)))
+    (λ ne. leads_below nodes link (index_of (link x)) xs c.2 q (let e : eqb q x ≡ false = ne_eqb q x ne in grind (arith, e, h)))
 
 -- the numbers of a kept journal
 pub bounds : (sizes : Sizes) → IsLayout sizes → (journal : List Event) → IsKept sizes journal → Bounds sizes (state sizes journal) (word_at sizes journal)
 bounds sizes z journal kept =
     let s : State = state sizes journal in
-    let f : FreeList sizes s (word_at sizes journal) = free_list sizes z journal kept in
-    let few : length s.free ≤ sizes.nodes = length-le_from_distinct_below s.free sizes.nodes (once_distinct s.free f.once) (leads_below sizes (word_at sizes journal) (index_of (word_at sizes journal (free_at sizes))) s.free f.leads) in
+    let f : FreeList sizes.nodes (pool_in sizes journal) = free_list sizes z journal kept in
+    let few : length s.free ≤ sizes.nodes = length-le_from_distinct_below s.free sizes.nodes (once_distinct s.free f.once) (leads_below sizes.nodes (pool_in sizes journal).link (index_of (word_at sizes journal (free_at sizes))) s.free f.leads) in
     let b = balanced sizes z journal kept in
     let p = all_most sizes pops most_pops (pop_limit sizes) journal kept in
     let r = all_most sizes raises most_raises (raise_limit sizes) journal kept in

@@ -25,7 +25,7 @@ some_none : {A : Type 0} (o : Option A) (x : A) → o ≡ Some x → o ≢ None
 some_none o x h n = absurd (cc)
 
 -- a vertex that is linked or spent has a key
-vertex_key : (sizes : Sizes) → IsLayout sizes → (past : List Event) → IsKept sizes past → (x : Life) → IsVertex sizes past x → key_of past x ≡ Some (node_in sizes past x.index).key
+pub vertex_key : (sizes : Sizes) → IsLayout sizes → (past : List Event) → IsKept sizes past → (x : Life) → IsVertex sizes past x → key_of past x ≡ Some (node_in sizes past x.index).key
 vertex_key sizes z past kept x v = ap (key_of past) (life_is x x.index (node_in sizes past x.index).tag refl v.life) ∙ ((named sizes z past kept).each x.index v.there).vertex_key v.used v.vertex
 
 -- the two ends of an edge that is linked next
@@ -33,12 +33,12 @@ end_keys : (sizes : Sizes) → IsLayout sizes → (past : List Event) (e : Event
 end_keys sizes z past e kept LinkEdge is ok = (some_none _ _ (vertex_key sizes z past kept e.source ok.source), ok.target)
 end_keys sizes z past e kept _ is ok = absurd (cc)
 
-not_none : {A : Type 0} (o : Option A) → o ≢ None → (x : A) × (o ≡ Some x)
+pub not_none : {A : Type 0} (o : Option A) → o ≢ None → (x : A) × (o ≡ Some x)
 not_none None h = absurd (h refl)
 not_none (Some x) h = (x, refl)
 
 -- what is linked in a longer journal was linked before, or is the last event
-link_split : (past : List Event) (e : Event) (x : Life) (link : Event) → link_of (past ++ e ∷ []) x ≡ Some link → (P : Event → Type 0) → ((d : Event) → link_of past x ≡ Some d → P d) → (links_edge e.kind ≡ true → P e) → P link
+pub link_split : (past : List Event) (e : Event) (x : Life) (link : Event) → link_of (past ++ e ∷ []) x ≡ Some link → (P : Event → Type 0) → ((d : Event) → link_of past x ≡ Some d → P d) → (links_edge e.kind ≡ true → P e) → P link
 unfolding link_of
 link_split past e x link h P old new = by (find (λ (d : Event). links_edge d.kind && same_life x d.life) past) refl
   where

@@ -39,11 +39,11 @@ module _ (sizes : Sizes) (v : Node) (word : ℕ) where
 pub link_same : (sizes : Sizes) (v : Node) (word word' : ℕ) → word' ≡ word → IsLinkWord sizes v word → IsLinkWord sizes v word'
 link_same sizes v word word' same c = subst (λ (u : ℕ). IsLinkWord sizes v u) (sym same) c
 
-mark_is : (b : Bool) → mark_bit b ≡ 1 → b ≡ true
+pub mark_is : (b : Bool) → mark_bit b ≡ 1 → b ≡ true
 mark_is true h = refl
 mark_is false h = absurd (omega (arith, h))
 
-mark_isnt : (b : Bool) → mark_bit b ≡ 0 → b ≡ false
+pub mark_isnt : (b : Bool) → mark_bit b ≡ 0 → b ≡ false
 mark_isnt true h = absurd (omega (arith, h))
 mark_isnt false h = refl
 

@@ -29,7 +29,7 @@ none_about test x (e ∷ es) h = by (none_about test x es) (test e.kind && same_
     by more true h = absurd (omega (arith, h))
     by more false h = more h
 
-none_any : (test : Kind → Bool) (x : Life) (journal : List Event) → about test x journal ≡ 0 → list_any (λ (e : Event). test e.kind && same_life x e.life) journal ≡ false
+pub none_any : (test : Kind → Bool) (x : Life) (journal : List Event) → about test x journal ≡ 0 → list_any (λ (e : Event). test e.kind && same_life x e.life) journal ≡ false
 none_any test x [] h = refl
 none_any test x (e ∷ es) h = by (none_any test x es) (test e.kind && same_life x e.life) h
   where
@@ -108,7 +108,7 @@ pub life_is : (y : Life) (x t : ℕ) → y.index ≡ x → y.tag ≡ t → y ≡
 life_is y x t p q = λ i. record { index = p i; tag = q i }
 
 -- the first link of a life is the one that is found
-key_first : (past : List Event) (e : Event) (y : Life) → key_of past y ≡ None → links_vertex e.kind ≡ true → same_life y e.life ≡ true → key_of (past ++ e ∷ []) y ≡ Some e.key
+pub key_first : (past : List Event) (e : Event) (y : Life) → key_of past y ≡ None → links_vertex e.kind ≡ true → same_life y e.life ≡ true → key_of (past ++ e ∷ []) y ≡ Some e.key
 unfolding key_of
 key_first past e y none k s = ap (option_map (λ (d : Event). d.key)) (find_last (λ (d : Event). links_vertex d.kind && same_life y d.life) past e (unmapped _ none) (ap (λ (b : Bool). b && same_life y e.life) k ∙ s))
   where
@@ -116,7 +116,7 @@ key_first past e y none k s = ap (option_map (λ (d : Event). d.key)) (find_last
     unmapped None h = refl
     unmapped (Some d) h = absurd (cc)
 
-link_first : (past : List Event) (e : Event) (y : Life) → link_of past y ≡ None → links_edge e.kind ≡ true → same_life y e.life ≡ true → link_of (past ++ e ∷ []) y ≡ Some e
+pub link_first : (past : List Event) (e : Event) (y : Life) → link_of past y ≡ None → links_edge e.kind ≡ true → same_life y e.life ≡ true → link_of (past ++ e ∷ []) y ≡ Some e
 unfolding link_of
 link_first past e y none k s = find_last (λ (d : Event). links_edge d.kind && same_life y d.life) past e none (ap (λ (b : Bool). b && same_life y e.life) k ∙ s)
 

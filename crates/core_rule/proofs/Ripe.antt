@@ -1,29 +1,25 @@
 -- Where lives ended beside passes: a ripe node was spent before each open pass began.
-use Rattle.std.proofs.Common.{◌≡◌, ◌≢◌, ◌⊎◌, ℕ, ◌+◌, ◌<◌, ◌≤◌, List, true, refl, sym, ap, ◌∙◌, subst, arith, ⊎_elim, inl, inr}
+use Rattle.std.proofs.Common.{◌≡◌, ◌≢◌, ◌⊎◌, ℕ, ◌+◌, ◌≤◌, List, true, refl, sym, ap, ◌∙◌, subst, arith, ⊎_elim, inl, inr}
 use Rattle.packed_link.specs.Layout.{Sizes, IsLayout}
+use Rattle.core_epoch.specs.Ends.{Ended, Ordered, EndsSome, GivesOld}
+use Rattle.core_epoch.proofs.Beside.{ended_kept, ordered_kept, old_end_before}
 use Rattle.core_journal.specs.declared.event.Kind.{Kind}
-use Rattle.core_journal.specs.declared.event.Kind.TheVariants.{PopFree, LinkVertex, MarkVertex, UnlinkVertex, LinkEdge, MarkEdge, UnlinkEdge, Announce, Withdraw, MoveEpoch, FreezeHead, FreezeEdge, StoreFree, PushFree}
+use Rattle.core_journal.specs.declared.event.Kind.TheVariants.{PopFree, LinkVertex, MarkVertex, UnlinkVertex, LinkEdge, MarkEdge, UnlinkEdge, FreezeHead, FreezeEdge, StoreFree, PushFree}
 use Rattle.core_journal.specs.declared.event.Event.{Event}
-use mathlib.Core.Logic.{dite}
-use native.Mathlib.Decide.{dec_le}
-use Rattle.core_journal.specs.State.{Mode, Free, Fresh, Linked, Spent, Pass, Node, State, put, handed, state_by, state}
+use Rattle.core_journal.specs.State.{Mode, Fresh, Linked, Spent, Node, State, put, handed, state_by, state}
 use Rattle.core_journal.specs.Reuse.{pass_in}
 use Rattle.core_rule.specs.Kept.{AllowedAs, IsKept}
 use Rattle.core_rule.specs.Nodes.{node_in, IsRipe}
-use Rattle.core_rule.specs.Facts.{Ended, Ordered}
+use Rattle.core_rule.specs.Moments.{is_spent, clock_by, ends_by, clock_in, ends_in}
 use Rattle.core_rule.proofs.Induction.{kept_front}
 use Rattle.core_rule.proofs.Steps.{Keeps, put_case, handed_case, marked_state, closed_state, holds_all, holds_onward}
 use Rattle.core_rule.proofs.Numbers.{numbers}
-use Rattle.core_rule.proofs.Announcements.{announcements, epoch_was}
+use Rattle.core_rule.proofs.Announcements.{announcements, clock_step, epoch_was}
 use Rattle.core_rule.proofs.LinkWords.{taken}
 use Rattle.core_rule.proofs.Epochs.{near}
 
--- two numbers in order
-le_or_lt : (a b : ℕ) → (a ≤ b) ⊎ (b < a)
-le_or_lt a b = dite (dec_le a b) (λ h. inl h) (λ h. inr (omega (arith, h)))
-
 -- the last end of a node's lives stays, or it's this event, which spends a linked node
-abbrev EndsAs : State → Node → Node → Type 0
+abbrev pub EndsAs : State → Node → Node → Type 0
 EndsAs s v v' = ((v'.ended ≡ v.ended) × (v'.epoch ≡ v.epoch)) ⊎ ((v'.ended ≡ s.count + 1) × (v'.epoch ≡ s.epoch) × (v'.mode ≡ Spent) × (v.mode ≡ Linked))
 
 end_put : (s : State) (i : ℕ) (v : Node) (x : ℕ) → EndsAs s (s.node i) v → EndsAs s (s.node x) (put i v s.node x)
@@ -33,7 +29,7 @@ end_marked : (s : State) (i v x : ℕ) → EndsAs s (s.node x) ((handed v (marke
 end_marked s i v x = handed_case (λ (u : Node). EndsAs s (s.node x) u) (marked_state s i) v x (end_put s i (record (s.node i) { marked = true }) x (inl (refl, refl)))
     (λ m _ _. inr (refl, refl, refl, put_case (λ (u : Node). u.mode ≡ Linked → (s.node x).mode ≡ Linked) i (record (s.node i) { marked = true }) s.node x (λ same l. ap (λ (y : ℕ). (s.node y).mode) same ∙ l) (λ _ l. l) m))
 
-end_by : (k : Kind) (sizes : Sizes) (past : List Event) (e : Event) → AllowedAs k sizes past e → (x : ℕ) → EndsAs (state sizes past) (node_in sizes past x) ((state_by k sizes e (state sizes past)).node x)
+pub end_by : (k : Kind) (sizes : Sizes) (past : List Event) (e : Event) → AllowedAs k sizes past e → (x : ℕ) → EndsAs (state sizes past) (node_in sizes past x) ((state_by k sizes e (state sizes past)).node x)
 end_by PopFree sizes past e ok x = end_put (state sizes past) e.life.index _ x (inl (refl, refl))
 end_by LinkVertex sizes past e ok x = end_put (state sizes past) e.life.index _ x (inl (refl, refl))
 end_by MarkVertex sizes past e ok x = end_put (state sizes past) e.life.index _ x (inl (refl, refl))
@@ -47,19 +43,22 @@ end_by FreezeEdge sizes past e ok x = end_marked (state sizes past) e.life.index
 end_by FreezeHead sizes past e ok x = handed_case (λ (u : Node). EndsAs (state sizes past) (node_in sizes past x) u) (closed_state (state sizes past) e.life.index) e.life.index x (inl (refl, refl)) (λ m _ _. inr (refl, refl, refl, m))
 end_by _ sizes past e ok x = inl (refl, refl)
 
-ended_step : (sizes : Sizes) → Keeps sizes (λ (s : State) (w : ℕ → ℕ). Ended s)
-ended_step sizes past e kept c MoveEpoch by ok w a = record { epoch = λ x. omega (arith, c.epoch x); ended = λ x. omega (arith, c.ended x) }
-ended_step sizes past e kept c k by ok w a = record {
-  epoch = λ x. ⊎_elim (λ h. omega (arith, h, c.epoch x)) (λ h. omega (arith, h.1)) (end_by k sizes past e ok x);
-  ended = λ x. ⊎_elim (λ h. omega (arith, h, c.ended x)) (λ h. omega (arith, h.0)) (end_by k sizes past e ok x);
-}
+-- the ends of lives after an event
+ends_some : (k : Kind) (sizes : Sizes) (past : List Event) (e : Event) → AllowedAs k sizes past e → EndsSome (clock_in sizes past) (ends_in sizes past) (ends_by (state_by k sizes e (state sizes past)))
+ends_some k sizes past e ok x = ⊎_elim
+    (λ same. inl record { ended = same.0; epoch = same.1 })
+    (λ now. inr record { ended = now.0; epoch = now.1; spent = ap is_spent now.2 }) (end_by k sizes past e ok x)
+
+ended_step : (sizes : Sizes) → Keeps sizes (λ (s : State) (w : ℕ → ℕ). Ended (clock_by sizes s w) (ends_by s))
+ended_step sizes past e kept c k by ok w a = ended_kept sizes.callers (clock_in sizes past) (clock_by sizes (state_by k sizes e (state sizes past)) w) (ends_in sizes past) (ends_by (state_by k sizes e (state sizes past))) c
+    (clock_step k sizes past e kept ok w a) (ends_some k sizes past e ok)
 
 -- no life ended in the future
-pub ended : (sizes : Sizes) (journal : List Event) → IsKept sizes journal → Ended (state sizes journal)
-ended sizes journal kept = holds_all sizes (λ (s : State) (w : ℕ → ℕ). Ended s) (ended_step sizes) (record { epoch = λ x. omega arith; ended = λ x. omega arith }) journal kept
+pub ended : (sizes : Sizes) (journal : List Event) → IsKept sizes journal → Ended (clock_in sizes journal) (ends_in sizes journal)
+ended sizes journal kept = holds_all sizes (λ (s : State) (w : ℕ → ℕ). Ended (clock_by sizes s w) (ends_by s)) (ended_step sizes) (record { epoch = λ x. omega arith; ended = λ x. omega arith }) journal kept
 
 -- a life that is over stays so, with the same end
-record IsOver (tag end epoch : ℕ) (v : Node) : Type 0 where
+pub record IsOver (tag end epoch : ℕ) (v : Node) : Type 0 where
   pub low : tag ≤ v.tag
   pub fresh : v.tag ≡ tag → v.mode ≢ Fresh
   pub linked : v.tag ≡ tag → v.mode ≢ Linked
@@ -75,7 +74,7 @@ module _ (sizes : Sizes) (z : IsLayout sizes) (x tag end epoch : ℕ) where
   over_mark : (v : Node) → IsOver tag end epoch v → IsOver tag end epoch (record v { marked = true })
   over_mark v c = record { low = c.low; fresh = c.fresh; linked = c.linked; epoch_is = c.epoch_is }
 
-  over_step : Keeps sizes (λ (s : State) (w : ℕ → ℕ). IsOver tag end epoch (s.node x))
+  pub over_step : Keeps sizes (λ (s : State) (w : ℕ → ℕ). IsOver tag end epoch (s.node x))
   over_step past e kept c PopFree by ok w a = over_put (state sizes past) e.life.index _ c (λ d. let t = taken sizes z past e kept ok in record { low = omega (arith, d.low, t.tag); fresh = λ h. absurd (omega (arith, d.low, t.tag, h)); linked = λ h. absurd (omega (arith, d.low, t.tag, h)); epoch_is = λ h. absurd (omega (arith, d.low, t.tag, h)) })
   over_step past e kept c LinkVertex by ok w a = over_put (state sizes past) e.life.index _ c (λ d. record { low = d.low; fresh = λ h l. absurd (cc); linked = λ h. absurd (d.fresh h ok.fresh.fresh); epoch_is = λ h. absurd (d.fresh h ok.fresh.fresh) })
   over_step past e kept c LinkEdge by ok w a = over_put (state sizes past) e.life.index _ c (λ d. record { low = d.low; fresh = λ h l. absurd (cc); linked = λ h. absurd (d.fresh h ok.fresh.fresh); epoch_is = λ h. absurd (d.fresh h ok.fresh.fresh) })
@@ -100,6 +99,10 @@ ripe_now sizes z past caller x kept r =
     (record { low = omega arith; fresh = λ _ h. absurd (cc); linked = λ _ h. absurd (cc); epoch_is = λ _. refl }) in
     omega (arith, over.epoch_is (sym r.when_life), (ended sizes r.when then).epoch x, (numbers sizes r.when then).epoch, r.when_epoch, r.shown_epoch, epoch_was sizes r.shown past r.shown_before kept)
 
+spent_is : (m : Mode) → is_spent m ≡ true → m ≡ Spent
+spent_is Spent h = refl
+spent_is _ h = absurd (cc)
+
 -- a spent node stays so until it's given back
 spent_stays : (k : Kind) (sizes : Sizes) → IsLayout sizes → (past : List Event) (e : Event) → IsKept sizes past → AllowedAs k sizes past e → (x : ℕ) → (node_in sizes past x).mode ≡ Spent → (((state_by k sizes e (state sizes past)).node x).mode ≡ Spent) ⊎ ((node_in sizes past x).epoch + 2 ≤ (state sizes past).epoch)
 spent_stays PushFree sizes z past e kept ok x m = put_case (λ (u : Node). (u.mode ≡ Spent) ⊎ ((node_in sizes past x).epoch + 2 ≤ (state sizes past).epoch)) e.life.index _ (state sizes past).node x
@@ -122,42 +125,20 @@ spent_stays FreezeEdge sizes z past e kept ok x m = inl (handed_case (λ (u : No
 spent_stays FreezeHead sizes z past e kept ok x m = inl (handed_case (λ (u : Node). u.mode ≡ Spent) (closed_state (state sizes past) e.life.index) e.life.index x m (λ _ _ _. refl))
 spent_stays _ sizes z past e kept ok x m = inl m
 
--- in one open pass: the end of a node after an event
-after_end : (k : Kind) (sizes : Sizes) → IsLayout sizes → (past : List Event) (e : Event) → IsKept sizes past → AllowedAs k sizes past e → Ordered (state sizes past) → (i x : ℕ) → (pass_in sizes past i).is_open ≡ true
-    → ((state_by k sizes e (state sizes past)).node x).mode ≢ Spent → ((state_by k sizes e (state sizes past)).node x).ended ≤ (pass_in sizes past i).since
-after_end k sizes z past e kept ok c i x o ne = ⊎_elim
-    (λ same. omega (arith, same.0, by (node_in sizes past x).mode refl))
-    (λ now. absurd (ne now.2)) (end_by k sizes past e ok x)
-  where
-    by : (m : Mode) → (node_in sizes past x).mode ≡ m → (node_in sizes past x).ended ≤ (pass_in sizes past i).since
-    by Spent is = ⊎_elim (λ s. absurd (ne s)) (λ r. ⊎_elim (λ h. h) (λ h. let b = c.later i x o h in absurd (omega (arith, b, r, (near sizes past kept).near i o))) (le_or_lt _ _)) (spent_stays k sizes z past e kept ok x is)
-    by Free is = c.unspent i x o (λ h. absurd (cc))
-    by Fresh is = c.unspent i x o (λ h. absurd (cc))
-    by Linked is = c.unspent i x o (λ h. absurd (cc))
+-- a spent node is given back only where the epoch is two above that of its end
+gives_old : (k : Kind) (sizes : Sizes) → IsLayout sizes → (past : List Event) (e : Event) → IsKept sizes past → AllowedAs k sizes past e → GivesOld (clock_in sizes past) (ends_in sizes past) (ends_by (state_by k sizes e (state sizes past)))
+gives_old k sizes z past e kept ok x was now = ⊎_elim
+    (λ m. let t = ap is_spent m in absurd (cc))
+    (λ old. old) (spent_stays k sizes z past e kept ok x (spent_is (node_in sizes past x).mode was))
 
-after_later : (k : Kind) (sizes : Sizes) (past : List Event) (e : Event) → IsKept sizes past → AllowedAs k sizes past e → Ordered (state sizes past) → (i x : ℕ) → (pass_in sizes past i).is_open ≡ true
-    → (pass_in sizes past i).since < ((state_by k sizes e (state sizes past)).node x).ended → (pass_in sizes past i).birth ≤ ((state_by k sizes e (state sizes past)).node x).epoch
-after_later k sizes past e kept ok c i x o h = ⊎_elim
-    (λ same. let b = c.later i x o (omega (arith, h, same.0)) in omega (arith, b, same.1))
-    (λ now. let q = (announcements sizes past kept).inside i o in omega (arith, q.born, now.1)) (end_by k sizes past e ok x)
-
-ordered_step : (sizes : Sizes) → IsLayout sizes → Keeps sizes (λ (s : State) (w : ℕ → ℕ). Ordered s)
-ordered_step sizes z past e kept c Announce by ok w a = record {
-  later = λ i x. put_case (λ (q : Pass). q.is_open ≡ true → q.since < (node_in sizes past x).ended → q.birth ≤ (node_in sizes past x).epoch) e.caller _ (state sizes past).pass i (λ _ _ h. absurd (omega (arith, h, (ended sizes past kept).ended x))) (λ _ o h. c.later i x o h);
-  unspent = λ i x. put_case (λ (q : Pass). q.is_open ≡ true → (node_in sizes past x).mode ≢ Spent → (node_in sizes past x).ended ≤ q.since) e.caller _ (state sizes past).pass i (λ _ _ _. (ended sizes past kept).ended x) (λ _ o h. c.unspent i x o h);
-}
-ordered_step sizes z past e kept c Withdraw by ok w a = record {
-  later = λ i x. put_case (λ (q : Pass). q.is_open ≡ true → q.since < (node_in sizes past x).ended → q.birth ≤ (node_in sizes past x).epoch) e.caller _ (state sizes past).pass i (λ _ o h. absurd (cc)) (λ _ o h. c.later i x o h);
-  unspent = λ i x. put_case (λ (q : Pass). q.is_open ≡ true → (node_in sizes past x).mode ≢ Spent → (node_in sizes past x).ended ≤ q.since) e.caller _ (state sizes past).pass i (λ _ o _. absurd (cc)) (λ _ o h. c.unspent i x o h);
-}
-ordered_step sizes z past e kept c k by ok w a = record { later = λ i x o h. after_later k sizes past e kept ok c i x o h; unspent = λ i x o h. after_end k sizes z past e kept ok c i x o h }
+ordered_step : (sizes : Sizes) → IsLayout sizes → Keeps sizes (λ (s : State) (w : ℕ → ℕ). Ordered (clock_by sizes s w) (ends_by s))
+ordered_step sizes z past e kept c k by ok w a = ordered_kept sizes.callers (clock_in sizes past) (clock_by sizes (state_by k sizes e (state sizes past)) w) (ends_in sizes past) (ends_by (state_by k sizes e (state sizes past)))
+    (announcements sizes past kept) (near sizes past kept) (ended sizes past kept) c (clock_step k sizes past e kept ok w a) (ends_some k sizes past e ok) (gives_old k sizes z past e kept ok)
 
 -- the ends of lives beside open passes, after each kept journal
-pub ordered : (sizes : Sizes) → IsLayout sizes → (journal : List Event) → IsKept sizes journal → Ordered (state sizes journal)
-ordered sizes z journal kept = holds_all sizes (λ (s : State) (w : ℕ → ℕ). Ordered s) (ordered_step sizes z) (record { later = λ i x o. absurd (cc); unspent = λ i x o. absurd (cc) }) journal kept
+pub ordered : (sizes : Sizes) → IsLayout sizes → (journal : List Event) → IsKept sizes journal → Ordered (clock_in sizes journal) (ends_in sizes journal)
+ordered sizes z journal kept = holds_all sizes (λ (s : State) (w : ℕ → ℕ). Ordered (clock_by sizes s w) (ends_by s)) (ordered_step sizes z) (record { later = λ i x o. absurd (cc); unspent = λ i x o. absurd (cc) }) journal kept
 
 -- a ripe node was spent before each open pass began
 pub ripe_before : (sizes : Sizes) → IsLayout sizes → (journal : List Event) → IsKept sizes journal → (caller x i : ℕ) → IsRipe sizes journal caller x → (pass_in sizes journal i).is_open ≡ true → (node_in sizes journal x).ended ≤ (pass_in sizes journal i).since
-ripe_before sizes z journal kept caller x i r o = ⊎_elim (λ h. h)
-    (λ h. let b = (ordered sizes z journal kept).later i x o h in absurd (omega (arith, b, ripe_now sizes z journal caller x kept r, (near sizes journal kept).near i o)))
-    (le_or_lt (node_in sizes journal x).ended (pass_in sizes journal i).since)
+ripe_before sizes z journal kept caller x i r o = old_end_before (clock_in sizes journal) (ends_in sizes journal) i x (near sizes journal kept) (ordered sizes z journal kept) (ripe_now sizes z journal caller x kept r) o

@@ -1,10 +1,9 @@
--- What holds after each kept journal of the words beside the state: numbers, announcements, and the words of each node by
--- its state.
+-- What holds after each kept journal of the words beside the state: numbers, and the words of each node by its state.
 use Rattle.std.specs.Prelude.{List, ◌≡◌, ◌≢◌, ℕ, ◌+◌, ◌<◌, ◌≤◌, ◌^◌, ◌⊎◌, Bool, true, false, Some, None}
 use Rattle.packed_link.specs.Link.{pack, index_of, mark_of, tag_of, mark_bit, nowhere}
-use Rattle.packed_link.specs.Layout.{Sizes, number_at, epoch_at, announce_at, key_at, link_at, second_at, third_at}
+use Rattle.packed_link.specs.Layout.{Sizes, number_at, epoch_at, key_at, link_at, second_at, third_at}
 use Rattle.packed_link.specs.declared.link.Life.{Life}
-use Rattle.core_journal.specs.State.{Free, Fresh, Linked, Spent, Pass, Node, State}
+use Rattle.core_journal.specs.State.{Free, Fresh, Linked, Spent, Node, State}
 use Rattle.core_journal.specs.declared.event.Kind.{Kind}
 use Rattle.core_journal.specs.declared.event.Event.{Event}
 use Rattle.core_journal.specs.Life.{key_of, link_of, vertex_marked, edge_marked}
@@ -18,19 +17,6 @@ pub record Numbers (sizes : Sizes) (s : State) (w : ℕ → ℕ) : Type 0 where
   pub numbers : w (number_at sizes) ≡ s.drawn
   pub room : s.drawn ≤ sizes.callers
   pub epoch : w (epoch_at sizes) ≡ s.epoch
-
--- an open pass: its announcement is one above an epoch that is at most that of its birth
-pub record IsOpenPass (sizes : Sizes) (epoch count i word : ℕ) (q : Pass) : Type 0 where
-  pub there : i < sizes.callers
-  pub some : 1 ≤ word
-  pub old : word ≤ q.birth + 1
-  pub born : q.birth ≤ epoch
-  pub began : q.since < count
-
--- a caller's announcement is 0 outside its pass
-pub record Announcements (sizes : Sizes) (s : State) (w : ℕ → ℕ) : Type 0 where
-  pub inside : (i : ℕ) → (s.pass i).is_open ≡ true → IsOpenPass sizes s.epoch s.count i (w (announce_at sizes i)) (s.pass i)
-  pub outside : (i : ℕ) → i < sizes.callers → (s.pass i).is_open ≡ false → w (announce_at sizes i) ≡ 0
 
 -- a link word that is marked, of a life with this tag
 pub record IsDeadLink (tag word : ℕ) : Type 0 where
@@ -148,26 +134,6 @@ pub record Named (sizes : Sizes) (journal : List Event) (s : State) : Type 0 whe
 pub record Ends (journal : List Event) : Type 0 where
   pub source : (x : Life) (link : Event) → link_of journal x ≡ Some link → key_of journal link.source ≢ None
   pub target : (x : Life) (link : Event) → link_of journal x ≡ Some link → key_of journal link.target ≡ Some link.key
-
--- an epoch was reached, and an open pass of the caller, if any, began in it or later
-pub record IsClear (seen caller : ℕ) (s : State) : Type 0 where
-  pub reached : seen ≤ s.epoch
-  pub born : (s.pass caller).is_open ≡ true → seen ≤ (s.pass caller).birth
-
--- the epoch is at most one above that in which an open pass began
-pub record IsNear (s : State) : Type 0 where
-  pub near : (i : ℕ) → (s.pass i).is_open ≡ true → s.epoch ≤ (s.pass i).birth + 1
-
--- no life ended in the future
-pub record Ended (s : State) : Type 0 where
-  pub epoch : (x : ℕ) → (s.node x).epoch ≤ s.epoch
-  pub ended : (x : ℕ) → (s.node x).ended ≤ s.count
-
--- the ends of lives beside open passes: a life that ended after a pass began ended in its first epoch or later, and a node
--- that isn't spent had its last end before each open pass began
-pub record Ordered (s : State) : Type 0 where
-  pub later : (i x : ℕ) → (s.pass i).is_open ≡ true → (s.pass i).since < (s.node x).ended → (s.pass i).birth ≤ (s.node x).epoch
-  pub unspent : (i x : ℕ) → (s.pass i).is_open ≡ true → (s.node x).mode ≢ Spent → (s.node x).ended ≤ (s.pass i).since
 
 -- an open pass has met a node: it's linked, or it was spent after the pass began
 pub record IsMet (sizes : Sizes) (journal : List Event) (caller x : ℕ) : Type 0 where

@@ -1,31 +1,27 @@
--- The free list: nodes that lead to one another through their link words, from the word of the free list on.
-use Rattle.std.specs.Prelude.{◌≡◌, ◌≢◌, ℕ, ◌<◌, ◌⊎◌, List, [], ◌∷◌}
-use Rattle.graph_kinds.specs.History.{Every}
-use Rattle.packed_link.specs.Link.{index_of, mark_of, tag_of, nowhere}
+-- The free list after a journal, in the form of core_epoch: nodes that lead to one another through their link words, from the
+-- word of the free list on.
+use Rattle.std.specs.Prelude.{ℕ, Bool, true, false, List}
 use Rattle.packed_link.specs.Layout.{Sizes, free_at, link_at}
-use Rattle.core_journal.specs.State.{Free, State}
+use Rattle.core_epoch.specs.Free.{Pool}
+use Rattle.core_journal.specs.declared.event.Event.{Event}
+use Rattle.core_journal.specs.Machine.{word_at}
+use Rattle.core_journal.specs.State.{Mode, Free, State, state}
 
--- a number stands on a list
-abbrev pub StandsOn : List ℕ → ℕ → Type 0
-StandsOn [] x = ⊥
-StandsOn (y ∷ ys) x = (x ≡ y) ⊎ StandsOn ys x
+-- whether a node is free
+abbrev pub is_free : Mode → Bool
+is_free Free = true
+is_free _ = false
 
--- no number stands twice on a list
-abbrev pub IsOnce : List ℕ → Type 0
-IsOnce [] = Unit {0}
-IsOnce (x ∷ xs) = Every (λ y. y ≢ x) xs × IsOnce xs
+-- the free nodes of a state, with the words that lead through them
+abbrev pub pool_by : Sizes → State → (ℕ → ℕ) → Pool
+pool_by sizes s w = record {
+  first = w (free_at sizes);
+  link = λ x. w (link_at sizes x);
+  is_free = λ x. is_free (s.node x).mode;
+  free = s.free;
+  changes = s.changes;
+}
 
--- from a node on, link after link, one meets these nodes and then none
-abbrev pub Leads : Sizes → (ℕ → ℕ) → ℕ → List ℕ → Type 0
-Leads sizes w i [] = i ≡ nowhere
-Leads sizes w i (x ∷ xs) = (i ≡ x) × (x < sizes.nodes) × Leads sizes w (index_of (w (link_at sizes x))) xs
-
--- the free list holds exactly the free nodes, each once, in the order in which they are met; its word is unmarked, and
--- its tag counts its changes
-pub record FreeList (sizes : Sizes) (s : State) (w : ℕ → ℕ) : Type 0 where
-  pub leads : Leads sizes w (index_of (w (free_at sizes))) s.free
-  pub tag : tag_of (w (free_at sizes)) ≡ s.changes
-  pub unmarked : mark_of (w (free_at sizes)) ≡ 0
-  pub once : IsOnce s.free
-  pub only : Every (λ x. (s.node x).mode ≡ Free) s.free
-  pub all : (x : ℕ) → x < sizes.nodes → (s.node x).mode ≡ Free → StandsOn s.free x
+-- the same after a journal
+abbrev pub pool_in : Sizes → List Event → Pool
+pool_in sizes journal = pool_by sizes (state sizes journal) (word_at sizes journal)

@@ -1,5 +1,6 @@
 pub mod Counts
 pub mod Nodes
+pub mod Moments
 pub mod Passes
 pub mod FreeNodes
 pub mod Vertices
@@ -8,6 +9,12 @@ pub mod Freezing
 pub mod Kept
 pub mod Facts
 pub mod Free
+pub mod Standings
 pub mod Rule
 pub mod Owes
 pub mod Plays
+pub mod Chains
+pub mod Effects
+pub mod Fronts
+pub mod OwnEvents
+pub mod Raised

@@ -1,6 +1,7 @@
 -- When a number may be drawn, a pass be opened and closed, and the epoch be moved on.
-use Rattle.std.specs.Prelude.{◌≡◌, ℕ, ◌+◌, ◌<◌, ◌≤◌, ◌⊎◌, true, false, List}
+use Rattle.std.specs.Prelude.{◌≡◌, ℕ, ◌+◌, ◌<◌, true, false, List}
 use Rattle.packed_link.specs.Layout.{Sizes, number_at, epoch_at, announce_at}
+use Rattle.core_epoch.specs.Steps.{IsFoundClear}
 use Rattle.core_journal.specs.declared.event.Event.{Event}
 use Rattle.core_journal.specs.Event.{no_life}
 use Rattle.core_journal.specs.Prefix.{IsPrefix}
@@ -8,6 +9,7 @@ use Rattle.core_journal.specs.Machine.{word_at}
 use Rattle.core_journal.specs.State.{state}
 use Rattle.core_journal.specs.Reuse.{pass_in}
 use Rattle.core_rule.specs.Counts.{moves, made, most_moves}
+use Rattle.core_rule.specs.Moments.{clock_in}
 
 -- a caller draws the next number, which is its own from then on, while there are some left
 pub record IsDrawNumber (sizes : Sizes) (past : List Event) (e : Event) : Type 0 where
@@ -40,7 +42,7 @@ pub record IsChecked (sizes : Sizes) (from past : List Event) (seen caller : ℕ
   pub moment : List Event
   pub after : IsPrefix from moment
   pub before : IsPrefix moment past
-  pub clear : (word_at sizes moment (announce_at sizes caller) ≡ 0) ⊎ (seen + 1 ≤ word_at sizes moment (announce_at sizes caller))
+  pub clear : IsFoundClear seen caller (clock_in sizes moment)
 
 -- a caller without a pass moves the epoch on: it loaded the epoch, and after that it checked the announcement of each caller
 pub record IsMoveEpoch (sizes : Sizes) (past : List Event) (e : Event) : Type 0 where

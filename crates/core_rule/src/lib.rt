@@ -4,16 +4,39 @@
 //! of the table are laws of kept journals. The crate has definitions and laws, and no code.
 #![tactic(auto)]
 
+mod buckets;
+mod effects;
 mod graph;
 mod journals;
+mod lifts;
+mod lists;
 mod own;
+mod raises;
+mod reuse;
 mod rule;
 mod view;
 mod words;
 
+pub use buckets::{
+    a_present_vertex_is_on_its_chain, buckets_hold_their_vertices, one_present_vertex_has_a_key,
+};
+pub use effects::{each_kind_has_its_effect, kept_journals_are_regular};
 pub use graph::{edges_have_ends, links_are_new};
 pub use journals::{a_vertex_is_added, kept_journals_grow};
+pub use lifts::{
+    steps_on_closed_lists_are_allowed, steps_on_edges_are_allowed, steps_on_free_nodes_are_allowed,
+    steps_on_passes_are_allowed, steps_on_vertices_are_allowed,
+};
+pub use lists::{
+    a_present_edge_is_on_its_list, edges_of_a_pair_differ, frozen_parts_are_handed_over,
+    linked_edges_are_at_their_source, lists_hold_their_edges,
+};
 pub use own::{callers_have_numbers, own_events_are_counted, own_facts_stay};
+pub use raises::marked_edges_were_linked_at_a_lower_counter;
+pub use reuse::{
+    each_node_has_one_standing, nodes_are_given_again_safely, ripe_nodes_are_not_met,
+    spent_nodes_stay_with_their_caller, what_is_met_keeps_its_words,
+};
 pub use rule::{
     a_draw_keeps_the_rule, a_last_token_knows_the_journal, a_new_table_meets_the_rule,
     a_reply_keeps_the_rule, splits_and_joins_keep_the_rule, steps_keep_the_rule,

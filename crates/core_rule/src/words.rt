@@ -1,11 +1,15 @@
 //! The laws of the words beside the state: what the words of the table are after each kept journal.
 //!
 //! The state after a journal (core_journal's `state`) has no words, and the words have no states; each record of
-//! `specs/Facts.antt` and `specs/Free.antt` ties some of them together. They are proved by one induction each.
+//! `specs/Facts.antt` ties some of them together. They are proved by one induction each. What core_epoch has laws of, passes,
+//! ends of lives and the free list, is said here of the state in its form (`specs/Moments.antt`, `specs/Free.antt`).
 
 ghost use Rattle.std.specs.Prelude.{◌≡◌, ◌≢◌, ℕ, ◌+◌, ◌<◌, ◌≤◌, true, false, List};
 ghost use Rattle.packed_link.specs.Link.{index_of, mark_of};
 ghost use Rattle.packed_link.specs.Layout.{Sizes, IsLayout, epoch_at, free_at, link_at, second_at};
+ghost use Rattle.core_epoch.specs.Clock.{Announcements, IsClear, IsNear};
+ghost use Rattle.core_epoch.specs.Ends.{Ended, Ordered};
+ghost use Rattle.core_epoch.specs.Free.{FreeList};
 ghost use Rattle.core_journal.specs.declared.event.Event.{Event};
 ghost use Rattle.core_journal.specs.Prefix.{IsPrefix};
 ghost use Rattle.core_journal.specs.Machine.{word_at};
@@ -14,9 +18,10 @@ ghost use Rattle.core_journal.specs.Reuse.{pass_in};
 ghost use Rattle.core_rule.specs.Nodes.{IsRipe, node_in};
 ghost use Rattle.core_rule.specs.FreeNodes.{IsPopFree};
 ghost use Rattle.core_rule.specs.Kept.{IsKept};
-ghost use Rattle.core_rule.specs.Facts.{Announcements, Bounds, Contents, Counters, LinkWords, LinkedOnce, Lives, Named, Numbers};
-ghost use Rattle.core_rule.specs.Facts.{Ended, IsClear, IsMet, IsNear, Ordered};
-ghost use Rattle.core_rule.specs.Free.{FreeList};
+ghost use Rattle.core_rule.specs.Facts.{Bounds, Contents, Counters, LinkWords, LinkedOnce, Lives, Named, Numbers};
+ghost use Rattle.core_rule.specs.Facts.{IsMet};
+ghost use Rattle.core_rule.specs.Free.{pool_in};
+ghost use Rattle.core_rule.specs.Moments.{clock_in, ends_in};
 ghost use Rattle.core_rule.specs.Passes.{IsChecked};
 
 /// The first words are the number of caller numbers drawn, at most one a caller, and the epoch, which only rises.
@@ -30,7 +35,7 @@ pub fn first_words_count()
 /// A caller's announcement is 0 outside its pass, and in it one above an epoch that is no later than the pass's birth.
 pub fn announcements_tell_passes()
     ensures { (sizes : Sizes) (journal : List Event) → IsKept sizes journal
-        → Announcements sizes (state sizes journal) (word_at sizes journal) }
+        → Announcements sizes.callers (clock_in sizes journal) }
 {}
 
 /// The free list holds exactly the free nodes, each once, and its word's tag counts its changes. So a node that is taken
@@ -38,7 +43,7 @@ pub fn announcements_tell_passes()
 /// was, that link is still the same.
 pub fn free_list_is_exact()
     ensures list { (sizes : Sizes) → IsLayout sizes → (journal : List Event) → IsKept sizes journal
-        → FreeList sizes (state sizes journal) (word_at sizes journal) }
+        → FreeList sizes.nodes (pool_in sizes journal) }
     ensures free { (sizes : Sizes) → IsLayout sizes → (past : List Event) (e : Event) → IsKept sizes past
         → IsPopFree sizes past e → (node_in sizes past e.life.index).mode ≡ Free }
     ensures next_life { (sizes : Sizes) → IsLayout sizes → (past : List Event) (e : Event) → IsKept sizes past
@@ -117,18 +122,19 @@ pub fn nodes_tell_their_lives()
 /// An open pass began at most one epoch ago. A caller that was checked after an epoch was seen has no pass that began before
 /// that epoch, whatever began in between.
 pub fn passes_are_near_the_epoch()
-    ensures near { (sizes : Sizes) (journal : List Event) → IsKept sizes journal → IsNear (state sizes journal) }
+    ensures near { (sizes : Sizes) (journal : List Event) → IsKept sizes journal → IsNear (clock_in sizes journal) }
     ensures checked { (sizes : Sizes) (from past : List Event) (caller : ℕ) → caller < sizes.callers
         → IsKept sizes past → IsChecked sizes from past (word_at sizes from (epoch_at sizes)) caller
-        → IsClear (word_at sizes from (epoch_at sizes)) caller (state sizes past) }
+        → IsClear (word_at sizes from (epoch_at sizes)) caller (clock_in sizes past) }
 {}
 
 /// No life ended in the future; a life that ended after an open pass began ended in the epoch of its birth or later; and a
 /// ripe node was spent before each open pass began, so no open pass can have met it.
 pub fn ripe_nodes_ended_before_passes()
-    ensures ended { (sizes : Sizes) (journal : List Event) → IsKept sizes journal → Ended (state sizes journal) }
+    ensures ended { (sizes : Sizes) (journal : List Event) → IsKept sizes journal
+        → Ended (clock_in sizes journal) (ends_in sizes journal) }
     ensures ordered { (sizes : Sizes) → IsLayout sizes → (journal : List Event) → IsKept sizes journal
-        → Ordered (state sizes journal) }
+        → Ordered (clock_in sizes journal) (ends_in sizes journal) }
     ensures ripe { (sizes : Sizes) → IsLayout sizes → (journal : List Event) → IsKept sizes journal
         → (caller x i : ℕ) → IsRipe sizes journal caller x → (pass_in sizes journal i).is_open ≡ true
         → (node_in sizes journal x).ended ≤ (pass_in sizes journal i).since }

@@ -1,0 +1,403 @@
+-- The list of each vertex after each kept journal as a chain, and what each kind of event does to it.
+use Rattle.std.proofs.Common.{◌≡◌, ◌≢◌, ◌⊎◌, ℕ, ◌+◌, ◌<◌, Bool, true, false, cond, List, [], ◌∷◌, ◌++◌, refl, sym, ap, ◌∙◌, subst, arith, ⊎_elim, inl, inr}
+use Rattle.std.specs.Prelude.{take_while}
+use mathlib.Core.Logic.{dite}
+use native.Mathlib.Decide.{ℕ_discrete}
+use Rattle.packed_link.specs.Link.{pack, nowhere, index_of, mark_of, tag_of, with_mark}
+use Rattle.packed_link.specs.Layout.{Sizes, IsLayout, word_count, bucket_at, key_at, link_at, second_at}
+use Rattle.packed_link.specs.declared.link.Life.{Life}
+use Rattle.packed_link.proofs.Links.{index_of-pack, index_of-bound}
+use Rattle.core_chain.specs.Chain.{Chain, Position, Head, Node, IsOn, IsChain}
+use Rattle.core_chain.specs.Met.{Meets, IsMet}
+use Rattle.core_chain.specs.Steps.{CanInsert, CanUnlink, Inserts, Joins, Leaves, Marks, Unlinks, SetsMark, Untouched}
+use Rattle.core_chain.specs.Table.{StandsAlone, Writes, chain_in}
+use Rattle.core_chain.specs.Walk.{IsBelow}
+use Rattle.core_chain.proofs.Inserts.{IsChain-inserted}
+use Rattle.core_chain.proofs.Marks.{IsChain-marked, IsChain-untouched}
+use Rattle.core_chain.proofs.Meets.{IsMet-from_Meets, IsChain-from_IsMet}
+use Rattle.core_chain.proofs.Tables.{Inserts-in, SetsMark-in, Unlinks-in}
+use Rattle.core_chain.proofs.Unlinks.{IsChain-unlinked}
+use Rattle.core_journal.specs.declared.event.Kind.{Kind}
+use Rattle.core_journal.specs.declared.event.Kind.TheVariants.{PopFree, StorePrivate, LinkVertex, MarkVertex, UnlinkVertex, LinkEdge, Raise, MarkEdge, UnlinkEdge, FreezeHead, FreezeEdge, StoreFree, PushFree}
+use Rattle.core_journal.specs.declared.event.Event.{Event}
+use Rattle.core_journal.specs.Machine.{word_at}
+use Rattle.core_journal.specs.State.{Mode, Free, Fresh, Linked, Spent, Node as Nodes, State, put, linked_in, unlinked_from, state_by, opening, state}
+use Rattle.core_rule.specs.Kept.{AllowedAs, IsKept}
+use Rattle.core_rule.specs.Nodes.{node_in, IsUsed}
+use Rattle.core_rule.specs.Edges.{IsLinkEdge, IsUnlinkEdge}
+use Rattle.core_rule.specs.Vertices.{IsLinkVertex}
+use Rattle.core_rule.specs.Chains.{list_word, list_places, is_listed, edge_chain, HasList, EdgeLists}
+use Rattle.core_rule.proofs.Steps.{IsAfter, Keeps, put_case, put_same, put_other, holds_all}
+use Rattle.core_rule.proofs.LinkWords.{taken}
+use Rattle.core_rule.proofs.Contents.{contents}
+use Rattle.core_rule.proofs.Meets.{AreLinks, stands, meets_inserted, meets_unlinked, meets_marked, meets_untouched, joins_linked, leaves_unlinked}
+use Rattle.core_rule.proofs.ListParts.{IsWordOf, linked_none, unlinked_none}
+use Rattle.core_rule.proofs.Listed.{IsFinished, Listing, ListingOf, value_of}
+use Rattle.core_rule.proofs.ListSteps.{listing, link_only, popped_not, popped_list, IsNoVertex, IsOpenIn, open_before, open_linked, has_open}
+
+-- the list of a vertex, by a state and the words
+abbrev pub list_chain : Sizes → State → (ℕ → ℕ) → ℕ → Chain
+list_chain sizes s w x = chain_in w (list_places sizes x) (is_listed s x)
+
+-- a chain along which one meets the state's list
+pub record IsList (sizes : Sizes) (s : State) (w : ℕ → ℕ) (x : ℕ) : Type 0 where
+  pub chain : IsChain (list_chain sizes s w x)
+  pub met : Meets (list_chain sizes s w x) Head (s.edges x)
+
+pub record Lists (sizes : Sizes) (s : State) (w : ℕ → ℕ) : Type 0 where
+  pub each : (x : ℕ) → IsOpenIn sizes s x → IsList sizes s w x
+
+-- the words of a list are the second word of its vertex and the links
+list_links : (sizes : Sizes) (x : ℕ) → AreLinks sizes (list_places sizes x)
+list_links sizes x = record { links = λ y. refl; apart = λ y h. omega arith }
+
+-- the words and the keys of a list stand apart from one another
+alone : (sizes : Sizes) (x : ℕ) (at : Position) → StandsAlone (list_places sizes x) at
+alone sizes x Head = record { words = λ p ne h. word p ne h; keys = λ y h. omega arith }
+  where
+    word : (p : Position) → p ≢ Head → list_word sizes x p ≢ second_at sizes x
+    word Head ne h = ne refl
+    word (Node y) ne h = omega arith
+alone sizes x (Node n) = record { words = λ p ne h. word p ne h; keys = λ y h. omega arith }
+  where
+    word : (p : Position) → p ≢ Node n → list_word sizes x p ≢ link_at sizes n
+    word Head ne h = omega arith
+    word (Node y) ne h = ne (ap Node (omega arith))
+
+-- a list that stays
+stays : (sizes : Sizes) (s s' : State) (w w' : ℕ → ℕ) (x : ℕ) → s'.edges x ≡ s.edges x → Untouched (list_chain sizes s w x) (list_chain sizes s' w' x) → IsList sizes s w x → IsList sizes s' w' x
+stays sizes s s' w w' x same step b = record {
+  chain = IsChain-untouched (list_chain sizes s w x) (list_chain sizes s' w' x) b.chain step;
+  met = subst (λ (l : List ℕ). Meets (list_chain sizes s' w' x) Head l) (sym same) (meets_untouched (list_chain sizes s w x) (list_chain sizes s' w' x) (s.edges x) b.chain step b.met);
+}
+
+-- a list of which a word gets its mark
+marks : (sizes : Sizes) (s s' : State) (w w' : ℕ → ℕ) (x : ℕ) (at : Position) → s'.edges x ≡ s.edges x → SetsMark (list_chain sizes s w x) (list_chain sizes s' w' x) at → IsList sizes s w x → IsList sizes s' w' x
+marks sizes s s' w w' x at same step b = record {
+  chain = IsChain-marked (list_chain sizes s w x) (list_chain sizes s' w' x) at b.chain step;
+  met = subst (λ (l : List ℕ). Meets (list_chain sizes s' w' x) Head l) (sym same) (meets_marked (list_chain sizes s w x) (list_chain sizes s' w' x) at (s.edges x) b.chain step b.met);
+}
+
+-- the place of an event is no word and no key of a list
+pub record IsOff (sizes : Sizes) (past : List Event) (e : Event) (x : ℕ) : Type 0 where
+  pub head : e.place ≢ second_at sizes x
+  pub links : (y : ℕ) → stands y ((state sizes past).edges x) ≡ true → e.place ≢ link_at sizes y
+  pub keys : (y : ℕ) → stands y ((state sizes past).edges x) ≡ true → e.place ≢ key_at sizes y
+
+-- an event that writes no word of a list leaves it as it is, where the list stays
+pub untouched : (sizes : Sizes) (past : List Event) (e : Event) (w : ℕ → ℕ) (s' : State) (x : ℕ) → IsAfter sizes past e w → IsOff sizes past e x → s'.edges x ≡ (state sizes past).edges x → Untouched (edge_chain sizes past x) (list_chain sizes s' w x)
+untouched sizes past e w s' x a off same = record {
+  nodes = λ y. ap (λ (l : List ℕ). stands y l) same;
+  key = λ y on. a.else (key_at sizes y) (λ h. off.keys y on (sym h));
+  next = λ p on. ap index_of (word p on);
+  mark = λ p on. ap mark_of (word p on);
+}
+  where
+    word : (p : Position) → IsOn (edge_chain sizes past x) p → w (list_word sizes x p) ≡ word_at sizes past (list_word sizes x p)
+    word Head on = a.else (second_at sizes x) (λ h. off.head (sym h))
+    word (Node y) on = a.else (link_at sizes y) (λ h. off.links y on (sym h))
+
+-- an event writes one word of a list
+writes_at : (sizes : Sizes) (past : List Event) (e : Event) (w : ℕ → ℕ) (place word : ℕ) → IsAfter sizes past e w → place ≡ e.place → e.place < word_count sizes → e.word ≡ word → Writes (word_at sizes past) w place word
+writes_at sizes past e w place word a at near is = record { written = ap w at ∙ (a.here near ∙ is); others = λ i ne. a.else i (λ h. ne (h ∙ sym at)) }
+
+-- the kinds that change no list of edges
+abbrev pub IsOffLists : Kind → Type 0
+IsOffLists LinkEdge = ⊥
+IsOffLists MarkEdge = ⊥
+IsOffLists UnlinkEdge = ⊥
+IsOffLists FreezeHead = ⊥
+IsOffLists FreezeEdge = ⊥
+IsOffLists _ = Unit {0}
+
+module _ (sizes : Sizes) (z : IsLayout sizes) (past : List Event) (e : Event) (kept : IsKept sizes past) (x : ℕ) (o : IsOpenIn sizes (state sizes past) x) where
+  here : ListingOf sizes (state sizes past)
+  here = listing sizes z past kept
+
+  -- such a kind writes no word of a list
+  off_idle : (k : Kind) → IsOffLists k → AllowedAs k sizes past e → IsOff sizes past e x
+  off_idle LinkEdge n ok = absurd n
+  off_idle MarkEdge n ok = absurd n
+  off_idle UnlinkEdge n ok = absurd n
+  off_idle FreezeHead n ok = absurd n
+  off_idle FreezeEdge n ok = absurd n
+  off_idle PopFree n ok = record { head = λ h. omega (arith, ok.place, h); links = λ y _ h. omega (arith, ok.place, h); keys = λ y _ h. omega (arith, ok.place, h) }
+  off_idle PushFree n ok = record { head = λ h. omega (arith, ok.place, h); links = λ y _ h. omega (arith, ok.place, h); keys = λ y _ h. omega (arith, ok.place, h) }
+  off_idle StorePrivate n ok =
+      let apart : (y : ℕ) → (node_in sizes past y).mode ≢ Fresh → y ≢ e.life.index = λ y f same. f (ap (λ (i : ℕ). (node_in sizes past i).mode) same ∙ ok.fresh.fresh) in
+      let not_x : x ≢ e.life.index = apart x (λ f. subst IsUsed f o.used) in
+      record {
+        head = λ h. not_x (omega (arith, ok.place, h));
+        links = λ y t h. apart y (here.on x y t).unfresh (omega (arith, ok.place, h));
+        keys = λ y t h. apart y (here.on x y t).unfresh (omega (arith, ok.place, h));
+      }
+  off_idle LinkVertex n ok = record {
+    head = λ h. omega (arith, ok.place, h);
+    links = λ y t h. let v = (ok.linked y h).vertex in let b = (here.on x y t).edge in absurd (cc);
+    keys = λ y _ h. omega (arith, ok.place, h);
+  }
+  off_idle UnlinkVertex n ok = record {
+    head = λ h. omega (arith, ok.place, h);
+    links = λ y t h. let v = (ok.before_linked y h).vertex in let b = (here.on x y t).edge in absurd (cc);
+    keys = λ y _ h. omega (arith, ok.place, h);
+  }
+  off_idle MarkVertex n ok = record {
+    head = λ h. omega (arith, ok.place, h);
+    links = λ y t h. let same : e.life.index ≡ y = omega (arith, ok.place, h) in let v = ap (λ (i : ℕ). (node_in sizes past i).vertex) (sym same) ∙ ok.linked.vertex in let b = (here.on x y t).edge in absurd (cc);
+    keys = λ y _ h. omega (arith, ok.place, h);
+  }
+  off_idle StoreFree n ok = record {
+    head = λ h. omega (arith, ok.place, h);
+    links = λ y t h. let same : y ≡ e.life.index = omega (arith, ok.place, h) in let f = ok.list x o.there (subst (λ (i : ℕ). stands i ((state sizes past).edges x) ≡ true) same t) in o.unfinished record { head = f.head; each = f.edges };
+    keys = λ y _ h. omega (arith, ok.place, h);
+  }
+  off_idle _ n ok = record { head = λ h. omega (arith, ok.place, ok.there, h); links = λ y _ h. omega (arith, ok.place, ok.there, h); keys = λ y _ h. omega (arith, ok.place, ok.there, h) }
+
+  -- and changes no list
+  same_idle : (k : Kind) → IsOffLists k → AllowedAs k sizes past e → (state_by k sizes e (state sizes past)).edges x ≡ (state sizes past).edges x
+  same_idle LinkEdge n ok = absurd n
+  same_idle MarkEdge n ok = absurd n
+  same_idle UnlinkEdge n ok = absurd n
+  same_idle FreezeHead n ok = absurd n
+  same_idle FreezeEdge n ok = absurd n
+  same_idle PopFree n ok = popped_list sizes (state sizes past).node (state sizes past).edges (state sizes past).frozen here e.life.index (record (node_in sizes past e.life.index) { mode = Fresh; who = e.caller; tag = e.life.tag; marked = false; stored = false }) (taken sizes z past e kept ok).free refl x o
+  same_idle _ n ok = refl
+
+  -- so it leaves the list untouched
+  pub idle_list : (k : Kind) → IsOffLists k → AllowedAs k sizes past e → (w : ℕ → ℕ) → IsAfter sizes past e w → Untouched (edge_chain sizes past x) (list_chain sizes (state_by k sizes e (state sizes past)) w x)
+  idle_list k n ok w a = untouched sizes past e w (state_by k sizes e (state sizes past)) x a (off_idle k n ok) (same_idle k n ok)
+
+  -- an edge on the list is one of its vertex
+  of_source : (y : ℕ) → stands y ((state sizes past).edges x) ≡ true → (node_in sizes past y).source.index ≡ x
+  of_source y t = (here.on x y t).index
+
+  -- what is linked to another list
+  off_link : IsLinkEdge sizes past e → x ≢ e.source.index → IsOff sizes past e x
+  off_link ok ne = record {
+    head = λ h. ne (link_only sizes z past e kept here ok x (inl h));
+    links = λ y t h. ne (link_only sizes z past e kept here ok x (inr (y, t, h)));
+    keys = λ y _ h. omega (arith, ok.place, h);
+  }
+
+  same_link : (ok : IsLinkEdge sizes past e) → x ≢ e.source.index → linked_in sizes (second_at sizes x) e.place e.life.index ((state sizes past).edges x) ≡ (state sizes past).edges x
+  same_link ok ne = linked_none sizes (second_at sizes x) e.place e.life.index ((state sizes past).edges x) (λ at. ne (link_only sizes z past e kept here ok x at))
+
+  -- what is unlinked from another list
+  off_unlink : IsUnlinkEdge sizes past e → x ≢ (node_in sizes past e.life.index).source.index → IsOff sizes past e x
+  off_unlink ok ne = record {
+    head = λ h. ne (omega (arith, ok.place, h));
+    links = λ y t h. ne (sym (of_source y t) ∙ ap (λ (l : Life). l.index) (ok.before_linked y h).from);
+    keys = λ y _ h. omega (arith, ok.place, h);
+  }
+
+  same_unlink : x ≢ (node_in sizes past e.life.index).source.index → unlinked_from e.life.index ((state sizes past).edges x) ≡ (state sizes past).edges x
+  same_unlink ne = unlinked_none e.life.index ((state sizes past).edges x)
+      (value_of (stands e.life.index ((state sizes past).edges x) ≡ false) (stands e.life.index ((state sizes past).edges x)) (λ t. absurd (ne (sym (of_source e.life.index t)))) (λ f. f))
+
+  -- what is marked on another list
+  pub off_mark : e.place ≡ link_at sizes e.life.index → x ≢ (node_in sizes past e.life.index).source.index → IsOff sizes past e x
+  off_mark place ne = record {
+    head = λ h. omega (arith, place, h);
+    links = λ y t h. let same : e.life.index ≡ y = omega (arith, place, h) in ne (sym (ap (λ (i : ℕ). (node_in sizes past i).source.index) same ∙ of_source y t));
+    keys = λ y _ h. omega (arith, place, h);
+  }
+
+  -- another list is closed
+  pub off_close : e.place ≡ second_at sizes e.life.index → x ≢ e.life.index → IsOff sizes past e x
+  off_close place ne = record { head = λ h. ne (omega (arith, place, h)); links = λ y _ h. omega (arith, place, h); keys = λ y _ h. omega (arith, place, h) }
+
+-- an event writes a word of a list
+pub record IsSpot (sizes : Sizes) (past : List Event) (e : Event) (x : ℕ) : Type 0 where
+  pub at : Position
+  pub place : list_word sizes x at ≡ e.place
+  pub on : IsOn (edge_chain sizes past x) at
+  pub behind : (y : ℕ) → at ≡ Node y → stands y ((state sizes past).edges x) ≡ true
+
+-- an edge is linked: it's inserted into the list of its source
+module _ (sizes : Sizes) (z : IsLayout sizes) (past : List Event) (e : Event) (kept : IsKept sizes past) (ok : IsLinkEdge sizes past e) where
+  abbrev link_home : ℕ
+  link_home = e.source.index
+
+  abbrev link_state : State
+  link_state = state_by LinkEdge sizes e (state sizes past)
+
+  -- a linked edge of a source is on its list
+  link_behind : (y : ℕ) → y < sizes.nodes → e.place ≡ link_at sizes y → stands y ((state sizes past).edges link_home) ≡ true
+  link_behind y t h =
+      let f = ok.linked y h in
+      subst (λ (l : Life). stands y ((state sizes past).edges l.index) ≡ true) f.from ((listing sizes z past kept).source y t f.linked.linked f.linked.edge).on
+
+  pub link_spot : IsSpot sizes past e link_home
+  link_spot = ⊎_elim
+      (λ h. record { at = Head; place = sym h.0; on = tt; behind = λ y p. absurd (cc) })
+      (λ h.
+      let t = link_behind ok.before h.1 h.0 in
+      record { at = Node ok.before; place = sym h.0; on = t; behind = λ y p. let q : ok.before ≡ y = cc in subst (λ (v : ℕ). stands v ((state sizes past).edges link_home) ≡ true) q t })
+      ok.place
+
+  pub link_can : (s : IsSpot sizes past e link_home) → CanInsert (edge_chain sizes past link_home) s.at e.life.index
+  link_can s =
+      let word : word_at sizes past (list_word sizes link_home s.at) ≡ word_at sizes past e.place = ap (word_at sizes past) s.place in
+      record {
+        passes = record {
+          present = s.on;
+          above = above s.at s.place;
+          below = subst (λ (i : ℕ). index_of i ≢ nowhere → word_at sizes past (key_at sizes e.life.index) < word_at sizes past (key_at sizes (index_of i))) (sym word)
+              (λ some. let k = ok.filled.key_word in let g = ok.gap.above some in omega arith);
+        };
+        unmarked = ap mark_of word ∙ ok.unmarked;
+        named = λ none. omega (arith, ok.there, z.few_nodes, none);
+        absent = λ on. ((listing sizes z past kept).on link_home e.life.index on).unfresh ok.fresh.fresh;
+        filled = ap index_of ok.filled.link_word ∙ (index_of-pack (index_of (word_at sizes past e.place)) 0 (node_in sizes past e.life.index).tag (index_of-bound (word_at sizes past e.place)) ∙ ap index_of (sym word));
+      }
+    where
+      above : (p : Position) → list_word sizes link_home p ≡ e.place → IsBelow (edge_chain sizes past link_home) p (word_at sizes past (key_at sizes e.life.index))
+      above Head at = tt
+      above (Node y) at = let k = ok.filled.key_word in let g = ok.gap.below y (sym at) in omega arith
+
+  link_near : e.place < word_count sizes
+  link_near = omega (arith, ok.place)
+
+  link_nodes : (s : IsSpot sizes past e link_home) → Joins (is_listed (state sizes past) link_home) (is_listed link_state link_home) e.life.index
+  link_nodes s = subst (λ (p : ℕ). Joins (is_listed (state sizes past) link_home) (λ y. stands y (linked_in sizes (second_at sizes link_home) p e.life.index ((state sizes past).edges link_home))) e.life.index) s.place
+      (joins_linked sizes (list_places sizes link_home) (list_links sizes link_home) s.at e.life.index ((state sizes past).edges link_home) (λ y at. s.behind y at))
+
+  module _ (w : ℕ → ℕ) (a : IsAfter sizes past e w) where
+    pub link_inserts : (s : IsSpot sizes past e link_home) → Inserts (edge_chain sizes past link_home) (list_chain sizes link_state w link_home) s.at e.life.index
+    link_inserts s =
+        Inserts-in (word_at sizes past) w (list_places sizes link_home) (is_listed (state sizes past) link_home) (is_listed link_state link_home) s.at e.life.index (tag_of (word_at sizes past e.place))
+        (alone sizes link_home s.at) (omega (arith, ok.there, z.few_nodes)) (link_can s) (writes_at sizes past e w _ _ a s.place link_near ok.word) (link_nodes s)
+
+    pub link_others : (x : ℕ) → IsOpenIn sizes (state sizes past) x → x ≢ link_home → Untouched (edge_chain sizes past x) (list_chain sizes link_state w x)
+    link_others x o ne = untouched sizes past e w link_state x a (off_link sizes z past e kept x o ok ne) (same_link sizes z past e kept x o ok ne)
+
+    link_list : (x : ℕ) → IsOpenIn sizes (state sizes past) x → IsList sizes (state sizes past) (word_at sizes past) x → IsList sizes link_state w x
+    link_list x o b = dite (ℕ_discrete x link_home)
+        (λ same.
+        let s = link_spot in
+        let step = link_inserts s in
+        let old : IsList sizes (state sizes past) (word_at sizes past) link_home = subst (IsList sizes (state sizes past) (word_at sizes past)) same b in
+        subst (IsList sizes link_state w) (sym same) record {
+          chain = IsChain-inserted (edge_chain sizes past link_home) (list_chain sizes link_state w link_home) s.at e.life.index old.chain step;
+          met = subst (λ (p : ℕ). Meets (list_chain sizes link_state w link_home) Head (linked_in sizes (second_at sizes link_home) p e.life.index ((state sizes past).edges link_home))) s.place
+              (meets_inserted sizes (list_places sizes link_home) (list_links sizes link_home) (edge_chain sizes past link_home) (list_chain sizes link_state w link_home) s.at e.life.index ((state sizes past).edges link_home) old.chain step old.met);
+        })
+        (λ ne. stays sizes (state sizes past) link_state (word_at sizes past) w x (same_link sizes z past e kept x o ok ne) (link_others x o ne) b)
+
+-- a marked edge is unlinked from the list of its source
+module _ (sizes : Sizes) (z : IsLayout sizes) (past : List Event) (e : Event) (kept : IsKept sizes past) (ok : IsUnlinkEdge sizes past e) where
+  abbrev cut_home : ℕ
+  cut_home = (node_in sizes past e.life.index).source.index
+
+  abbrev cut_state : State
+  cut_state = state_by UnlinkEdge sizes e (state sizes past)
+
+  cut_behind : (y : ℕ) → y < sizes.nodes → e.place ≡ link_at sizes y → stands y ((state sizes past).edges cut_home) ≡ true
+  cut_behind y t h =
+      let f = ok.before_linked y h in
+      subst (λ (l : Life). stands y ((state sizes past).edges l.index) ≡ true) f.from ((listing sizes z past kept).source y t f.linked.linked f.linked.edge).on
+
+  pub cut_spot : IsSpot sizes past e cut_home
+  cut_spot = ⊎_elim
+      (λ h. record { at = Head; place = sym h.0; on = tt; behind = λ y p. absurd (cc) })
+      (λ h.
+      let t = cut_behind ok.before h.1 h.0 in
+      record { at = Node ok.before; place = sym h.0; on = t; behind = λ y p. let q : ok.before ≡ y = cc in subst (λ (v : ℕ). stands v ((state sizes past).edges cut_home) ≡ true) q t })
+      ok.place
+
+  cut_can : (s : IsSpot sizes past e cut_home) → CanUnlink (edge_chain sizes past cut_home) s.at e.life.index
+  cut_can s =
+      let word : word_at sizes past (list_word sizes cut_home s.at) ≡ word_at sizes past e.place = ap (word_at sizes past) s.place in
+      record { present = s.on; unmarked = ap mark_of word ∙ ok.unmarked; named = λ none. omega (arith, ok.there, z.few_nodes, none); led = ap index_of word ∙ ok.leads; marked = ok.dead }
+
+  module _ (w : ℕ → ℕ) (a : IsAfter sizes past e w) where
+    pub cut_unlinks : (s : IsSpot sizes past e cut_home) → Unlinks (edge_chain sizes past cut_home) (list_chain sizes cut_state w cut_home) s.at e.life.index
+    cut_unlinks s =
+        Unlinks-in (word_at sizes past) w (list_places sizes cut_home) (is_listed (state sizes past) cut_home) (is_listed cut_state cut_home) s.at e.life.index (tag_of (word_at sizes past e.place))
+        (alone sizes cut_home s.at) (cut_can s) (writes_at sizes past e w _ _ a s.place (omega (arith, ok.place)) ok.word) (leaves_unlinked e.life.index ((state sizes past).edges cut_home))
+
+    pub cut_others : (x : ℕ) → IsOpenIn sizes (state sizes past) x → x ≢ cut_home → Untouched (edge_chain sizes past x) (list_chain sizes cut_state w x)
+    cut_others x o ne = untouched sizes past e w cut_state x a (off_unlink sizes z past e kept x o ok ne) (same_unlink sizes z past e kept x o ne)
+
+    cut_list : (x : ℕ) → IsOpenIn sizes (state sizes past) x → IsList sizes (state sizes past) (word_at sizes past) x → IsList sizes cut_state w x
+    cut_list x o b = dite (ℕ_discrete x cut_home)
+        (λ same.
+        let s = cut_spot in
+        let step = cut_unlinks s in
+        let old : IsList sizes (state sizes past) (word_at sizes past) cut_home = subst (IsList sizes (state sizes past) (word_at sizes past)) same b in
+        subst (IsList sizes cut_state w) (sym same) record {
+          chain = IsChain-unlinked (edge_chain sizes past cut_home) (list_chain sizes cut_state w cut_home) s.at e.life.index old.chain step;
+          met = meets_unlinked (edge_chain sizes past cut_home) (list_chain sizes cut_state w cut_home) s.at e.life.index ((state sizes past).edges cut_home) old.chain step old.met;
+        })
+        (λ ne. stays sizes (state sizes past) cut_state (word_at sizes past) w x (same_unlink sizes z past e kept x o ne) (cut_others x o ne) b)
+
+-- a word of a list gets its mark, and the list stays
+module _ (sizes : Sizes) (past : List Event) (e : Event) (s' : State) (same : (x : ℕ) → s'.edges x ≡ (state sizes past).edges x) (home : ℕ) (at : Position) (place : list_word sizes home at ≡ e.place) (near : e.place < word_count sizes)
+    (word : e.word ≡ with_mark (word_at sizes past e.place)) (w : ℕ → ℕ) (a : IsAfter sizes past e w) where
+  pub mark_sets : SetsMark (edge_chain sizes past home) (list_chain sizes s' w home) at
+  mark_sets = SetsMark-in (word_at sizes past) w (list_places sizes home) (is_listed (state sizes past) home) (is_listed s' home) at (alone sizes home at)
+      (writes_at sizes past e w _ _ a place near (word ∙ ap (λ (i : ℕ). with_mark (word_at sizes past i)) (sym place)))
+      (λ y. ap (λ (l : List ℕ). stands y l) (same home))
+
+  mark_list : (x : ℕ) → (x ≢ home → IsOff sizes past e x) → IsList sizes (state sizes past) (word_at sizes past) x → IsList sizes s' w x
+  mark_list x off b = dite (ℕ_discrete x home)
+      (λ is. subst (IsList sizes s' w) (sym is) (marks sizes (state sizes past) s' (word_at sizes past) w home at (same home) mark_sets (subst (IsList sizes (state sizes past) (word_at sizes past)) is b)))
+      (λ ne. stays sizes (state sizes past) s' (word_at sizes past) w x (same x) (untouched sizes past e w s' x a (off ne) (same x)) b)
+
+-- a vertex that is linked has an empty list
+new_list : (sizes : Sizes) → IsLayout sizes → (past : List Event) (e : Event) → IsKept sizes past → IsLinkVertex sizes past e → (w : ℕ → ℕ) → IsAfter sizes past e w → IsList sizes (state_by LinkVertex sizes e (state sizes past)) w e.life.index
+new_list sizes z past e kept ok w a =
+    let i : ℕ = e.life.index in
+    let s' : State = state_by LinkVertex sizes e (state sizes past) in
+    let empty : (state sizes past).edges i ≡ [] = (listing sizes z past kept).empty i ok.fresh.fresh in
+    let none : index_of (w (second_at sizes i)) ≡ nowhere = ap index_of (a.else (second_at sizes i) (λ h. omega (arith, ok.place, h)) ∙ ok.filled.second_word) ∙ index_of-pack nowhere 0 _ (omega arith) in
+    record {
+      chain = IsChain-from_IsMet (list_chain sizes s' w i) [] record {
+        met = none;
+        rising = tt;
+        once = λ j k d low high. absurd (omega arith);
+        exactly = λ y. ((λ on. absurd (let f : false ≡ true = subst (λ (l : List ℕ). stands y l ≡ true) empty on in cc)), (λ c. absurd (omega (arith, c.1))));
+      };
+      met = subst (λ (l : List ℕ). Meets (list_chain sizes s' w i) Head l) (sym empty) none;
+    }
+
+lists_step : (sizes : Sizes) → IsLayout sizes → Keeps sizes (Lists sizes)
+lists_step sizes z past e kept c LinkVertex by ok w a = record {
+  each = λ x o. ⊎_elim
+      (λ (old : IsOpenIn sizes (state sizes past) x). stays sizes (state sizes past) (state_by LinkVertex sizes e (state sizes past)) (word_at sizes past) w x refl (idle_list sizes z past e kept x old LinkVertex tt ok w a) (c.each x old))
+      (λ (same : x ≡ e.life.index). subst (IsList sizes (state_by LinkVertex sizes e (state sizes past)) w) (sym same) (new_list sizes z past e kept ok w a))
+      (open_linked sizes z past e kept ok x o);
+}
+lists_step sizes z past e kept c LinkEdge by ok w a = record { each = λ x o. let old = open_before sizes z past e kept LinkEdge tt ok x o in link_list sizes z past e kept ok w a x old (c.each x old) }
+lists_step sizes z past e kept c UnlinkEdge by ok w a = record { each = λ x o. let old = open_before sizes z past e kept UnlinkEdge tt ok x o in cut_list sizes z past e kept ok w a x old (c.each x old) }
+lists_step sizes z past e kept c MarkEdge by ok w a = record {
+  each = λ x o.
+      let old = open_before sizes z past e kept MarkEdge tt ok x o in
+      mark_list sizes past e (state_by MarkEdge sizes e (state sizes past)) (λ _. refl) (node_in sizes past e.life.index).source.index (Node e.life.index) (sym ok.place) (omega (arith, ok.place, ok.there)) ok.word w a x (off_mark sizes z past e kept x old ok.place) (c.each x old);
+}
+lists_step sizes z past e kept c FreezeEdge by ok w a = record {
+  each = λ x o.
+      let old = open_before sizes z past e kept FreezeEdge tt ok x o in
+      mark_list sizes past e (state_by FreezeEdge sizes e (state sizes past)) (λ _. refl) (node_in sizes past e.life.index).source.index (Node e.life.index) (sym ok.place) (omega (arith, ok.place, ok.there)) ok.word w a x (off_mark sizes z past e kept x old ok.place) (c.each x old);
+}
+lists_step sizes z past e kept c FreezeHead by ok w a = record {
+  each = λ x o.
+      let old = open_before sizes z past e kept FreezeHead tt ok x o in
+      mark_list sizes past e (state_by FreezeHead sizes e (state sizes past)) (λ _. refl) e.life.index Head (sym ok.place) (omega (arith, ok.place, ok.there)) ok.word w a x (off_close sizes z past e kept x old ok.place) (c.each x old);
+}
+lists_step sizes z past e kept c k by ok w a = record {
+  each = λ x o.
+      let old = open_before sizes z past e kept k tt ok x o in
+      stays sizes (state sizes past) (state_by k sizes e (state sizes past)) (word_at sizes past) w x (same_idle sizes z past e kept x old k tt ok) (idle_list sizes z past e kept x old k tt ok w a) (c.each x old);
+}
+
+-- the lists after each kept journal
+pub lists : (sizes : Sizes) → IsLayout sizes → (journal : List Event) → IsKept sizes journal → Lists sizes (state sizes journal) (word_at sizes journal)
+lists sizes z journal kept = holds_all sizes (Lists sizes) (lists_step sizes z) (record { each = λ x o. absurd (o.used) }) journal kept
+
+pub list_met : (sizes : Sizes) → IsLayout sizes → (journal : List Event) → IsKept sizes journal → (x : ℕ) → IsOpenIn sizes (state sizes journal) x → IsMet (edge_chain sizes journal x) ((state sizes journal).edges x)
+list_met sizes z journal kept x o = let b = (lists sizes z journal kept).each x o in IsMet-from_Meets (edge_chain sizes journal x) ((state sizes journal).edges x) b.chain b.met
+
+-- one meets exactly the edges of each list
+pub edge_lists : (sizes : Sizes) → IsLayout sizes → (journal : List Event) → IsKept sizes journal → EdgeLists sizes journal
+edge_lists sizes z journal kept = record { each = λ x h. list_met sizes z journal kept x (has_open sizes journal x h) }

@@ -1,0 +1,276 @@
+-- The lives on the list of a vertex are those that were linked as edges of its life and not unlinked.
+use Rattle.std.proofs.Common.{◌≡◌, ◌≢◌, ◌⊎◌, ◌↔◌, ℕ, ◌<◌, Bool, true, false, List, [], ◌∷◌, ◌++◌, Some, None, refl, sym, ap, ◌∙◌, subst, ⊎_elim, inl, inr}
+use mathlib.Core.Logic.{dite}
+use native.Mathlib.Decide.{ℕ_discrete}
+use Rattle.packed_link.specs.Layout.{Sizes, IsLayout, second_at}
+use Rattle.packed_link.specs.declared.link.Life.{Life}
+use Rattle.core_chain.proofs.Walks.{one_of_key}
+use Rattle.core_journal.specs.declared.event.Kind.{Kind}
+use Rattle.core_journal.specs.declared.event.Kind.TheVariants.{PopFree, LinkVertex, UnlinkVertex, LinkEdge, UnlinkEdge}
+use Rattle.core_journal.specs.declared.event.Event.{Event}
+use Rattle.core_journal.specs.Event.{same_life, links_edge, unlinks}
+use Rattle.core_journal.specs.Life.{link_of, unlinked, edge_marked}
+use Rattle.core_journal.specs.Machine.{word_at}
+use Rattle.core_journal.specs.State.{Mode, Free, Fresh, Linked, Spent, Node, State, put, unlinked_from, linked_in, opening, state, state_by}
+use Rattle.core_journal.proofs.Snoc.{same_is, link_skip, link_else}
+use Rattle.core_rule.specs.Kept.{AllowedAs, IsKept}
+use Rattle.core_rule.specs.Nodes.{node_in, IsUsed, IsLinkedEdge}
+use Rattle.core_rule.specs.Chains.{edge_chain, life_in, HasList, IsEdgeOf, IsInList, IsAtSource}
+use Rattle.core_rule.proofs.Steps.{KeepsIn, put_case, put_other, all_in}
+use Rattle.core_rule.proofs.LinkWords.{taken}
+use Rattle.core_rule.proofs.Contents.{contents}
+use Rattle.core_rule.proofs.Lives.{IsWithin, same_tag, other_index, this_life}
+use Rattle.core_rule.proofs.Named.{life_is, named, link_first}
+use Rattle.core_rule.proofs.Ends.{new_vertex, new_edge}
+use Rattle.core_rule.proofs.Living.{unlinked_skip, unlinked_other, IsStanding, life_of, standing, linked_stays, not_this}
+use Rattle.core_rule.proofs.LivingEdges.{live_edges}
+use Rattle.core_rule.proofs.Placed.{used_there}
+use Rattle.core_rule.proofs.Meets.{stands}
+use Rattle.core_rule.proofs.ListParts.{unlinked_was, unlinked_keeps, linked_was, linked_keeps, linked_joins}
+use Rattle.core_rule.proofs.Listed.{Listing, open_mode}
+use Rattle.core_rule.proofs.ListSteps.{listing, link_joins, popped_was, popped_not, popped_list, IsNoVertex, IsOpenIn, open_before, open_linked, has_open, open_has, sources}
+use Rattle.core_rule.proofs.EdgeChains.{lists}
+
+-- no life on a list was unlinked
+record NotCut (journal : List Event) (s : State) : Type 0 where
+  pub on : (x y : ℕ) → stands y (s.edges x) ≡ true → unlinked journal (life_of y (s.node y)) ≡ false
+
+-- no kind but the taking of a node changes the life of a node
+still_life : (k : Kind) → IsWithin k → (sizes : Sizes) (e : Event) (s : State) (y : ℕ) → life_of y ((state_by k sizes e s).node y) ≡ life_of y (s.node y)
+still_life k o sizes e s y = let f : ℕ → Life = λ n. record { index = y; tag = n } in ap f (same_tag k o sizes e s y)
+
+not_cut_step : (sizes : Sizes) → IsLayout sizes → KeepsIn sizes (λ (j : List Event) (s : State) (w : ℕ → ℕ). NotCut j s)
+not_cut_step sizes z past e kept c PopFree is ok w a =
+    let s : State = state sizes past in
+    let v : Node = record (s.node e.life.index) { mode = Fresh; who = e.caller; tag = e.life.tag; marked = false; stored = false } in record {
+      on = λ x y h.
+          let r = popped_was sizes s.node s.edges s.frozen (listing sizes z past kept) e.life.index v (taken sizes z past e kept ok).free refl x y h in
+          ap (λ (n : Node). unlinked (past ++ e ∷ []) (life_of y n)) (put_other e.life.index v s.node y r.2) ∙ (unlinked_skip past e (ap unlinks is) (life_of y (s.node y)) ∙ c.on x y r.1);
+    }
+not_cut_step sizes z past e kept c LinkEdge is ok w a = record {
+  on = λ x y h.
+      let s : State = state sizes past in
+      ap (unlinked (past ++ e ∷ [])) (still_life LinkEdge tt sizes e s y) ∙ (unlinked_skip past e (ap unlinks is) (life_of y (s.node y)) ∙ ⊎_elim
+      (λ (t : stands y (s.edges x) ≡ true). c.on x y t)
+      (λ (t : (y ≡ e.life.index) × _). (standing sizes z past kept).each y (subst (λ (i : ℕ). IsStanding (s.node i).mode) (sym t.0) (subst IsStanding (sym ok.fresh.fresh) tt)))
+      (linked_was sizes (second_at sizes x) e.place e.life.index y (s.edges x) h));
+}
+not_cut_step sizes z past e kept c UnlinkEdge is ok w a = record {
+  on = λ x y h.
+      let s : State = state sizes past in
+      let r = unlinked_was e.life.index y (s.edges x) h in
+      ap (unlinked (past ++ e ∷ [])) (still_life UnlinkEdge tt sizes e s y) ∙ (unlinked_other past e (life_of y (s.node y)) (other_index (life_of y (s.node y)) e.life r.1) ∙ c.on x y r.0);
+}
+not_cut_step sizes z past e kept c UnlinkVertex is ok w a = record {
+  on = λ x y h.
+      let s : State = state sizes past in
+      let ne : y ≢ e.life.index = λ same. let v = ok.linked.vertex in let b = ap (λ (i : ℕ). (s.node i).vertex) (sym same) ∙ ((listing sizes z past kept).on x y h).edge in absurd (cc) in
+      ap (unlinked (past ++ e ∷ [])) (still_life UnlinkVertex tt sizes e s y) ∙ (unlinked_other past e (life_of y (s.node y)) (other_index (life_of y (s.node y)) e.life ne) ∙ c.on x y h);
+}
+not_cut_step sizes z past e kept c k is ok w a = record {
+  on = λ x y h. ap (unlinked (past ++ e ∷ [])) (still_life k tt sizes e (state sizes past) y) ∙ (unlinked_skip past e (ap unlinks is) (life_of y (node_in sizes past y)) ∙ c.on x y h);
+}
+
+not_cut : (sizes : Sizes) → IsLayout sizes → (journal : List Event) → IsKept sizes journal → NotCut journal (state sizes journal)
+not_cut sizes z journal kept = all_in sizes (λ (j : List Event) (s : State) (w : ℕ → ℕ). NotCut j s) (not_cut_step sizes z) (record { on = λ x y h. refl }) journal kept
+
+-- a life stands on the list of a vertex
+record IsStandingOn (s : State) (x : ℕ) (l : Life) : Type 0 where
+  pub life : l.tag ≡ (s.node l.index).tag
+  pub on : stands l.index (s.edges x) ≡ true
+
+-- a life that was linked as an edge of a vertex's life and not unlinked stands on its list, where this isn't frozen to its end
+record AllEdges (sizes : Sizes) (journal : List Event) (s : State) : Type 0 where
+  pub each : (x : ℕ) (l : Life) (link : Event) → IsOpenIn sizes s x → link_of journal l ≡ Some link → link.source ≡ life_of x (s.node x) → unlinked journal l ≡ false → IsStandingOn s x l
+
+-- where no tag and no list changes
+stands_still : (s s' : State) (x : ℕ) (l : Life) → (s'.node l.index).tag ≡ (s.node l.index).tag → s'.edges x ≡ s.edges x → IsStandingOn s x l → IsStandingOn s' x l
+stands_still s s' x l tag same h = record { life = h.life ∙ sym tag; on = subst (λ (xs : List ℕ). stands l.index xs ≡ true) (sym same) h.on }
+
+some_is : {A : Type 0} (a b : A) → Some a ≡ Some b → a ≡ b
+some_is a b p = cc
+
+-- an edge that is linked stands on the list of its source, and so does every other that did
+link_all : (sizes : Sizes) → IsLayout sizes → (past : List Event) (e : Event) → IsKept sizes past → e.kind ≡ LinkEdge → AllowedAs LinkEdge sizes past e → AllEdges sizes past (state sizes past) → AllEdges sizes (past ++ e ∷ []) (state_by LinkEdge sizes e (state sizes past))
+link_all sizes z past e kept is ok c = record { each = λ x l link o h from stays. by x l link o h from stays (same_life l e.life) refl }
+  where
+    s : State
+    s = state sizes past
+
+    s' : State
+    s' = state_by LinkEdge sizes e (state sizes past)
+
+    by : (x : ℕ) (l : Life) (link : Event) → IsOpenIn sizes s' x → link_of (past ++ e ∷ []) l ≡ Some link → link.source ≡ life_of x (s'.node x) → unlinked (past ++ e ∷ []) l ≡ false → (b : Bool) → same_life l e.life ≡ b → IsStandingOn s' x l
+    by x l link o h from stays true same =
+        let one = same_is l e.life same in
+        let new : link_of past l ≡ None = ap (link_of past) one ∙ (new_edge sizes z past e kept is ok).new in
+        let which : e ≡ link = some_is e link (sym (link_first past e l new (ap links_edge is) same) ∙ h) in
+        let home : e.source.index ≡ x = ap (λ (d : Event). d.source.index) which ∙ ap (λ (y : Life). y.index) from in
+        record {
+          life = ap (λ (y : Life). y.tag) one ∙ (ok.life ∙ (sym (same_tag LinkEdge tt sizes e s e.life.index) ∙ ap (λ (y : Life). (s'.node y.index).tag) (sym one)));
+          on = subst (λ (i : ℕ). stands i (s'.edges x) ≡ true) (ap (λ (y : Life). y.index) (sym one)) (subst (λ (y : ℕ). stands e.life.index (s'.edges y) ≡ true) home
+              (linked_joins sizes (second_at sizes e.source.index) e.place e.life.index (s.edges e.source.index) (link_joins sizes z past e kept (listing sizes z past kept) ok).word));
+        }
+    by x l link o h from stays false same =
+        let old = c.each x l link (open_before sizes z past e kept LinkEdge tt ok x o) (sym (link_else past e l same) ∙ h) (from ∙ still_life LinkEdge tt sizes e s x) (sym (unlinked_skip past e (ap unlinks is) l) ∙ stays) in
+        record { life = old.life ∙ sym (same_tag LinkEdge tt sizes e s l.index); on = linked_keeps sizes (second_at sizes x) e.place e.life.index l.index (s.edges x) old.on }
+
+-- an edge that wasn't unlinked with the event stands on the list still
+cut_all : (sizes : Sizes) → IsLayout sizes → (past : List Event) (e : Event) → IsKept sizes past → e.kind ≡ UnlinkEdge → AllowedAs UnlinkEdge sizes past e → AllEdges sizes past (state sizes past) → AllEdges sizes (past ++ e ∷ []) (state_by UnlinkEdge sizes e (state sizes past))
+cut_all sizes z past e kept is ok c = record {
+  each = λ x l link o h from stays.
+      let s : State = state sizes past in
+      let other = not_this past e l (ap unlinks is) stays in
+      let old = c.each x l link (open_before sizes z past e kept UnlinkEdge tt ok x o) (sym (link_skip past e (ap links_edge is) l) ∙ h) (from ∙ still_life UnlinkEdge tt sizes e s x) (sym (unlinked_other past e l other) ∙ stays) in
+      let apart : l.index ≢ e.life.index = λ same.
+      let t : l.tag ≡ e.life.tag = old.life ∙ (ap (λ (i : ℕ). (s.node i).tag) same ∙ sym ok.life) in
+      let one = this_life l e.life same t in absurd (cc) in
+      record { life = old.life ∙ sym (same_tag UnlinkEdge tt sizes e s l.index); on = unlinked_keeps e.life.index l.index (s.edges x) old.on apart };
+}
+
+-- a node that is taken stands on no list that isn't frozen to its end
+pop_all : (sizes : Sizes) → IsLayout sizes → (past : List Event) (e : Event) → IsKept sizes past → e.kind ≡ PopFree → AllowedAs PopFree sizes past e → AllEdges sizes past (state sizes past) → AllEdges sizes (past ++ e ∷ []) (state_by PopFree sizes e (state sizes past))
+pop_all sizes z past e kept is ok c = record {
+  each = λ x l link o h from stays.
+      let s : State = state sizes past in
+      let v : Node = record (s.node e.life.index) { mode = Fresh; who = e.caller; tag = e.life.tag; marked = false; stored = false } in
+      let free = (taken sizes z past e kept ok).free in
+      let b = open_before sizes z past e kept PopFree tt ok x o in
+      let not_x : x ≢ e.life.index = λ same. subst IsUsed (ap (λ (i : ℕ). (s.node i).mode) same ∙ free) b.used in
+      let at_x : put e.life.index v s.node x ≡ s.node x = put_other e.life.index v s.node x not_x in
+      let old = c.each x l link b (sym (link_skip past e (ap links_edge is) l) ∙ h) (from ∙ ap (λ (n : Node). life_of x n) at_x) (sym (unlinked_skip past e (ap unlinks is) l) ∙ stays) in
+      let apart : l.index ≢ e.life.index = λ same.
+      let t = subst (λ (i : ℕ). stands i (s.edges x) ≡ true) same old.on in
+      let f = popped_not sizes s.node s.edges s.frozen (listing sizes z past kept) e.life.index v free refl x b in absurd (cc) in
+      stands_still s (state_by PopFree sizes e s) x l (ap (λ (n : Node). n.tag) (put_other e.life.index v s.node l.index apart))
+      (popped_list sizes s.node s.edges s.frozen (listing sizes z past kept) e.life.index v free refl x b) old;
+}
+
+-- no edge has a vertex as its source that is linked now
+new_all : (sizes : Sizes) → IsLayout sizes → (past : List Event) (e : Event) → IsKept sizes past → e.kind ≡ LinkVertex → AllowedAs LinkVertex sizes past e → AllEdges sizes past (state sizes past) → AllEdges sizes (past ++ e ∷ []) (state_by LinkVertex sizes e (state sizes past))
+new_all sizes z past e kept is ok c = record {
+  each = λ x l link o h from stays.
+      let s : State = state sizes past in
+      let was : link_of past l ≡ Some link = sym (link_skip past e (ap links_edge is) l) ∙ h in
+      let of_x : link.source ≡ life_of x (s.node x) = from ∙ still_life LinkVertex tt sizes e s x in
+      ⊎_elim
+      (λ (b : IsOpenIn sizes s x). stands_still s (state_by LinkVertex sizes e s) x l (same_tag LinkVertex tt sizes e s l.index) refl (c.each x l link b was of_x (sym (unlinked_skip past e (ap unlinks is) l) ∙ stays)))
+      (λ (same : x ≡ e.life.index).
+      let this : life_of x (s.node x) ≡ e.life = sym (life_is e.life x (s.node x).tag (sym same) (ok.life ∙ ap (λ (i : ℕ). (s.node i).tag) (sym same))) in
+      absurd (((new_vertex sizes z past e kept is ok).unnamed l link was).0 (of_x ∙ this)))
+      (open_linked sizes z past e kept ok x o);
+}
+
+all_edges_step : (sizes : Sizes) → IsLayout sizes → KeepsIn sizes (λ (j : List Event) (s : State) (w : ℕ → ℕ). AllEdges sizes j s)
+all_edges_step sizes z past e kept c LinkEdge is ok w a = link_all sizes z past e kept is ok c
+all_edges_step sizes z past e kept c UnlinkEdge is ok w a = cut_all sizes z past e kept is ok c
+all_edges_step sizes z past e kept c PopFree is ok w a = pop_all sizes z past e kept is ok c
+all_edges_step sizes z past e kept c LinkVertex is ok w a = new_all sizes z past e kept is ok c
+all_edges_step sizes z past e kept c UnlinkVertex is ok w a = record {
+  each = λ x l link o h from stays.
+      let s : State = state sizes past in
+      let other = not_this past e l (ap unlinks is) stays in
+      stands_still s (state_by UnlinkVertex sizes e s) x l (same_tag UnlinkVertex tt sizes e s l.index) refl
+      (c.each x l link (open_before sizes z past e kept UnlinkVertex tt ok x o) (sym (link_skip past e (ap links_edge is) l) ∙ h) (from ∙ still_life UnlinkVertex tt sizes e s x) (sym (unlinked_other past e l other) ∙ stays));
+}
+all_edges_step sizes z past e kept c k is ok w a = record {
+  each = λ x l link o h from stays.
+      let s : State = state sizes past in
+      stands_still s (state_by k sizes e s) x l (same_tag k tt sizes e s l.index) refl
+      (c.each x l link (open_before sizes z past e kept k tt ok x o) (sym (link_skip past e (ap links_edge is) l) ∙ h) (from ∙ still_life k tt sizes e s x) (sym (unlinked_skip past e (ap unlinks is) l) ∙ stays));
+}
+
+all_edges : (sizes : Sizes) → IsLayout sizes → (journal : List Event) → IsKept sizes journal → AllEdges sizes journal (state sizes journal)
+all_edges sizes z journal kept = all_in sizes (λ (j : List Event) (s : State) (w : ℕ → ℕ). AllEdges sizes j s) (all_edges_step sizes z) (record { each = λ x l link o. absurd (o.used) }) journal kept
+
+-- the lives on a list are those that were linked as edges of its vertex's life, and not unlinked
+pub edge_of : (sizes : Sizes) → IsLayout sizes → (journal : List Event) → IsKept sizes journal → (x : ℕ) → HasList sizes journal x → (l : Life) → IsInList sizes journal x l → IsEdgeOf journal (life_in sizes journal x) l
+edge_of sizes z journal kept x has l i =
+    let c = listing sizes z journal kept in
+    let d = c.on x l.index i.on in
+    let used : IsUsed (node_in sizes journal l.index).mode = ⊎_elim (λ (m : (node_in sizes journal l.index).mode ≡ Linked). subst IsUsed (sym m) tt) (λ (m : (node_in sizes journal l.index).mode ≡ Spent). subst IsUsed (sym m) tt)
+    (open_mode sizes (state sizes journal).node (state sizes journal).edges (state sizes journal).frozen x l.index c (has_open sizes journal x has) i.on) in
+    let n = ((named sizes z journal kept).each l.index i.there).edge_link used d.edge in
+    let this : l ≡ life_of l.index (node_in sizes journal l.index) = life_is l l.index (node_in sizes journal l.index).tag refl i.life in
+    record {
+      link = n.link;
+      is = ap (link_of journal) this ∙ n.is;
+      from = n.from ∙ life_is (node_in sizes journal l.index).source x (node_in sizes journal x).tag d.index d.life;
+      stays = ap (unlinked journal) this ∙ (not_cut sizes z journal kept).on x l.index i.on;
+    }
+
+pub of_edge : (sizes : Sizes) → IsLayout sizes → (journal : List Event) → IsKept sizes journal → (x : ℕ) → HasList sizes journal x → (l : Life) → IsEdgeOf journal (life_in sizes journal x) l → IsInList sizes journal x l
+of_edge sizes z journal kept x has l f =
+    let h = (all_edges sizes z journal kept).each x l f.link (has_open sizes journal x has) f.is f.from f.stays in
+    record { there = ((listing sizes z journal kept).on x l.index h.on).there; life = h.life; on = h.on }
+
+-- the key of an edge on a list is that with which it was linked
+list_key : (sizes : Sizes) → IsLayout sizes → (journal : List Event) → IsKept sizes journal → (x : ℕ) → HasList sizes journal x → (l : Life) (f : IsEdgeOf journal (life_in sizes journal x) l) → (edge_chain sizes journal x).key l.index ≡ f.link.key
+list_key sizes z journal kept x has l f =
+    let c = listing sizes z journal kept in
+    let i = of_edge sizes z journal kept x has l f in
+    let d = c.on x l.index i.on in
+    let used : IsUsed (node_in sizes journal l.index).mode = ⊎_elim (λ (m : (node_in sizes journal l.index).mode ≡ Linked). subst IsUsed (sym m) tt) (λ (m : (node_in sizes journal l.index).mode ≡ Spent). subst IsUsed (sym m) tt)
+    (open_mode sizes (state sizes journal).node (state sizes journal).edges (state sizes journal).frozen x l.index c (has_open sizes journal x has) i.on) in
+    let n = ((named sizes z journal kept).each l.index i.there).edge_link used d.edge in
+    let this : l ≡ life_of l.index (node_in sizes journal l.index) = life_is l l.index (node_in sizes journal l.index).tag refl i.life in
+    let which : n.link ≡ f.link = some_is n.link f.link (sym n.is ∙ (ap (link_of journal) (sym this) ∙ f.is)) in
+    (((contents sizes z journal kept).each l.index i.there).edge used d.edge).key_word ∙ (sym n.of_key ∙ ap (λ (e : Event). e.key) which)
+
+-- two edges of one source and one key, on a list that isn't frozen to its end, are one
+pub one_listed : (sizes : Sizes) → IsLayout sizes → (journal : List Event) → IsKept sizes journal → (x : ℕ) → HasList sizes journal x → (k l : Life) (a : IsEdgeOf journal (life_in sizes journal x) k) (b : IsEdgeOf journal (life_in sizes journal x) l) → a.link.key ≡ b.link.key → k ≡ l
+one_listed sizes z journal kept x has k l a b same =
+    let i = of_edge sizes z journal kept x has k a in
+    let j = of_edge sizes z journal kept x has l b in
+    let keys : (edge_chain sizes journal x).key k.index ≡ (edge_chain sizes journal x).key l.index = list_key sizes z journal kept x has k a ∙ (same ∙ sym (list_key sizes z journal kept x has l b)) in
+    let at : k.index ≡ l.index = one_of_key (edge_chain sizes journal x) k.index l.index ((lists sizes z journal kept).each x (has_open sizes journal x has)).chain i.on j.on keys in
+    λ n. record { index = at n; tag = (i.life ∙ (ap (λ (y : ℕ). (node_in sizes journal y).tag) at ∙ sym j.life)) n }
+
+-- a present edge is its node's life, linked, and on the list of its source
+pub record IsPresentEdge (sizes : Sizes) (journal : List Event) (l : Life) : Type 0 where
+  pub there : l.index < sizes.nodes
+  pub life : l.tag ≡ (node_in sizes journal l.index).tag
+  pub linked : IsLinkedEdge sizes journal l.index
+  pub at : IsAtSource sizes journal l.index
+
+pub present_edge : (sizes : Sizes) → IsLayout sizes → (journal : List Event) → IsKept sizes journal → (l : Life) (link : Event) → link_of journal l ≡ Some link → edge_marked journal l ≡ false → IsPresentEdge sizes journal l
+present_edge sizes z journal kept l link is unmarked =
+    let h = (live_edges sizes z journal kept).live l link is unmarked in
+    let there = used_there sizes journal l.index kept (λ m. let n = h.linked in absurd (cc)) in
+    let e : IsLinkedEdge sizes journal l.index = record { linked = h.linked; edge = h.edge } in
+    record { there = there; life = h.life; linked = e; at = (sources sizes z journal kept).each l.index there e }
+
+-- the source of a present edge has a list, in the life that was the edge's source
+pub record IsSourceOf (sizes : Sizes) (journal : List Event) (source : Life) : Type 0 where
+  pub list : HasList sizes journal source.index
+  pub life : source ≡ life_in sizes journal source.index
+
+pub present_source : (sizes : Sizes) → IsLayout sizes → (journal : List Event) → IsKept sizes journal → (l : Life) (link : Event) → link_of journal l ≡ Some link → edge_marked journal l ≡ false → IsSourceOf sizes journal link.source
+present_source sizes z journal kept l link is unmarked =
+    let p = present_edge sizes z journal kept l link is unmarked in
+    let v : Node = node_in sizes journal l.index in
+    let n = ((named sizes z journal kept).each l.index p.there).edge_link (subst IsUsed (sym p.linked.linked) tt) p.linked.edge in
+    let which : n.link ≡ link = some_is n.link link (sym n.is ∙ (ap (link_of journal) (sym (life_is l l.index v.tag refl p.life)) ∙ is)) in
+    let same : v.source ≡ link.source = sym n.from ∙ ap (λ (e : Event). e.source) which in
+    subst (IsSourceOf sizes journal) same record { list = p.at.list; life = life_is v.source v.source.index (node_in sizes journal v.source.index).tag refl p.at.life }
+
+-- two edges of one source and one key of which one isn't marked are one
+pub one_unmarked : (sizes : Sizes) → IsLayout sizes → (journal : List Event) → IsKept sizes journal → (source k l : Life) (a : IsEdgeOf journal source k) (b : IsEdgeOf journal source l) → a.link.key ≡ b.link.key → edge_marked journal k ≡ false → k ≡ l
+one_unmarked sizes z journal kept source k l a b same unmarked =
+    let s : IsSourceOf sizes journal source = subst (IsSourceOf sizes journal) a.from (present_source sizes z journal kept k a.link a.is unmarked) in
+    one_listed sizes z journal kept source.index s.list k l
+    record { link = a.link; is = a.is; from = a.from ∙ s.life; stays = a.stays }
+    record { link = b.link; is = b.is; from = b.from ∙ s.life; stays = b.stays } same
+
+-- a present edge wasn't unlinked
+pub edge_present : (sizes : Sizes) → IsLayout sizes → (journal : List Event) → IsKept sizes journal → (l : Life) (link : Event) → link_of journal l ≡ Some link → edge_marked journal l ≡ false → IsEdgeOf journal link.source l
+edge_present sizes z journal kept l link is unmarked =
+    let p = present_edge sizes z journal kept l link is unmarked in
+    record { link = link; is = is; from = refl; stays = linked_stays sizes z journal kept l p.life p.linked.linked }
+
+-- two present edges of one source and one key are one
+pub one_present_edge : (sizes : Sizes) → IsLayout sizes → (journal : List Event) → IsKept sizes journal → (k l : Life) (a b : Event) → link_of journal k ≡ Some a → link_of journal l ≡ Some b → a.source ≡ b.source → a.key ≡ b.key → edge_marked journal k ≡ false → edge_marked journal l ≡ false → k ≡ l
+one_present_edge sizes z journal kept k l a b is_a is_b from same u v =
+    let e = edge_present sizes z journal kept k a is_a u in
+    let f = edge_present sizes z journal kept l b is_b v in
+    one_unmarked sizes z journal kept a.source k l record { link = a; is = is_a; from = refl; stays = e.stays } record { link = b; is = is_b; from = sym from; stays = f.stays } same u

@@ -1,0 +1,65 @@
+-- Where each node is: on the free list, with a caller who fills it, linked, or with the caller who unlinked it.
+use Rattle.std.specs.Prelude.{◌≡◌, ℕ, true, List, Contains}
+use Rattle.packed_link.specs.Layout.{Sizes, key_at, link_at}
+use Rattle.core_journal.specs.declared.event.Event.{Event}
+use Rattle.core_journal.specs.Prefix.{IsPrefix}
+use Rattle.core_journal.specs.Machine.{word_at}
+use Rattle.core_journal.specs.Reuse.{pass_in}
+use Rattle.core_journal.specs.State.{Free, Fresh, Linked, Spent, state}
+use Rattle.core_rule.specs.Facts.{IsDeadLink, IsFreshLink, IsLiveLink}
+use Rattle.core_rule.specs.Nodes.{node_in}
+
+-- a node is free and on the free list, or fresh or spent with a caller, or linked
+pub data Standing : Type 0 where
+  OnFreeList : Standing
+  FreshWith : ℕ → Standing
+  InGraph : Standing
+  SpentBy : ℕ → Standing
+
+-- its link word is marked, and still that of its last life
+pub record IsFreeNode (sizes : Sizes) (journal : List Event) (x : ℕ) : Type 0 where
+  pub mode : (node_in sizes journal x).mode ≡ Free
+  pub listed : Contains (state sizes journal).free x
+  pub link : IsDeadLink (node_in sizes journal x).tag (word_at sizes journal (link_at sizes x))
+
+-- its link word is as its last life left it, or unmarked and of its own life
+pub record IsFreshNode (sizes : Sizes) (journal : List Event) (caller x : ℕ) : Type 0 where
+  pub mode : (node_in sizes journal x).mode ≡ Fresh
+  pub with : (node_in sizes journal x).who ≡ caller
+  pub link : IsFreshLink (node_in sizes journal x).tag (word_at sizes journal (link_at sizes x))
+
+-- its link word is of its life, and marked where the node is
+pub record IsLinkedNode (sizes : Sizes) (journal : List Event) (x : ℕ) : Type 0 where
+  pub mode : (node_in sizes journal x).mode ≡ Linked
+  pub link : IsLiveLink (node_in sizes journal x).tag (word_at sizes journal (link_at sizes x)) (node_in sizes journal x).marked
+
+-- its link word is of its life, and marked
+pub record IsSpentNode (sizes : Sizes) (journal : List Event) (caller x : ℕ) : Type 0 where
+  pub mode : (node_in sizes journal x).mode ≡ Spent
+  pub by : (node_in sizes journal x).who ≡ caller
+  pub link : IsDeadLink (node_in sizes journal x).tag (word_at sizes journal (link_at sizes x))
+
+-- what each standing says of the node and its link word
+abbrev pub StandsAs : Sizes → List Event → ℕ → Standing → Type 0
+StandsAs sizes journal x OnFreeList = IsFreeNode sizes journal x
+StandsAs sizes journal x (FreshWith caller) = IsFreshNode sizes journal caller x
+StandsAs sizes journal x InGraph = IsLinkedNode sizes journal x
+StandsAs sizes journal x (SpentBy caller) = IsSpentNode sizes journal caller x
+
+-- a caller's pass that was open at a front is open still
+pub record IsSamePass (sizes : Sizes) (front journal : List Event) (caller : ℕ) : Type 0 where
+  pub before : IsPrefix front journal
+  pub open_still : (pass_in sizes journal caller).is_open ≡ true
+  pub since : (pass_in sizes journal caller).since ≡ (pass_in sizes front caller).since
+
+-- a node is spent with a caller
+pub record IsSpentWith (sizes : Sizes) (past : List Event) (caller x : ℕ) : Type 0 where
+  pub spent : (node_in sizes past x).mode ≡ Spent
+  pub mine : (node_in sizes past x).who ≡ caller
+
+-- a node, its key, its link and whether its list is closed are after a journal what they were after a front of it
+pub record IsKeptSpent (sizes : Sizes) (front journal : List Event) (x : ℕ) : Type 0 where
+  pub node : node_in sizes journal x ≡ node_in sizes front x
+  pub key : word_at sizes journal (key_at sizes x) ≡ word_at sizes front (key_at sizes x)
+  pub link : word_at sizes journal (link_at sizes x) ≡ word_at sizes front (link_at sizes x)
+  pub closed : (state sizes journal).frozen x ≡ (state sizes front).frozen x

@@ -1,0 +1,37 @@
+//! The laws of counters: how the counter of a vertex stood when an edge of it was linked, against later.
+//!
+//! A caller raises the counter of an edge's source before it marks the edge. So whoever saw the counter before the edge was
+//! linked, and sees it again after the edge was marked, sees another number.
+
+ghost use Rattle.std.specs.Prelude.{◌≡◌, ◌≢◌, ℕ, ◌<◌, ◌≤◌, false, List, Some, length, slice_get, take, true};
+ghost use Rattle.packed_link.specs.Layout.{IsLayout, Sizes, third_at};
+ghost use Rattle.packed_link.specs.declared.link.Life.{Life};
+ghost use Rattle.core_journal.specs.declared.event.Event.{Event};
+ghost use Rattle.core_journal.specs.Event.{marks_edge};
+ghost use Rattle.core_journal.specs.Life.{link_of, vertex_marked};
+ghost use Rattle.core_journal.specs.Machine.{word_at};
+ghost use Rattle.core_journal.specs.Prefix.{IsPrefix};
+ghost use Rattle.core_journal.specs.State.{Fresh};
+ghost use Rattle.core_rule.specs.Edges.{IsRaisedFor};
+ghost use Rattle.core_rule.specs.Kept.{IsKept};
+ghost use Rattle.core_rule.specs.Nodes.{IsLinkedEdge, node_in};
+ghost use Rattle.core_rule.specs.Raised.{IsLinkedLower};
+
+/// Each edge that is marked while its source isn't was linked at a lower counter of the source. So was each linked edge for
+/// which a caller raised that counter in its pass; and the node of its source isn't stored for the free list. A counter never
+/// falls while its node isn't taken again.
+pub fn marked_edges_were_linked_at_a_lower_counter()
+    ensures marked { (sizes : Sizes) → IsLayout sizes → (journal : List Event) → IsKept sizes journal
+        → (p : ℕ) (e link : Event) → slice_get journal p ≡ Some e → marks_edge e.kind ≡ true
+        → link_of (take p journal) e.life ≡ Some link → vertex_marked (take p journal) link.source ≡ false
+        → IsLinkedLower sizes journal p link }
+    ensures raised { (sizes : Sizes) → IsLayout sizes → (journal : List Event) → IsKept sizes journal
+        → (caller : ℕ) (x : Life) (link : Event) → link_of journal x ≡ Some link
+        → x.index < sizes.nodes → x.tag ≡ (node_in sizes journal x.index).tag → IsLinkedEdge sizes journal x.index
+        → IsRaisedFor sizes journal caller x link.source
+        → IsLinkedLower sizes journal (length journal) link × ((node_in sizes journal link.source.index).stored ≡ false) }
+    ensures rises { (sizes : Sizes) → IsLayout sizes → (x : ℕ) (front journal : List Event) → IsPrefix front journal
+        → IsKept sizes journal → (node_in sizes front x).mode ≢ Fresh
+        → (node_in sizes journal x).tag ≡ (node_in sizes front x).tag
+        → word_at sizes front (third_at sizes x) ≤ word_at sizes journal (third_at sizes x) }
+{}
