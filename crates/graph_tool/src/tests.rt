@@ -258,10 +258,44 @@ fn four_callers_ask_for_their_chains(rt: HostRuntime) -> Result<(), Fail> {
     for caller in 0..4u32 {
         text.push_str(chain_edges(&rt, 100 * caller)?.as_str())?;
     }
-    assert_eq!(rt; text.as_bytes().iter().filter(|b| **b == b'\n').count(), 217);
+    assert_eq!(rt;
+        text.as_bytes().iter().filter(|b| **b == b'\n').count(),
+        217
+    );
     let (status, sink) = run_on(&rt, &["replay"], input.as_bytes())?;
     assert_eq!(rt; status, Status::Done);
     assert_eq!(rt; sink.bytes(), text.as_bytes());
+    Ok(())
+}
+
+// A part of 300 keys in which each key leads to the next by 2 and to the one behind that by 3, and a key outside it.
+#[test]
+fn a_goal_outside_a_large_part_has_no_path(rt: HostRuntime) -> Result<(), Fail> {
+    let alloc = rt.alloc();
+    let mut input = String::new(alloc);
+    let mut text = String::new(alloc);
+    for key in 0..301u32 {
+        input.push_str(format!(in alloc; "0,add-vertex,{key},,\n")?.as_str())?;
+        text.push_str("added\n")?;
+    }
+    for key in 0..300u32 {
+        for (step, weight) in [(1u32, 2u32), (2, 3)] {
+            let to = (key + step) % 300;
+            input.push_str(format!(in alloc; "0,add-edge,{key},{to},{weight}\n")?.as_str())?;
+            text.push_str("added\n")?;
+        }
+    }
+    input.push_str("0,cheapest,0,300,\n0,cheapest,0,299,\n")?;
+    text.push_str("no path\ncost 449 path 0")?;
+    for place in 0..150u32 {
+        text.push_str(format!(in alloc; " {}", 2 * place + 1)?.as_str())?;
+    }
+    text.push_str("\nvertices 0 1")?;
+    for command in ["run", "replay"] {
+        let (status, sink) = run_on(&rt, &[command], input.as_bytes())?;
+        assert_eq!(rt; status, Status::Done);
+        assert!(rt; sink.bytes().starts_with(text.as_bytes()));
+    }
     Ok(())
 }
 
