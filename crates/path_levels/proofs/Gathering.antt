@@ -1,7 +1,7 @@
--- A way back is gathered key by key, and written from its other end.
+-- A way back is gathered key by key.
 use Rattle.std.proofs.Common.{◌≡◌, ℕ, zero, suc, ◌+◌, ◌-◌, ◌<◌, ◌≤◌, Bool, cond, List, [], ◌∷◌, ◌++◌, length, take, reverse, get_or, set, append_assoc, sym, ap, ◌∙◌, arith}
 use Rattle.std.proofs.lemmas.Bool.{ne_eqb}
-use Rattle.std.proofs.lemmas.List.{take_more, take_more_set, reverse-append}
+use Rattle.scan_record.proofs.Gathered.{one_more}
 use Rattle.path_levels.specs.Queue.{trail}
 
 -- a step back, where there are steps left
@@ -15,9 +15,6 @@ trail_step queue parents (suc n) p pos some =
 trail_start : (queue parents : List ℕ) (n p : ℕ) → p ≡ 0 → trail queue parents n p ≡ get_or queue 0 0 ∷ []
 trail_start queue parents zero p e = ap (λ (q : ℕ). get_or queue q 0 ∷ []) e
 trail_start queue parents (suc n) p e = ap (trail queue parents (suc n)) e
-
-one_more : (slot : List ℕ) (n key : ℕ) → n < length slot → key ∷ reverse (take n slot) ≡ reverse (take (n + 1) (set slot n key))
-one_more slot n key lt = sym (ap (λ (xs : List ℕ). reverse xs) (take_more_set slot n key lt) ∙ reverse-append (take n slot) (key ∷ []))
 
 pub gather_next : (queue parents slot : List ℕ) (goal count at : ℕ) → 0 < at → count + at ≤ goal → count < length slot → (way : List ℕ)
     → way ≡ trail queue parents (goal - count) at ++ reverse (take count slot)
@@ -33,9 +30,3 @@ pub gather_last : (queue parents slot : List ℕ) (goal count at : ℕ) → at �
     → way ≡ trail queue parents (goal - count) at ++ reverse (take count slot) → reverse (take (count + 1) (set slot count (get_or queue 0 0))) ≡ way
 gather_last queue parents slot goal count at e lt way now =
     sym (now ∙ (ap (λ (xs : List ℕ). xs ++ reverse (take count slot)) (trail_start queue parents (goal - count) at e) ∙ one_more slot count (get_or queue 0 0) lt))
-
--- one key more is written, one fewer is left
-pub written_next : (keys slot : List ℕ) (n : ℕ) → n < length slot → (keys ++ get_or slot n 0 ∷ []) ++ reverse (take n slot) ≡ keys ++ reverse (take (n + 1) slot)
-written_next keys slot n lt =
-    append_assoc keys (get_or slot n 0 ∷ []) (reverse (take n slot))
-    ∙ ap (λ (xs : List ℕ). keys ++ xs) (sym (ap (λ (xs : List ℕ). reverse xs) (take_more slot n 0 lt) ∙ reverse-append (take n slot) (get_or slot n 0 ∷ [])))

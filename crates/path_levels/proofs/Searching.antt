@@ -8,10 +8,10 @@ use Rattle.graph_kinds.specs.declared.outcome.Outcome.TheVariants as out
 use Rattle.graph_kinds.specs.Answer.{by_levels}
 use Rattle.graph_kinds.specs.Levels.{stands_in, firsts_of, levels_of, level_ends, level_after}
 use Rattle.scan_record.specs.declared.rows.VertexRow.{VertexRow}
+use Rattle.scan_record.specs.Asked.{root_of, answered}
 use Rattle.scan_record.specs.Scan.{ScanValue}
 use Rattle.scan_record.specs.ScanGraph.{graph_of_scan}
 use Rattle.path_levels.specs.Queue.{with_all}
-use Rattle.scan_record.specs.Asked.{root_of, answered}
 use Rattle.path_levels.specs.Search.{KeepsRowsAndCosts, IsQueue}
 use Rattle.path_levels.proofs.MetLists.{with_all-append, with_all-firsts}
 use Rattle.path_levels.proofs.Listed.{IsListed, first_listed, next_listed, all_listed, concat-push, level_ends-push, length-level_ends}

@@ -3,9 +3,9 @@
 ghost use Rattle.std.specs.Prelude.{◌≡◌};
 ghost use Rattle.graph_kinds.specs.Answer.{by_levels};
 ghost use Rattle.graph_kinds.specs.Levels.{levels_of};
+ghost use Rattle.scan_record.specs.Asked.{root_of, answered};
 ghost use Rattle.scan_record.specs.Scan.{IsComplete};
 ghost use Rattle.scan_record.specs.ScanGraph.{graph_of_scan};
-ghost use Rattle.scan_record.specs.Asked.{root_of, answered};
 ghost use Rattle.path_levels.specs.Search.{KeepsRowsAndCosts};
 
 use crate::search::search;

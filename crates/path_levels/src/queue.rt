@@ -6,10 +6,10 @@
 
 ghost use Rattle.std.specs.Prelude.{◌≡◌, ℕ, ◌+◌, ◌<◌, ◌≤◌, true, [], ◌∷◌, length, slice_index};
 ghost use Rattle.graph_kinds.specs.Graph.{neighbours};
+ghost use Rattle.scan_record.specs.Asked.{root_of};
 ghost use Rattle.scan_record.specs.Scan.{IsScan, IsComplete, row_at};
 ghost use Rattle.scan_record.specs.ScanGraph.{graph_of_scan};
 ghost use Rattle.path_levels.specs.Queue.{with_met, with_all, leads};
-ghost use Rattle.scan_record.specs.Asked.{root_of};
 ghost use Rattle.path_levels.specs.Search.{with_row, KeepsRowsAndCosts, IsQueue};
 
 use scan_record::Scan;

@@ -7,10 +7,10 @@ ghost use Rattle.std.specs.Prelude.{◌≡◌, ◌≤◌, length, drop, flat_map
 ghost use Rattle.std.specs.List.{concat};
 ghost use Rattle.graph_kinds.specs.Graph.{IsGraph, neighbours};
 ghost use Rattle.graph_kinds.specs.Levels.{levels_of, level_ends};
+ghost use Rattle.scan_record.specs.Asked.{root_of};
 ghost use Rattle.scan_record.specs.Scan.{IsComplete};
 ghost use Rattle.scan_record.specs.ScanGraph.{graph_of_scan};
 ghost use Rattle.path_levels.specs.Queue.{with_all, IsTree};
-ghost use Rattle.scan_record.specs.Asked.{root_of};
 ghost use Rattle.path_levels.specs.Search.{KeepsRowsAndCosts, IsQueue};
 
 use crate::queue::{begin, expand, queue_len};

@@ -5,16 +5,16 @@ ghost use Rattle.std.specs.Prelude.{reverse, take, IfSome, IfNone};
 ghost use Rattle.graph_kinds.specs.Answer.{by_path};
 ghost use Rattle.graph_kinds.specs.Levels.{stands_in, reach_path};
 ghost use Rattle.graph_kinds.specs.Path.{IsPath};
+ghost use Rattle.scan_record.specs.Asked.{root_of, answered};
 ghost use Rattle.scan_record.specs.Scan.{IsComplete};
 ghost use Rattle.scan_record.specs.ScanGraph.{graph_of_scan};
 ghost use Rattle.path_levels.specs.Queue.{trail};
-ghost use Rattle.scan_record.specs.Asked.{root_of, answered};
 ghost use Rattle.path_levels.specs.Search.{KeepsRowsAndCosts};
 
 use crate::queue::{MARK, PARENT, queue_len};
 use crate::search::search;
 use graph_kinds::Outcome;
-use scan_record::Scan;
+use scan_record::{Scan, write_back};
 
 /// The place of a key in the queue. O(keys).
 fn place_of(scan: &Scan, key: u32) -> Option<u32>
@@ -51,22 +51,6 @@ fn gather(scan: &mut Scan, goal: u32) -> u32
     count + 1
 }
 
-/// Writes the first numbers in the slot of the marks as the answer's keys, the last of them first.
-fn write_back(scan: &mut Scan, count: u32)
-    requires { count ≤ length scan.old.rows }
-    ensures keys { scan.new.keys ≡ reverse (take count scan.old.slot_two) }
-    ensures ends { scan.new.ends ≡ [] }
-    ensures kept { KeepsRowsAndCosts scan.old scan.new }
-{
-    prove!(count <= scan.vertices());
-    scan.clear_answer();
-    let mut left = count;
-    while left > 0 {
-        left -= 1;
-        scan.put_key(scan.work(left, MARK));
-    }
-}
-
 /// The path by parents from row 0 to the goal: `Path` with its keys in the answer region, or `NoPath` with
 /// none, where no path leads there or the goal is no key. Takes no memory, in O(rows + edges) (Moore 1959).
 pub fn reach(scan: &mut Scan, goal: u32) -> Outcome
@@ -87,7 +71,7 @@ pub fn reach(scan: &mut Scan, goal: u32) -> Outcome
     match place_of(scan, goal) {
         Some(place) => {
             let count = gather(scan, place);
-            write_back(scan, count);
+            write_back(scan, MARK, count);
             Outcome::Path
         }
         None => {

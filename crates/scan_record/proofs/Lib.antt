@@ -7,3 +7,4 @@ pub mod GraphOfScan
 pub mod IsGraphOfScan
 pub mod Pushes
 pub mod ScanFacts
+pub mod Gathered

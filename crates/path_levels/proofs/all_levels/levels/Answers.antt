@@ -1,6 +1,6 @@
 use Rattle.std.proofs.Common.{ℕ, List, length, ap}
-use Rattle.scan_record.specs.ScanGraph.{graph_of_scan}
 use Rattle.scan_record.specs.Asked.{root_of}
+use Rattle.scan_record.specs.ScanGraph.{graph_of_scan}
 use Rattle.scan_record.proofs.ScanFacts.{graph_kept, complete_kept}
 use Rattle.path_levels.proofs.Searching.{levels_answer}
 use Rattle.path_levels.proofs.all_levels.levels.Goals as goal

@@ -3,9 +3,9 @@ use Rattle.graph_kinds.specs.declared.outcome.Outcome.TheVariants as out
 use Rattle.graph_kinds.specs.Answer.{by_path}
 use Rattle.graph_kinds.specs.Levels.{stands_in, reach_path}
 use Rattle.graph_kinds.proofs.LevelsReach.{reach_path_law, shortest_law, no_reach_law}
+use Rattle.scan_record.specs.Asked.{root_of}
 use Rattle.scan_record.specs.Scan.{ScanValue}
 use Rattle.scan_record.specs.ScanGraph.{graph_of_scan}
-use Rattle.scan_record.specs.Asked.{root_of}
 use Rattle.scan_record.proofs.ScanFacts.{row_key}
 use Rattle.path_levels.proofs.Trails.{reach_place, reach_nowhere}
 use Rattle.path_levels.proofs.shortest.reach.Goals as goal
@@ -16,14 +16,14 @@ written c =
     let old = c.args.scan.now in
     let found = c.search.new.scan in
     reach_place (graph_of_scan old) (root_of old) c.args.goal found.keys found.slot_one (row_key old 0 c.requires.has_root) c.search.ensures.parents c.search.ensures.keys c.in-Some.place c.in-Some.ensures.place.0 c.in-Some.ensures.place.1
-    ∙ ap (λ (p : List ℕ). Some p) (sym (c.write_back.ensures.keys ∙ c.gather-count.ensures.gathered))
+    ∙ ap (λ (p : List ℕ). Some p) (sym (ap (λ (t : ScanValue). t.keys) c.write_back.ensures ∙ c.gather-count.ensures.gathered))
 
 nowhere : (c : goal.After-clear_answer) → reach_path (graph_of_scan c.args.scan.now) (root_of c.args.scan.now) c.args.goal ≡ None
 nowhere c = reach_nowhere (graph_of_scan c.args.scan.now) (root_of c.args.scan.now) c.args.goal (subst (λ (q : List ℕ). stands_in q c.args.goal ≡ false) c.search.ensures.keys c.in-None.ensures.none)
 
 pub returns-in-Some-clause-answer : goal.returns-in-Some-clause-answer
 returns-in-Some-clause-answer c =
-    ap (λ (es : List ℕ). record { outcome = out.Path; keys = c.write_back.new.scan.keys; ends = es }) c.write_back.ensures.ends ∙ sym (ap by_path (written c))
+    ap (λ (es : List ℕ). record { outcome = out.Path; keys = c.write_back.new.scan.keys; ends = es }) (ap (λ (t : ScanValue). t.ends) c.write_back.ensures) ∙ sym (ap by_path (written c))
 
 pub returns-in-Some-clause-path : goal.returns-in-Some-clause-path
 returns-in-Some-clause-path c _ = reach_path_law (graph_of_scan c.args.scan.now) (root_of c.args.scan.now) c.args.goal c.write_back.new.scan.keys c.search.ensures.graph (row_key c.args.scan.now 0 c.requires.has_root) (written c)
