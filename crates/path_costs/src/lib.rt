@@ -6,3 +6,6 @@ mod path;
 mod search;
 
 pub use path::cheapest;
+
+#[cfg(test)]
+mod tests;
