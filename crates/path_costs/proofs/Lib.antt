@@ -1,0 +1,11 @@
+pub mod HeapPlaces
+pub mod HeapOrder
+pub mod HeapEntries
+pub mod Following
+pub mod FollowCases
+pub mod Beginning
+pub mod EdgePairs
+pub mod Expanding
+pub mod Settling
+pub mod Taking
+pub mod WaysBack
