@@ -37,3 +37,5 @@ pub mod Pairs
 pub mod EdgeLives
 pub mod FrozenLists
 pub mod ListEffects
+pub mod ClosedStays
+pub mod Spenders
