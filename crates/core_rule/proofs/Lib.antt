@@ -50,3 +50,5 @@ pub mod SafeReuse
 pub mod Accounts
 pub mod MetWords
 pub mod OwnSpent
+pub mod ClosedStays
+pub mod Spenders
