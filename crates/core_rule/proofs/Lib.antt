@@ -52,3 +52,4 @@ pub mod MetWords
 pub mod OwnSpent
 pub mod ClosedStays
 pub mod Spenders
+pub mod FreezeLifts
