@@ -39,3 +39,4 @@ pub mod FrozenLists
 pub mod ListEffects
 pub mod ClosedStays
 pub mod Spenders
+pub mod ClosedLists
