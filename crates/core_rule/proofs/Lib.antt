@@ -53,3 +53,4 @@ pub mod OwnSpent
 pub mod ClosedStays
 pub mod Spenders
 pub mod FreezeLifts
+pub mod ClosedLists
