@@ -21,13 +21,14 @@ use Rattle.core_rule.specs.Nodes.{node_in, IsUsed, IsVertex, IsLinkedEdge}
 use Rattle.core_rule.specs.Edges.{IsUnlinkEdge}
 use Rattle.core_rule.specs.FreeNodes.{IsPushFree, IsStoreFree}
 use Rattle.core_rule.specs.Freezing.{IsSpentVertex, IsFrozenWord, IsFreezeEdge}
-use Rattle.core_rule.specs.Chains.{list_word, edge_chain, is_listed, is_frozen, KeepsList}
+use Rattle.core_rule.specs.Chains.{list_word, edge_chain, is_listed, is_frozen, life_in, KeepsList}
 use Rattle.core_rule.specs.Fronts.{IsLifeAt, MayFreezeEdge, MayStoreFree}
 use Rattle.core_rule.specs.OwnEvents.{freeze_edge_event, store_free_event}
 use Rattle.core_rule.specs.Owes.{Reaches}
 use Rattle.core_rule.specs.Standings.{IsSpentWith, IsKeptSpent}
 use Rattle.core_rule.specs.declared.view.View.{View}
 use Rattle.core_rule.proofs.Called.{quiet_more, quiet_front}
+use Rattle.core_rule.proofs.ClosedLists.{edge_on, kept_leads}
 use Rattle.core_rule.proofs.ClosedStays.{finished_stays, part_stays, old_finished}
 use Rattle.core_rule.proofs.Contents.{contents}
 use Rattle.core_rule.proofs.EdgeChains.{lists, cut_spot}
@@ -218,9 +219,59 @@ module _ (sizes : Sizes) (z : IsLayout sizes) (caller last place x : ℕ) (sourc
   behind_stays : (tag : ℕ) (journal : List Event) → IsPrefix front journal → IsKept sizes journal → IsQuiet journal caller last → IsBehind tag source.index x (state sizes front) → IsBehind tag source.index x (state sizes journal)
   behind_stays tag journal p kept quiet start = (kept_beyond sizes (λ (j : List Event). IsQuiet j caller last × IsBehindIn tag j) caller last
       (λ past e past_kept c other ok. (
-      quiet_more past e caller last other c.0,
+        quiet_more past e caller last other c.0,
+        record {
+          before = prefix_trans front past (past ++ e ∷ []) c.1.before (prefix_snoc past e);
+          behind = subst (λ (s : State). IsBehind tag source.index x s) (sym (state-snoc sizes past e)) (behind_step past c.1.before past_kept c.0 tag e other c.1.behind e.kind ok.as_kind);
+        },
+      )) front journal p kept quiet within (quiet_front front journal caller last p quiet, record { before = prefix_refl front; behind = start })).1.behind
+
+module _ (v : View) (z : IsLayout v.sizes) (journal : List Event) (r : Reaches v journal) where
+  -- an edge on the list of a vertex whose list is one still is used, and those of the frozen part are spent with the caller
+  used_at : (source : Life) → KeepsList v.sizes v.front source.index → (y : ℕ) → is_listed (state v.sizes v.front) source.index y ≡ true → IsUsed (node_in v.sizes v.front y).mode
+  used_at source list y on = (list.edges (life_in v.sizes v.front y) (edge_on v.sizes z v.front (kept_front v.sizes v.front journal r.front r.kept) source.index y on)).used
+
+  handed_at : (source : Life) → KeepsList v.sizes v.front source.index → IsSpentVertex v.sizes v.front v.number source.index → (y : ℕ) → is_frozen (state v.sizes v.front) source.index y ≡ true → IsSpentWith v.sizes v.front v.number y × (y < v.sizes.nodes)
+  handed_at source list spent y part =
+      let old : IsKept v.sizes v.front = kept_front v.sizes v.front journal r.front r.kept in
+      let on = part_listed (state v.sizes v.front).node (state v.sizes v.front).edges (state v.sizes v.front).frozen source.index y part in
+      let who = part_who v.sizes z v.front old source.index y list.used list.vertex part (used_at source list y on) in
+      (record { spent = who.0; mine = who.1 ∙ spent.mine }, ((listing v.sizes z v.front old).on source.index y on).there)
+
+  -- an edge is frozen
+  pub lift_freeze_edge : (source : Life) (place : ℕ) (x : Life) → MayFreezeEdge v source place x → mark_of (word_at v.sizes journal (link_at v.sizes x.index)) ≡ 0 → IsFreezeEdge v.sizes journal (freeze_edge_event v x (word_at v.sizes journal (link_at v.sizes x.index)))
+  lift_freeze_edge source place x m live =
+      let old : IsKept v.sizes v.front = kept_front v.sizes v.front journal r.front r.kept in
+      let vertex : IsVertex v.sizes v.front source = record { there = m.life.there; life = m.life.tag; used = m.list.used; vertex = m.list.vertex } in
+      let on : is_listed (state v.sizes v.front) source.index x.index ≡ true = ⊎_elim
+      (λ (none : index_of (word_at v.sizes v.front place) ≡ nowhere). absurd (let t = m.edge.there in omega (arith, none, m.leads, t, z.few_nodes)))
+      (λ (h : is_listed (state v.sizes v.front) source.index (index_of (word_at v.sizes v.front place)) ≡ true). subst (λ (i : ℕ). is_listed (state v.sizes v.front) source.index i ≡ true) m.leads h)
+      (kept_leads v.sizes z v.front old source.index place m.list m.frozen) in
+      let handed_over = handed_at source m.list m.spent in
+      let behind : IsBehind x.tag source.index x.index (state v.sizes journal) =
+      behind_stays v.sizes z v.number v.last place x.index source v.front old r.old vertex m.spent m.frozen handed_over m.leads m.edge.there x.tag journal r.front r.kept r.quiet
+      record { life = sym m.edge.tag; used = used_at source m.list x.index on; on = on } in
+      let now : IsVertex v.sizes journal source = source_now v.sizes z v.number v.last place x.index source v.front old r.old vertex m.spent m.frozen handed_over m.leads m.edge.there journal r.front r.kept r.quiet in
+      let spent : IsSpentVertex v.sizes journal v.number source.index = spent_now v.sizes z v.number v.last place x.index source v.front old r.old vertex m.spent m.frozen handed_over m.leads m.edge.there journal r.front r.kept r.quiet in
+      let word = same_word v.sizes z v.number v.last place x.index source v.front old r.old vertex m.spent m.frozen handed_over m.leads m.edge.there journal r.front r.kept r.quiet in
+      let at = (listing v.sizes z journal r.kept).on source.index x.index behind.on in
+      let from : (node_in v.sizes journal x.index).source ≡ source = λ i. record { index = at.index i; tag = (at.life ∙ sym now.life) i } in
       record {
-        before = prefix_trans front past (past ++ e ∷ []) c.1.before (prefix_snoc past e);
-        behind = subst (λ (s : State). IsBehind tag source.index x s) (sym (state-snoc sizes past e)) (behind_step past c.1.before past_kept c.0 tag e other c.1.behind e.kind ok.as_kind);
-      },
-    )) front journal p kept quiet within (quiet_front front journal caller last p quiet, record { before = prefix_refl front; behind = start })).1.behind
+        life = sym behind.life;
+        there = m.edge.there;
+        place = refl;
+        linked = record { linked = linked_by (node_in v.sizes journal x.index).mode behind.used refl; edge = at.edge };
+        source = subst (λ (y : Life). IsVertex v.sizes journal y) (sym from) now;
+        spent = subst (λ (y : Life). IsSpentVertex v.sizes journal v.number y.index) (sym from) spent;
+        before = place;
+        frozen = subst (λ (y : Life). IsFrozenWord v.sizes journal y.index place) (sym from) word.frozen;
+        leads = ap index_of word.same ∙ m.leads;
+        unmarked = live;
+        word = refl;
+      }
+    where
+      linked_by : (k : Mode) → IsUsed k → (node_in v.sizes journal x.index).mode ≡ k → (node_in v.sizes journal x.index).mode ≡ Linked
+      linked_by Linked u is = is
+      linked_by Spent u is = let d = ((link_words v.sizes z journal r.kept).each x.index m.edge.there).spent is in absurd (omega (arith, d.marked, live))
+      linked_by Free u is = absurd u
+      linked_by Fresh u is = absurd u
