@@ -50,3 +50,7 @@ pub mod SafeReuse
 pub mod Accounts
 pub mod MetWords
 pub mod OwnSpent
+pub mod ClosedStays
+pub mod Spenders
+pub mod FreezeLifts
+pub mod ClosedLists

@@ -13,6 +13,7 @@ use Rattle.core_journal.specs.Reuse.{pass_in}
 use Rattle.core_journal.specs.State.{state}
 use Rattle.core_rule.specs.Counts.{pops, raises, moves, made, most_pops, most_raises, most_moves}
 use Rattle.core_rule.specs.Nodes.{node_in, IsFreshWith, IsFrozenToEnd, IsRipe}
+use Rattle.core_rule.specs.Chains.{KeepsList}
 use Rattle.core_rule.specs.Passes.{IsChecked}
 use Rattle.core_rule.specs.Vertices.{IsFilledVertex}
 use Rattle.core_rule.specs.Edges.{IsFilledEdge, IsRaisedFor}
@@ -208,10 +209,12 @@ pub record MayFreezeHead (v : View) (x : Life) : Type 0 where
   pub life : IsLifeAt v x
   pub spent : IsSpentVertex v.sizes v.front v.number x.index
 
--- the token unlinked the vertex, and a frozen word of its list leads to this node
+-- the token unlinked the vertex, whose list has no edge yet that was stored for the free list, and a frozen word of the list
+-- leads to this edge
 pub record MayFreezeEdge (v : View) (source : Life) (place : ℕ) (x : Life) : Type 0 where
   pub life : IsLifeAt v source
   pub spent : IsSpentVertex v.sizes v.front v.number source.index
+  pub list : KeepsList v.sizes v.front source.index
   pub frozen : IsFrozenWord v.sizes v.front source.index place
   pub edge : IsLifeAt v x
   pub leads : index_of (word_at v.sizes v.front place) ≡ x.index

@@ -12,27 +12,31 @@ ghost use Rattle.packed_link.specs.Layout.{IsLayout, epoch_at, free_at, link_at,
 ghost use Rattle.packed_link.specs.declared.link.Life.{Life};
 ghost use Rattle.core_journal.specs.declared.event.Event.{Event};
 ghost use Rattle.core_journal.specs.declared.event.Kind.TheVariants.{Announce, LinkEdge, LinkVertex, MarkEdge, MarkVertex};
-ghost use Rattle.core_journal.specs.declared.event.Kind.TheVariants.{FreezeHead, MoveEpoch, PopFree, PushFree, Raise};
-ghost use Rattle.core_journal.specs.declared.event.Kind.TheVariants.{StorePrivate, UnlinkEdge, UnlinkVertex, Withdraw};
+ghost use Rattle.core_journal.specs.declared.event.Kind.TheVariants.{FreezeEdge, FreezeHead, MoveEpoch, PopFree, PushFree};
+ghost use Rattle.core_journal.specs.declared.event.Kind.TheVariants.{Raise, StoreFree, StorePrivate, UnlinkEdge, UnlinkVertex, Withdraw};
 ghost use Rattle.core_journal.specs.Machine.{word_at};
 ghost use Rattle.core_rule.specs.declared.view.View.{View};
-ghost use Rattle.core_rule.specs.Fronts.{MayAnnounce, MayFreezeHead, MayLinkEdge, MayLinkVertex, MayMarkEdge, MayMarkVertex};
-ghost use Rattle.core_rule.specs.Fronts.{MayMoveEpoch, MayPopFree, MayPushFree, MayRaise, MayStorePrivate};
+ghost use Rattle.core_rule.specs.Fronts.{MayAnnounce, MayFreezeEdge, MayFreezeHead, MayLinkEdge, MayLinkVertex};
+ghost use Rattle.core_rule.specs.Fronts.{MayMarkEdge, MayMarkVertex};
+ghost use Rattle.core_rule.specs.Fronts.{MayMoveEpoch, MayPopFree, MayPushFree, MayRaise, MayStoreFree, MayStorePrivate};
 ghost use Rattle.core_rule.specs.Fronts.{MayUnlinkEdge, MayUnlinkVertex, MayWithdraw};
 ghost use Rattle.core_rule.specs.Kept.{AllowedAs};
-ghost use Rattle.core_rule.specs.OwnEvents.{announce_event, freeze_head_event, link_edge_event, link_vertex_event};
+ghost use Rattle.core_rule.specs.OwnEvents.{announce_event, freeze_edge_event, freeze_head_event, link_edge_event};
+ghost use Rattle.core_rule.specs.OwnEvents.{link_vertex_event, store_free_event};
 ghost use Rattle.core_rule.specs.OwnEvents.{mark_edge_event, mark_vertex_event, move_event, pop_event, push_event};
 ghost use Rattle.core_rule.specs.OwnEvents.{raise_event, store_event, unlink_edge_event, unlink_vertex_event, withdraw_event};
 ghost use Rattle.core_rule.specs.Owes.{Reaches};
 
-/// A node is taken where the word of the free list is the one seen; a word of a fresh node is stored; and a ripe node whose
-/// link was stored is given back where the word of the free list is the one seen.
+/// A node is taken where the word of the free list is the one seen; a word of a fresh node is stored; the link of a ripe node is
+/// stored for the free list; and such a node is given back where the word of the free list is the one seen.
 pub fn steps_on_free_nodes_are_allowed()
     ensures pop { (v : View) → IsLayout v.sizes → (seen next : ℕ) → MayPopFree v seen next → (journal : List Event)
         → Reaches v journal → word_at v.sizes journal (free_at v.sizes) ≡ seen
         → AllowedAs PopFree v.sizes journal (pop_event v seen next) }
     ensures store { (v : View) → IsLayout v.sizes → (x : Life) (field word : ℕ) → MayStorePrivate v x field word
         → (journal : List Event) → Reaches v journal → AllowedAs StorePrivate v.sizes journal (store_event v x field word) }
+    ensures store_link { (v : View) → IsLayout v.sizes → (next : ℕ) (x : Life) → MayStoreFree v next x → (journal : List Event)
+        → Reaches v journal → AllowedAs StoreFree v.sizes journal (store_free_event v next x) }
     ensures push { (v : View) → IsLayout v.sizes → (seen : ℕ) (x : Life) → MayPushFree v seen x → (journal : List Event)
         → Reaches v journal → word_at v.sizes journal (free_at v.sizes) ≡ seen
         → AllowedAs PushFree v.sizes journal (push_event v seen x) }
@@ -79,9 +83,13 @@ pub fn steps_on_edges_are_allowed()
         → AllowedAs UnlinkEdge v.sizes journal (unlink_edge_event v place seen next x) }
 {}
 
-/// A list is closed at its head where the vertex's second word is unmarked.
+/// A list is closed at its head where the vertex's second word is unmarked, and an edge to which a frozen word of it leads is
+/// frozen where its link is unmarked.
 pub fn steps_on_closed_lists_are_allowed()
     ensures head { (v : View) → IsLayout v.sizes → (x : Life) → MayFreezeHead v x → (journal : List Event) → Reaches v journal
         → mark_of (word_at v.sizes journal (second_at v.sizes x.index)) ≡ 0
         → AllowedAs FreezeHead v.sizes journal (freeze_head_event v x (word_at v.sizes journal (second_at v.sizes x.index))) }
+    ensures edge { (v : View) → IsLayout v.sizes → (source : Life) (place : ℕ) (x : Life) → MayFreezeEdge v source place x
+        → (journal : List Event) → Reaches v journal → mark_of (word_at v.sizes journal (link_at v.sizes x.index)) ≡ 0
+        → AllowedAs FreezeEdge v.sizes journal (freeze_edge_event v x (word_at v.sizes journal (link_at v.sizes x.index))) }
 {}
