@@ -366,13 +366,15 @@ fn the_record_behind_the_last_is_refused(rt: HostRuntime) -> Result<(), Fail> {
     for _ in 0..65_537 {
         input.extend_from_slice(b"0,has-vertex,1,,\n")?;
     }
-    let (status, sink) = run_on(&rt, &["run"], input.as_slice())?;
-    let bad = Status::BadRow {
-        row: 65_537,
-        cause: RowCause::TooManyRows,
-    };
-    assert_eq!(rt; status, bad);
-    assert_eq!(rt; sink.bytes(), b"".as_slice());
+    for command in ["run", "replay"] {
+        let (status, sink) = run_on(&rt, &[command], input.as_slice())?;
+        let bad = Status::BadRow {
+            row: 65_537,
+            cause: RowCause::TooManyRows,
+        };
+        assert_eq!(rt; status, bad);
+        assert_eq!(rt; sink.bytes(), b"".as_slice());
+    }
     Ok(())
 }
 
