@@ -37,6 +37,7 @@ pub mod ListParts
 pub mod Listed
 pub mod ListSteps
 pub mod EdgeChains
+pub mod LeadsOn
 pub mod UnlinkLifts
 pub mod Counted
 pub mod Pairs
