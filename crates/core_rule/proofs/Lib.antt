@@ -38,6 +38,8 @@ pub mod Listed
 pub mod ListSteps
 pub mod EdgeChains
 pub mod LeadsOn
+pub mod Modes
+pub mod SpentLinks
 pub mod UnlinkLifts
 pub mod Counted
 pub mod Pairs
