@@ -40,6 +40,7 @@ pub mod EdgeChains
 pub mod LeadsOn
 pub mod Modes
 pub mod SpentLinks
+pub mod MetBehind
 pub mod UnlinkLifts
 pub mod Counted
 pub mod Pairs
