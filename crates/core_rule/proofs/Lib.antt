@@ -36,6 +36,10 @@ pub mod ListParts
 pub mod Listed
 pub mod ListSteps
 pub mod EdgeChains
+pub mod LeadsOn
+pub mod Modes
+pub mod SpentLinks
+pub mod MetBehind
 pub mod UnlinkLifts
 pub mod Counted
 pub mod Pairs

@@ -18,3 +18,4 @@ pub mod Effects
 pub mod Fronts
 pub mod OwnEvents
 pub mod Raised
+pub mod Walks

@@ -15,6 +15,7 @@ mod raises;
 mod reuse;
 mod rule;
 mod view;
+mod walks;
 mod words;
 
 pub use buckets::{
@@ -42,6 +43,7 @@ pub use rule::{
     a_reply_keeps_the_rule, splits_and_joins_keep_the_rule, steps_keep_the_rule,
 };
 pub use view::View;
+pub use walks::{a_walk_meets_what_its_pass_may_hold, spent_nodes_lead_no_further_back};
 pub use words::{
     announcements_tell_passes, counters_count_raises, events_are_of_past_lives, first_words_count,
     free_list_is_exact, links_tell_states, lives_are_linked_once, marked_words_stay,
