@@ -13,11 +13,11 @@ ghost use Rattle.core_rule.specs.Kept.{Allowed, IsKept};
 /// Each kind has its effect: the step of the chain at whose word the event is, all other chains untouched, and the graph after
 /// the call that it carries out, or as it was.
 pub fn each_kind_has_its_effect()
-    ensures { (sizes : Sizes) → IsLayout sizes → (past : List Event) (e : Event) → IsKept sizes past
+    ensures effect { (sizes : Sizes) → IsLayout sizes → (past : List Event) (e : Event) → IsKept sizes past
         → Allowed sizes past e → EffectAs e.kind sizes past e }
 {}
 
 /// A kept journal is regular: each mark of a vertex changes the graph, and each event that changes it carries out its call.
 pub fn kept_journals_are_regular()
-    ensures { (sizes : Sizes) → IsLayout sizes → (journal : List Event) → IsKept sizes journal → IsRegular journal }
+    ensures regular { (sizes : Sizes) → IsLayout sizes → (journal : List Event) → IsKept sizes journal → IsRegular journal }
 {}

@@ -3,4 +3,4 @@ use Rattle.core_rule.proofs.KindEffects.{effect}
 use Rattle.core_rule.proofs.effects.each_kind_has_its_effect.Goals as goal
 
 pub returns : goal.returns
-returns c = λ sizes z past e kept ok. effect sizes z past e kept e.kind refl ok.as_kind
+returns c = record { effect = λ sizes z past e kept ok. effect sizes z past e kept e.kind refl ok.as_kind }
