@@ -15,7 +15,7 @@ use Rattle.core_journal.specs.Life.{key_of, link_of, edge_linked, vertex_marked}
 use Rattle.core_journal.specs.GraphOf.{present_key}
 use Rattle.core_journal.specs.Machine.{word_at}
 use Rattle.core_journal.specs.Prefix.{IsPrefix}
-use Rattle.core_journal.specs.State.{Fresh, Node, State, state}
+use Rattle.core_journal.specs.State.{Mode, Free, Fresh, Linked, Spent, Node, State, state}
 use Rattle.core_journal.proofs.KeptLives.{link_more, linked-link}
 use Rattle.core_journal.proofs.Lists.{prefix_take}
 use Rattle.core_journal.proofs.Snoc.{same_self}
@@ -23,10 +23,12 @@ use Rattle.core_rule.specs.Counts.{raises, raised}
 use Rattle.core_rule.specs.Edges.{IsLinkEdge, IsRaisedFor}
 use Rattle.core_rule.specs.Kept.{Allowed, AllowedAs, KeptFrom, IsKept}
 use Rattle.core_rule.specs.Nodes.{node_in, IsUsed, IsVertex, IsLinkedEdge}
+use Rattle.core_rule.specs.Facts.{IsMet}
 use Rattle.core_rule.specs.Raised.{IsLinkedLower}
+use Rattle.core_rule.proofs.MetBehind.{met_unstored}
 use Rattle.core_rule.proofs.Induction.{kept_front}
 use Rattle.core_rule.proofs.Steps.{IsAfter, Keeps, put_case, holds_onward}
-use Rattle.core_rule.proofs.LinkWords.{taken}
+use Rattle.core_rule.proofs.LinkWords.{link_words, taken}
 use Rattle.core_rule.proofs.LinkedOnce.{fresh_before}
 use Rattle.core_rule.proofs.Lives.{IsWithin, same_tag, counters}
 use Rattle.core_rule.proofs.Named.{life_is, named}
@@ -242,3 +244,23 @@ pub counter_rises : (sizes : Sizes) → IsLayout sizes → (x : ℕ) (front jour
 counter_rises sizes z x front journal p kept fresh tag =
     let P = IsNoLess sizes x (node_in sizes front x).tag (word_at sizes front (third_at sizes x)) in
     (holds_onward sizes P (no_less_step sizes z x (node_in sizes front x).tag (word_at sizes front (third_at sizes x))) front journal p kept record { low = omega arith; fresh = λ _. fresh; no_less = λ _. omega arith }).no_less tag
+
+-- what a pass has met isn't stored for the free list
+unstored_met : (sizes : Sizes) → IsLayout sizes → (journal : List Event) → IsKept sizes journal → (caller x : ℕ) → x < sizes.nodes → IsMet sizes journal caller x → (node_in sizes journal x).stored ≡ false
+unstored_met sizes z journal kept caller x there m = by (node_in sizes journal x).mode refl
+  where
+    by : (k : Mode) → (node_in sizes journal x).mode ≡ k → (node_in sizes journal x).stored ≡ false
+    by Linked e = ((link_words sizes z journal kept).each x there).unstored e
+    by Spent e = met_unstored sizes z journal kept caller x there m e
+    by Free e = absurd (m.free e)
+    by Fresh e = absurd (m.fresh e)
+
+-- in a pass that has met the source, in which a caller raised the counter for an edge
+pub met_lower : (sizes : Sizes) → IsLayout sizes → (journal : List Event) → IsKept sizes journal → (caller : ℕ) (x : Life) (link : Event) → link_of journal x ≡ Some link → IsVertex sizes journal link.source
+    → IsMet sizes journal caller link.source.index → IsRaisedFor sizes journal caller x link.source → IsLinkedLower sizes journal (length journal) link × ((node_in sizes journal link.source.index).stored ≡ false)
+met_lower sizes z journal kept caller x link is vertex m r =
+    let whole : take (length journal) journal ≡ journal = take-length journal in
+    let was : link_of (take (length journal) journal) x ≡ Some link = ap (λ (l : List Event). link_of l x) whole ∙ is in (
+      lower_at sizes z journal kept (length journal) caller x link was (subst (λ (l : List Event). IsRaisedFor sizes l caller x link.source) (sym whole) r) (subst (λ (l : List Event). IsVertex sizes l link.source) (sym whole) vertex),
+      unstored_met sizes z journal kept caller link.source.index vertex.there m,
+    )
