@@ -50,3 +50,7 @@ pub mod SafeReuse
 pub mod Accounts
 pub mod MetWords
 pub mod OwnSpent
+pub mod SmallSteps
+pub mod TwoLives
+pub mod Refusals
+pub mod LivesShown

@@ -18,3 +18,5 @@ pub mod Effects
 pub mod Fronts
 pub mod OwnEvents
 pub mod Raised
+pub mod TwoLives
+pub mod Refused
