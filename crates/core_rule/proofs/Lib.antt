@@ -58,3 +58,7 @@ pub mod ClosedStays
 pub mod Spenders
 pub mod FreezeLifts
 pub mod ClosedLists
+pub mod SmallSteps
+pub mod TwoLives
+pub mod Refusals
+pub mod LivesShown

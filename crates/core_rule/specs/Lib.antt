@@ -19,3 +19,5 @@ pub mod Fronts
 pub mod OwnEvents
 pub mod Raised
 pub mod Walks
+pub mod TwoLives
+pub mod Refused

@@ -1,15 +1,28 @@
-//! The laws of kept journals: their fronts, and one more event.
+//! The laws of kept journals: their fronts, and one more event. Worked journals that are kept, and events that are refused.
 //!
 //! A fact that each allowed event keeps holds of all kept journals (`IsKept` of `specs/Kept.antt`), and one that each event
 //! of another caller keeps goes on from a front with all events of its caller: `proofs/Induction.antt` has these for all
 //! facts at once.
 
-ghost use Rattle.std.specs.Prelude.{List, [], ◌∷◌, ◌++◌};
-ghost use Rattle.packed_link.specs.Layout.{Sizes};
+ghost use Rattle.std.specs.Prelude.{◌≡◌, List, [], ◌∷◌, ◌++◌, Contains, map};
+ghost use Rattle.packed_link.specs.Layout.{Sizes, IsLayout};
 ghost use Rattle.core_journal.specs.declared.event.Event.{Event};
+ghost use Rattle.core_journal.specs.declared.event.Kind.{Kind};
+ghost use Rattle.core_journal.specs.GraphOf.{graph_of};
 ghost use Rattle.core_journal.specs.Prefix.{IsPrefix};
 ghost use Rattle.core_journal.specs.FirstVertex.{eight_events, tiny};
+ghost use Rattle.core_journal.specs.Machine.{machine};
+ghost use Rattle.core_journal.specs.Reuse.{ReusesSafely};
+ghost use Rattle.core_journal.specs.State.{state};
+ghost use Rattle.core_journal.specs.TwoHands.{takes};
+ghost use Rattle.core_journal.specs.Worked.{small};
 ghost use Rattle.core_rule.specs.Kept.{Allowed, IsKept};
+ghost use Rattle.core_rule.specs.Nodes.{node_in};
+ghost use Rattle.core_rule.specs.Refused.{IsRefused, closed, early, holding, lagging, unclosed, unraised};
+ghost use Rattle.core_rule.specs.Standings.{FreshWith, InGraph, OnFreeList, SpentBy, StandsAs};
+ghost use Rattle.core_rule.specs.TwoLives.{two_lives, with_edge, without_edge, with_other, without_source};
+ghost use Rattle.core_rule.specs.TwoLives.{key_two, links_new, lives_words, marks_first, moves_epoch};
+ghost use Rattle.core_rule.specs.TwoLives.{stores_link, two_keys};
 
 /// The empty journal is kept, one more allowed event keeps it so, and a front of a kept journal is kept.
 pub fn kept_journals_grow()
@@ -23,4 +36,38 @@ pub fn kept_journals_grow()
 /// The worked journal of eight events, in which one caller adds a vertex to a new table, is kept.
 pub fn a_vertex_is_added()
     ensures { IsKept tiny eight_events }
+{}
+
+/// A worked journal of 53 events, in which each of the seventeen kinds stands, is kept. An edge is added, removed, added
+/// again with another node, and gone with its source: then its node is spent by the caller who removed that source. At the
+/// end one node is in its second life, one is linked, one is spent and one is free again, and the reuse was safe.
+pub fn a_node_has_two_lives()
+    ensures sizes { IsLayout small }
+    ensures kept { IsKept small two_lives }
+    ensures each_kind { (k : Kind) → Contains (map (λ (e : Event). e.kind) two_lives) k }
+    ensures added { graph_of with_edge ≡ two_keys (((1, 2), 5) ∷ []) }
+    ensures removed { graph_of without_edge ≡ two_keys [] }
+    ensures added_again { graph_of with_other ≡ two_keys (((1, 2), 6) ∷ []) }
+    ensures gone { graph_of two_lives ≡ key_two }
+    ensures handed { StandsAs small without_source 3 (SpentBy 0) }
+    ensures fresh { StandsAs small two_lives 0 (FreshWith 0) }
+    ensures linked { StandsAs small two_lives 1 InGraph }
+    ensures spent { StandsAs small two_lives 2 (SpentBy 0) }
+    ensures freed { StandsAs small two_lives 3 OnFreeList }
+    ensures second { (node_in small two_lives 0).tag ≡ 2 }
+    ensures free_list { (state small two_lives).free ≡ 3 ∷ 4 ∷ 5 ∷ 6 ∷ 7 ∷ [] }
+    ensures words { machine small two_lives ≡ lives_words }
+    ensures reuse { ReusesSafely small two_lives }
+{}
+
+/// Six events that are refused behind kept journals. A second node is taken while one is held; an edge is marked without a
+/// raise; an edge is linked into a closed list; the epoch is moved on past an open pass; a node is stored for the free list
+/// one epoch too early; and so is one whose list isn't closed.
+pub fn wrong_events_are_refused()
+    ensures greedy { IsRefused small holding (takes 0 1 2) }
+    ensures unraised { IsRefused small unraised marks_first }
+    ensures late { IsRefused small closed (links_new 3 6) }
+    ensures hurried { IsRefused small lagging (moves_epoch 2) }
+    ensures early { IsRefused small early (stores_link 3 4) }
+    ensures unclosed { IsRefused small unclosed (stores_link 0 4) }
 {}

@@ -23,7 +23,9 @@ pub use buckets::{
 };
 pub use effects::{each_kind_has_its_effect, kept_journals_are_regular};
 pub use graph::{edges_have_ends, links_are_new};
-pub use journals::{a_vertex_is_added, kept_journals_grow};
+pub use journals::{
+    a_node_has_two_lives, a_vertex_is_added, kept_journals_grow, wrong_events_are_refused,
+};
 pub use lifts::{
     steps_on_closed_lists_are_allowed, steps_on_edges_are_allowed, steps_on_free_nodes_are_allowed,
     steps_on_passes_are_allowed, steps_on_vertices_are_allowed,

@@ -1,0 +1,171 @@
+-- Each refused event breaks one part of its condition.
+use Rattle.std.proofs.Common.{◌≡◌, ℕ, zero, suc, ◌≤◌, Bool, true, false, true≢false, not, ◌&&◌, List, [], ◌∷◌, ◌++◌, take, get_or, refl, sym, ap, ◌∙◌, subst, arith, inl, inr, lit<, lit≤}
+use Rattle.std.specs.Prelude.{slice_get, Some}
+use Rattle.std.specs.List.{list_all}
+use Rattle.packed_link.specs.Link.{pack, nowhere}
+use Rattle.packed_link.specs.Layout.{epoch_at}
+use Rattle.core_journal.specs.declared.event.Event.{Event}
+use Rattle.core_journal.specs.Event.{blank}
+use Rattle.core_journal.specs.Machine.{machine, word_at}
+use Rattle.core_journal.specs.State.{state}
+use Rattle.core_journal.specs.TwoHands.{announces, takes, withdraws}
+use Rattle.core_journal.specs.Worked.{small}
+use Rattle.core_rule.specs.Counts.{raises}
+use Rattle.core_rule.specs.Edges.{IsLinkEdge, IsMarkEdge}
+use Rattle.core_rule.specs.FreeNodes.{IsPopFree, IsStoreFree}
+use Rattle.core_rule.specs.Kept.{Allowed, IsKept}
+use Rattle.core_rule.specs.Passes.{IsChecked, IsMoveEpoch}
+use Rattle.core_rule.specs.Refused.{IsRefused, holding, unraised, closed, lagging, early, unclosed}
+use Rattle.core_rule.specs.TwoLives.{links_new, marks_first, stores_link, moves_epoch, with_other, removes_vertex}
+use Rattle.core_rule.proofs.Announcements.{epoch_was}
+use Rattle.core_rule.proofs.Counted.{allowed_at}
+use Rattle.core_rule.proofs.Epochs.{checked}
+use Rattle.core_rule.proofs.Induction.{kept_snoc}
+use Rattle.core_rule.proofs.SmallSteps.{none_fresh, announced, filled, withdrawn, moved}
+use Rattle.core_rule.proofs.TwoLives.{before, kept_3, kept_4, kept_27, kept_32, kept_42, kept_46}
+
+pub refused_holding : IsRefused small holding (takes 0 1 2)
+unfolding state
+refused_holding = record {
+  front = kept_4;
+  whole = λ kept. let a : IsPopFree small holding (takes 0 1 2) = (allowed_at small (holding ++ takes 0 1 2 ∷ []) 4 (takes 0 1 2) kept refl).as_kind in a.holds_none 0 (lit< tt) (record { fresh = refl; mine = refl });
+}
+
+-- no event of a list passes a test
+none_such : (test : Event → Bool) (xs : List Event) → list_all (λ e. not (test e)) xs ≡ true → (k : ℕ) (e : Event) → slice_get xs k ≡ Some e → test e ≡ true → ⊥
+none_such test [] h k e at is = absurd (cc)
+none_such test (x ∷ xs) h k e at is =
+    let rest : list_all (λ e. not (test e)) xs ≡ true → (j : ℕ) → slice_get xs j ≡ Some e → ⊥ = λ g j found. none_such test xs g j e found is in
+    by (test x) refl h k at rest
+  where
+    by : (b : Bool) → test x ≡ b → (not b && list_all (λ e. not (test e)) xs) ≡ true → (k : ℕ) → slice_get (x ∷ xs) k ≡ Some e → (list_all (λ e. not (test e)) xs ≡ true → (j : ℕ) → slice_get xs j ≡ Some e → ⊥) → ⊥
+    by true t g k at rest = true≢false (sym g)
+    by false t g zero at rest = let same : x ≡ e = cc in true≢false (sym is ∙ (ap test (sym same) ∙ t))
+    by false t g (suc j) at rest = rest g j at
+
+pub refused_unraised : IsRefused small unraised marks_first
+refused_unraised = record {
+  front = kept_27;
+  whole = λ kept.
+      let a : IsMarkEdge small unraised marks_first = (allowed_at small (unraised ++ marks_first ∷ []) 27 marks_first kept refl).as_kind in
+      none_such (λ e. raises e.kind) unraised refl a.raised.number a.raised.raise a.raised.at (ap raises a.raised.kind);
+}
+
+-- a front of the journal with a closed list, and the event of a number
+abbrev before_closed : ℕ → List Event
+before_closed n = take n closed
+
+next_closed : (n : ℕ) → IsKept small (before_closed n) → Allowed small (before_closed n) (get_or closed n blank) → IsKept small (before_closed n ++ get_or closed n blank ∷ [])
+next_closed n = kept_snoc small (before_closed n) (get_or closed n blank)
+
+closed_33 : IsKept small (before_closed 33)
+unfolding machine word_at state
+closed_33 = next_closed 32 kept_32 (record { by = λ _. lit< tt; as_kind = record { life = refl; there = lit< tt; place = refl; linked = record { linked = refl; vertex = refl }; unmarked = refl; word = refl; pass = refl } })
+
+closed_34 : IsKept small (before_closed 34)
+unfolding machine word_at state
+closed_34 = next_closed 33 closed_33 (record {
+  by = λ _. lit< tt;
+  as_kind = record {
+    life = refl;
+    there = lit< tt;
+    bucket = 0;
+    before = 0;
+    place = inl (refl, lit< tt);
+    before_linked = λ x h. absurd (omega (arith, h));
+    unmarked = refl;
+    leads = refl;
+    linked = record { linked = refl; vertex = refl };
+    dead = refl;
+    word = refl;
+    pass = refl;
+  };
+})
+
+closed_35 : IsKept small (before_closed 35)
+unfolding machine word_at state
+closed_35 = next_closed 34 closed_34 (record { by = λ _. lit< tt; as_kind = record { life = refl; there = lit< tt; place = refl; spent = record { spent = refl; vertex = refl; mine = refl }; unmarked = refl; word = refl } })
+
+closed_36 : IsKept small (before_closed 36)
+unfolding state
+closed_36 = next_closed 35 closed_35 (withdrawn (before_closed 35) (lit< tt) refl)
+
+closed_37 : IsKept small (before_closed 37)
+unfolding machine word_at state
+closed_37 = next_closed 36 closed_36 (announced (before_closed 36) 0 (lit< tt) refl refl)
+
+closed_38 : IsKept small (before_closed 38)
+unfolding machine word_at state
+closed_38 = next_closed 37 closed_37 (record { by = λ _. lit< tt; as_kind = record { life = refl; there = lit< tt; place = refl; seen = refl; word = refl; holds_none = none_fresh (before_closed 37) refl; limit = lit< tt } })
+
+closed_39 : IsKept small (before_closed 39)
+unfolding state
+closed_39 = next_closed 38 closed_38 (filled (before_closed 38) 3 0 2 (lit< tt) (lit< tt) (lit< tt) (lit< tt) (λ h. absurd (omega (arith, h))) refl (record { fresh = refl; mine = refl }))
+
+closed_40 : IsKept small (before_closed 40)
+unfolding state
+closed_40 = next_closed 39 closed_39 (filled (before_closed 39) 3 1 (pack nowhere 0 1) (lit< tt) (lit< tt) (lit< tt) (lit< tt) (λ _. (refl, refl)) refl (record { fresh = refl; mine = refl }))
+
+closed_41 : IsKept small (before_closed 41)
+unfolding state
+closed_41 = next_closed 40 closed_40 (filled (before_closed 40) 3 2 (pack 1 0 1) (lit< tt) (lit< tt) (lit< tt) (lit< tt) (λ h. absurd (omega (arith, h))) refl (record { fresh = refl; mine = refl }))
+
+closed_42 : IsKept small (before_closed 42)
+unfolding state
+closed_42 = next_closed 41 closed_41 (filled (before_closed 41) 3 3 6 (lit< tt) (lit< tt) (lit< tt) (lit< tt) (λ h. absurd (omega (arith, h))) refl (record { fresh = refl; mine = refl }))
+
+pub refused_late : IsRefused small closed (links_new 3 6)
+unfolding machine word_at state
+refused_late = record {
+  front = closed_42;
+  whole = λ kept.
+      let a : IsLinkEdge small closed (links_new 3 6) = (allowed_at small (closed ++ links_new 3 6 ∷ []) 42 (links_new 3 6) kept refl).as_kind in
+      let unmarked : 1 ≡ 0 = a.unmarked in
+      omega (arith, unmarked);
+}
+
+-- the epoch is moved on from 0 while a pass is open that announced it
+lagging_kept : IsKept small lagging
+unfolding machine word_at state
+lagging_kept = kept_snoc small (before 3) (moves_epoch 1) kept_3 (moved (before 3) 0 (lit< tt) refl (inr (lit≤ tt)) refl refl (lit< tt))
+
+pub refused_lagging : IsRefused small lagging (moves_epoch 2)
+unfolding machine word_at state
+refused_lagging = record {
+  front = lagging_kept;
+  whole = λ kept.
+      let a : IsMoveEpoch small lagging (moves_epoch 2) = (allowed_at small (lagging ++ moves_epoch 2 ∷ []) 4 (moves_epoch 2) kept refl).as_kind in
+      let c = checked small a.loaded lagging 0 (lit< tt) lagging_kept (subst (λ (n : ℕ). IsChecked small a.loaded lagging n 0) (sym a.seen) (a.checked 0 (lit< tt))) in
+      let late : word_at small a.loaded (epoch_at small) ≤ 0 = c.born refl in
+      let seen : word_at small a.loaded (epoch_at small) ≡ 1 = a.seen in
+      omega (arith, late, seen);
+}
+
+epoch_early : (state small early).epoch ≡ 1
+unfolding state
+epoch_early = refl
+
+pub refused_early : IsRefused small early (stores_link 3 4)
+refused_early = record {
+  front = kept_46;
+  whole = λ kept.
+      let a : IsStoreFree small early (stores_link 3 4) = (allowed_at small (early ++ stores_link 3 4 ∷ []) 46 (stores_link 3 4) kept refl).as_kind in
+      omega (arith, epoch_was small a.ripe.shown early a.ripe.shown_before kept_46, a.ripe.shown_epoch, epoch_early);
+}
+
+unclosed_kept : IsKept small unclosed
+unfolding machine word_at state
+unclosed_kept =
+    let front : List Event = with_other ++ (announces 0 ∷ removes_vertex) in
+    let one = kept_snoc small front (withdraws 0) kept_42 (withdrawn front (lit< tt) refl) in
+    let two = kept_snoc small (front ++ withdraws 0 ∷ []) (moves_epoch 1) one (moved (front ++ withdraws 0 ∷ []) 0 (lit< tt) refl (inl refl) refl refl (lit< tt)) in
+    kept_snoc small (front ++ (withdraws 0 ∷ moves_epoch 1 ∷ [])) (moves_epoch 2) two (moved (front ++ (withdraws 0 ∷ moves_epoch 1 ∷ [])) 1 (lit< tt) refl (inl refl) refl refl (lit< tt))
+
+pub refused_unclosed : IsRefused small unclosed (stores_link 0 4)
+unfolding state
+refused_unclosed = record {
+  front = unclosed_kept;
+  whole = λ kept.
+      let a : IsStoreFree small unclosed (stores_link 0 4) = (allowed_at small (unclosed ++ stores_link 0 4 ∷ []) 45 (stores_link 0 4) kept refl).as_kind in
+      true≢false (sym (a.own_list refl).head);
+}

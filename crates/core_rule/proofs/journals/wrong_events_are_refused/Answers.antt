@@ -1,0 +1,20 @@
+use Rattle.core_rule.proofs.Refusals.{refused_holding, refused_unraised, refused_late, refused_lagging, refused_early, refused_unclosed}
+use Rattle.core_rule.proofs.journals.wrong_events_are_refused.Goals as goal
+
+pub returns-clause-greedy : goal.returns-clause-greedy
+returns-clause-greedy c = refused_holding
+
+pub returns-clause-unraised : goal.returns-clause-unraised
+returns-clause-unraised c = refused_unraised
+
+pub returns-clause-late : goal.returns-clause-late
+returns-clause-late c = refused_late
+
+pub returns-clause-hurried : goal.returns-clause-hurried
+returns-clause-hurried c = refused_lagging
+
+pub returns-clause-early : goal.returns-clause-early
+returns-clause-early c = refused_early
+
+pub returns-clause-unclosed : goal.returns-clause-unclosed
+returns-clause-unclosed c = refused_unclosed

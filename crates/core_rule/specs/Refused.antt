@@ -1,0 +1,37 @@
+-- Kept journals, each with an event in mind that is refused behind it.
+use Rattle.std.specs.Prelude.{List, [], ◌∷◌, ◌++◌}
+use Rattle.packed_link.specs.Link.{nowhere}
+use Rattle.packed_link.specs.Layout.{Sizes}
+use Rattle.core_journal.specs.declared.event.Event.{Event}
+use Rattle.core_journal.specs.TwoHands.{draws, announces, withdraws, takes}
+use Rattle.core_rule.specs.Kept.{IsKept}
+use Rattle.core_rule.specs.TwoLives.{takes_edge, removes_vertex, closes_head, moves_epoch, with_edge, without_edge, with_other, without_source}
+
+-- a journal is kept, and with this event behind it no longer
+pub record IsRefused (sizes : Sizes) (past : List Event) (e : Event) : Type 0 where
+  pub front : IsKept sizes past
+  pub whole : IsKept sizes (past ++ e ∷ []) → ⊥
+
+-- caller 0 holds a node that it took and hasn't linked: it may not take another one
+abbrev pub holding : List Event
+holding = draws 0 1 ∷ draws 1 2 ∷ announces 0 ∷ takes 0 0 1 ∷ []
+
+-- caller 0 has opened a pass and raised no counter: it may not mark the edge
+abbrev pub unraised : List Event
+unraised = with_edge ++ announces 0 ∷ []
+
+-- the list of a removed vertex is closed while it's empty, and an edge for it is filled: it may not be linked any more
+abbrev pub closed : List Event
+closed = without_edge ++ (announces 0 ∷ removes_vertex ++ (closes_head nowhere ∷ withdraws 0 ∷ takes_edge 3 6))
+
+-- caller 0 has a pass that announced epoch 0, and the epoch is 1: caller 1 may not move it on to 2
+abbrev pub lagging : List Event
+lagging = draws 0 1 ∷ draws 1 2 ∷ announces 0 ∷ moves_epoch 1 ∷ []
+
+-- the nodes of an edge and of its source were spent in epoch 0, and the epoch is 1: neither may be given back
+abbrev pub early : List Event
+early = without_source ++ moves_epoch 1 ∷ []
+
+-- a removed vertex was spent in epoch 0, and the epoch is 2, but its list isn't closed: its node may not be given back
+abbrev pub unclosed : List Event
+unclosed = with_other ++ (announces 0 ∷ removes_vertex ++ (withdraws 0 ∷ moves_epoch 1 ∷ moves_epoch 2 ∷ []))
