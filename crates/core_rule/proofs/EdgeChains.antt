@@ -25,6 +25,7 @@ use Rattle.core_journal.specs.State.{Mode, Free, Fresh, Linked, Spent, Node as N
 use Rattle.core_rule.specs.Kept.{AllowedAs, IsKept}
 use Rattle.core_rule.specs.Nodes.{node_in, IsUsed}
 use Rattle.core_rule.specs.Edges.{IsLinkEdge, IsUnlinkEdge}
+use Rattle.core_rule.specs.FreeNodes.{IsStoreFree}
 use Rattle.core_rule.specs.Vertices.{IsLinkVertex}
 use Rattle.core_rule.specs.Chains.{list_word, list_places, is_listed, edge_chain, HasList, EdgeLists}
 use Rattle.core_rule.proofs.Steps.{IsAfter, Keeps, put_case, put_same, put_other, holds_all}
@@ -32,8 +33,8 @@ use Rattle.core_rule.proofs.LinkWords.{taken}
 use Rattle.core_rule.proofs.Contents.{contents}
 use Rattle.core_rule.proofs.Meets.{AreLinks, stands, meets_inserted, meets_unlinked, meets_marked, meets_untouched, joins_linked, leaves_unlinked}
 use Rattle.core_rule.proofs.ListParts.{IsWordOf, linked_none, unlinked_none}
-use Rattle.core_rule.proofs.Listed.{IsFinished, Listing, ListingOf, value_of}
-use Rattle.core_rule.proofs.ListSteps.{listing, link_only, popped_not, popped_list, IsNoVertex, IsOpenIn, open_before, open_linked, has_open}
+use Rattle.core_rule.proofs.Listed.{Listing, ListingOf, value_of, open_mode}
+use Rattle.core_rule.proofs.ListSteps.{listing, link_only, IsNoVertex, IsOpenIn, open_before, open_linked, has_open}
 
 -- the list of a vertex, by a state and the words
 abbrev pub list_chain : Sizes → State → (ℕ → ℕ) → ℕ → Chain
@@ -110,7 +111,8 @@ IsOffLists FreezeHead = ⊥
 IsOffLists FreezeEdge = ⊥
 IsOffLists _ = Unit {0}
 
-module _ (sizes : Sizes) (z : IsLayout sizes) (past : List Event) (e : Event) (kept : IsKept sizes past) (x : ℕ) (o : IsOpenIn sizes (state sizes past) x) where
+module _ (sizes : Sizes) (z : IsLayout sizes) (past : List Event) (e : Event) (kept : IsKept sizes past) (x : ℕ) (used : IsUsed (node_in sizes past x).mode)
+    (unstored : IsStoreFree sizes past e → stands e.life.index ((state sizes past).edges x) ≡ true → ⊥) (unfree : (node_in sizes past e.life.index).mode ≡ Free → stands e.life.index ((state sizes past).edges x) ≡ true → ⊥) where
   here : ListingOf sizes (state sizes past)
   here = listing sizes z past kept
 
@@ -125,7 +127,7 @@ module _ (sizes : Sizes) (z : IsLayout sizes) (past : List Event) (e : Event) (k
   off_idle PushFree n ok = record { head = λ h. omega (arith, ok.place, h); links = λ y _ h. omega (arith, ok.place, h); keys = λ y _ h. omega (arith, ok.place, h) }
   off_idle StorePrivate n ok =
       let apart : (y : ℕ) → (node_in sizes past y).mode ≢ Fresh → y ≢ e.life.index = λ y f same. f (ap (λ (i : ℕ). (node_in sizes past i).mode) same ∙ ok.fresh.fresh) in
-      let not_x : x ≢ e.life.index = apart x (λ f. subst IsUsed f o.used) in
+      let not_x : x ≢ e.life.index = apart x (λ f. subst IsUsed f used) in
       record {
         head = λ h. not_x (omega (arith, ok.place, h));
         links = λ y t h. apart y (here.on x y t).unfresh (omega (arith, ok.place, h));
@@ -148,7 +150,7 @@ module _ (sizes : Sizes) (z : IsLayout sizes) (past : List Event) (e : Event) (k
   }
   off_idle StoreFree n ok = record {
     head = λ h. omega (arith, ok.place, h);
-    links = λ y t h. let same : y ≡ e.life.index = omega (arith, ok.place, h) in let f = ok.list x o.there (subst (λ (i : ℕ). stands i ((state sizes past).edges x) ≡ true) same t) in o.unfinished record { head = f.head; each = f.edges };
+    links = λ y t h. let same : y ≡ e.life.index = omega (arith, ok.place, h) in unstored ok (subst (λ (i : ℕ). stands i ((state sizes past).edges x) ≡ true) same t);
     keys = λ y _ h. omega (arith, ok.place, h);
   }
   off_idle _ n ok = record { head = λ h. omega (arith, ok.place, ok.there, h); links = λ y _ h. omega (arith, ok.place, ok.there, h); keys = λ y _ h. omega (arith, ok.place, ok.there, h) }
@@ -160,37 +162,59 @@ module _ (sizes : Sizes) (z : IsLayout sizes) (past : List Event) (e : Event) (k
   same_idle UnlinkEdge n ok = absurd n
   same_idle FreezeHead n ok = absurd n
   same_idle FreezeEdge n ok = absurd n
-  same_idle PopFree n ok = popped_list sizes (state sizes past).node (state sizes past).edges (state sizes past).frozen here e.life.index (record (node_in sizes past e.life.index) { mode = Fresh; who = e.caller; tag = e.life.tag; marked = false; stored = false }) (taken sizes z past e kept ok).free refl x o
+  same_idle PopFree n ok =
+      let free = (taken sizes z past e kept ok).free in
+      put_other e.life.index [] (λ y. unlinked_from e.life.index ((state sizes past).edges y)) x (λ same. subst IsUsed (ap (λ (i : ℕ). (node_in sizes past i).mode) same ∙ free) used)
+      ∙ unlinked_none e.life.index ((state sizes past).edges x) (value_of (stands e.life.index ((state sizes past).edges x) ≡ false) (stands e.life.index ((state sizes past).edges x)) (λ t. absurd (unfree free t)) (λ f. f))
   same_idle _ n ok = refl
 
   -- so it leaves the list untouched
-  pub idle_list : (k : Kind) → IsOffLists k → AllowedAs k sizes past e → (w : ℕ → ℕ) → IsAfter sizes past e w → Untouched (edge_chain sizes past x) (list_chain sizes (state_by k sizes e (state sizes past)) w x)
-  idle_list k n ok w a = untouched sizes past e w (state_by k sizes e (state sizes past)) x a (off_idle k n ok) (same_idle k n ok)
+  pub idle_any : (k : Kind) → IsOffLists k → AllowedAs k sizes past e → (w : ℕ → ℕ) → IsAfter sizes past e w → Untouched (edge_chain sizes past x) (list_chain sizes (state_by k sizes e (state sizes past)) w x)
+  idle_any k n ok w a = untouched sizes past e w (state_by k sizes e (state sizes past)) x a (off_idle k n ok) (same_idle k n ok)
 
+  pub idle_stays : (k : Kind) → IsOffLists k → AllowedAs k sizes past e → (w : ℕ → ℕ) → IsAfter sizes past e w → IsList sizes (state sizes past) (word_at sizes past) x → IsList sizes (state_by k sizes e (state sizes past)) w x
+  idle_stays k n ok w a b = stays sizes (state sizes past) (state_by k sizes e (state sizes past)) (word_at sizes past) w x (same_idle k n ok) (idle_any k n ok w a) b
+
+module _ (sizes : Sizes) (z : IsLayout sizes) (past : List Event) (e : Event) (kept : IsKept sizes past) (x : ℕ) (o : IsOpenIn sizes (state sizes past) x) where
+  open_unstored : IsStoreFree sizes past e → stands e.life.index ((state sizes past).edges x) ≡ true → ⊥
+  open_unstored ok t = let f = ok.list x o.there t in o.unfinished record { head = f.head; each = f.edges }
+
+  open_unfree : (node_in sizes past e.life.index).mode ≡ Free → stands e.life.index ((state sizes past).edges x) ≡ true → ⊥
+  open_unfree free t = ⊎_elim (λ (m : (node_in sizes past e.life.index).mode ≡ Linked). absurd (cc)) (λ (m : (node_in sizes past e.life.index).mode ≡ Spent). absurd (cc))
+      (open_mode sizes (state sizes past).node (state sizes past).edges (state sizes past).frozen x e.life.index (listing sizes z past kept) o t)
+
+  -- such a kind leaves a list that isn't frozen to its end untouched
+  pub idle_list : (k : Kind) → IsOffLists k → AllowedAs k sizes past e → (w : ℕ → ℕ) → IsAfter sizes past e w → Untouched (edge_chain sizes past x) (list_chain sizes (state_by k sizes e (state sizes past)) w x)
+  idle_list = idle_any sizes z past e kept x o.used open_unstored open_unfree
+
+  list_idle : (k : Kind) → IsOffLists k → AllowedAs k sizes past e → (w : ℕ → ℕ) → IsAfter sizes past e w → IsList sizes (state sizes past) (word_at sizes past) x → IsList sizes (state_by k sizes e (state sizes past)) w x
+  list_idle = idle_stays sizes z past e kept x o.used open_unstored open_unfree
+
+module _ (sizes : Sizes) (z : IsLayout sizes) (past : List Event) (e : Event) (kept : IsKept sizes past) (x : ℕ) where
   -- an edge on the list is one of its vertex
   of_source : (y : ℕ) → stands y ((state sizes past).edges x) ≡ true → (node_in sizes past y).source.index ≡ x
-  of_source y t = (here.on x y t).index
+  of_source y t = ((listing sizes z past kept).on x y t).index
 
   -- what is linked to another list
-  off_link : IsLinkEdge sizes past e → x ≢ e.source.index → IsOff sizes past e x
+  pub off_link : IsLinkEdge sizes past e → x ≢ e.source.index → IsOff sizes past e x
   off_link ok ne = record {
-    head = λ h. ne (link_only sizes z past e kept here ok x (inl h));
-    links = λ y t h. ne (link_only sizes z past e kept here ok x (inr (y, t, h)));
+    head = λ h. ne (link_only sizes z past e kept (listing sizes z past kept) ok x (inl h));
+    links = λ y t h. ne (link_only sizes z past e kept (listing sizes z past kept) ok x (inr (y, t, h)));
     keys = λ y _ h. omega (arith, ok.place, h);
   }
 
-  same_link : (ok : IsLinkEdge sizes past e) → x ≢ e.source.index → linked_in sizes (second_at sizes x) e.place e.life.index ((state sizes past).edges x) ≡ (state sizes past).edges x
-  same_link ok ne = linked_none sizes (second_at sizes x) e.place e.life.index ((state sizes past).edges x) (λ at. ne (link_only sizes z past e kept here ok x at))
+  pub same_link : (ok : IsLinkEdge sizes past e) → x ≢ e.source.index → linked_in sizes (second_at sizes x) e.place e.life.index ((state sizes past).edges x) ≡ (state sizes past).edges x
+  same_link ok ne = linked_none sizes (second_at sizes x) e.place e.life.index ((state sizes past).edges x) (λ at. ne (link_only sizes z past e kept (listing sizes z past kept) ok x at))
 
   -- what is unlinked from another list
-  off_unlink : IsUnlinkEdge sizes past e → x ≢ (node_in sizes past e.life.index).source.index → IsOff sizes past e x
+  pub off_unlink : IsUnlinkEdge sizes past e → x ≢ (node_in sizes past e.life.index).source.index → IsOff sizes past e x
   off_unlink ok ne = record {
     head = λ h. ne (omega (arith, ok.place, h));
     links = λ y t h. ne (sym (of_source y t) ∙ ap (λ (l : Life). l.index) (ok.before_linked y h).from);
     keys = λ y _ h. omega (arith, ok.place, h);
   }
 
-  same_unlink : x ≢ (node_in sizes past e.life.index).source.index → unlinked_from e.life.index ((state sizes past).edges x) ≡ (state sizes past).edges x
+  pub same_unlink : x ≢ (node_in sizes past e.life.index).source.index → unlinked_from e.life.index ((state sizes past).edges x) ≡ (state sizes past).edges x
   same_unlink ne = unlinked_none e.life.index ((state sizes past).edges x)
       (value_of (stands e.life.index ((state sizes past).edges x) ≡ false) (stands e.life.index ((state sizes past).edges x)) (λ t. absurd (ne (sym (of_source e.life.index t)))) (λ f. f))
 
@@ -269,7 +293,7 @@ module _ (sizes : Sizes) (z : IsLayout sizes) (past : List Event) (e : Event) (k
         (alone sizes link_home s.at) (omega (arith, ok.there, z.few_nodes)) (link_can s) (writes_at sizes past e w _ _ a s.place link_near ok.word) (link_nodes s)
 
     pub link_others : (x : ℕ) → IsOpenIn sizes (state sizes past) x → x ≢ link_home → Untouched (edge_chain sizes past x) (list_chain sizes link_state w x)
-    link_others x o ne = untouched sizes past e w link_state x a (off_link sizes z past e kept x o ok ne) (same_link sizes z past e kept x o ok ne)
+    link_others x o ne = untouched sizes past e w link_state x a (off_link sizes z past e kept x ok ne) (same_link sizes z past e kept x ok ne)
 
     link_list : (x : ℕ) → IsOpenIn sizes (state sizes past) x → IsList sizes (state sizes past) (word_at sizes past) x → IsList sizes link_state w x
     link_list x o b = dite (ℕ_discrete x link_home)
@@ -282,7 +306,7 @@ module _ (sizes : Sizes) (z : IsLayout sizes) (past : List Event) (e : Event) (k
           met = subst (λ (p : ℕ). Meets (list_chain sizes link_state w link_home) Head (linked_in sizes (second_at sizes link_home) p e.life.index ((state sizes past).edges link_home))) s.place
               (meets_inserted sizes (list_places sizes link_home) (list_links sizes link_home) (edge_chain sizes past link_home) (list_chain sizes link_state w link_home) s.at e.life.index ((state sizes past).edges link_home) old.chain step old.met);
         })
-        (λ ne. stays sizes (state sizes past) link_state (word_at sizes past) w x (same_link sizes z past e kept x o ok ne) (link_others x o ne) b)
+        (λ ne. stays sizes (state sizes past) link_state (word_at sizes past) w x (same_link sizes z past e kept x ok ne) (link_others x o ne) b)
 
 -- a marked edge is unlinked from the list of its source
 module _ (sizes : Sizes) (z : IsLayout sizes) (past : List Event) (e : Event) (kept : IsKept sizes past) (ok : IsUnlinkEdge sizes past e) where
@@ -317,7 +341,7 @@ module _ (sizes : Sizes) (z : IsLayout sizes) (past : List Event) (e : Event) (k
         (alone sizes cut_home s.at) (cut_can s) (writes_at sizes past e w _ _ a s.place (omega (arith, ok.place)) ok.word) (leaves_unlinked e.life.index ((state sizes past).edges cut_home))
 
     pub cut_others : (x : ℕ) → IsOpenIn sizes (state sizes past) x → x ≢ cut_home → Untouched (edge_chain sizes past x) (list_chain sizes cut_state w x)
-    cut_others x o ne = untouched sizes past e w cut_state x a (off_unlink sizes z past e kept x o ok ne) (same_unlink sizes z past e kept x o ne)
+    cut_others x o ne = untouched sizes past e w cut_state x a (off_unlink sizes z past e kept x ok ne) (same_unlink sizes z past e kept x ne)
 
     cut_list : (x : ℕ) → IsOpenIn sizes (state sizes past) x → IsList sizes (state sizes past) (word_at sizes past) x → IsList sizes cut_state w x
     cut_list x o b = dite (ℕ_discrete x cut_home)
@@ -329,7 +353,7 @@ module _ (sizes : Sizes) (z : IsLayout sizes) (past : List Event) (e : Event) (k
           chain = IsChain-unlinked (edge_chain sizes past cut_home) (list_chain sizes cut_state w cut_home) s.at e.life.index old.chain step;
           met = meets_unlinked (edge_chain sizes past cut_home) (list_chain sizes cut_state w cut_home) s.at e.life.index ((state sizes past).edges cut_home) old.chain step old.met;
         })
-        (λ ne. stays sizes (state sizes past) cut_state (word_at sizes past) w x (same_unlink sizes z past e kept x o ne) (cut_others x o ne) b)
+        (λ ne. stays sizes (state sizes past) cut_state (word_at sizes past) w x (same_unlink sizes z past e kept x ne) (cut_others x o ne) b)
 
 -- a word of a list gets its mark, and the list stays
 module _ (sizes : Sizes) (past : List Event) (e : Event) (s' : State) (same : (x : ℕ) → s'.edges x ≡ (state sizes past).edges x) (home : ℕ) (at : Position) (place : list_word sizes home at ≡ e.place) (near : e.place < word_count sizes)
@@ -361,35 +385,23 @@ new_list sizes z past e kept ok w a =
       met = subst (λ (l : List ℕ). Meets (list_chain sizes s' w i) Head l) (sym empty) none;
     }
 
+-- a list that isn't frozen to its end, after each kind of event
+pub list_after : (sizes : Sizes) → IsLayout sizes → (past : List Event) (e : Event) → IsKept sizes past → (k : Kind) → AllowedAs k sizes past e → (w : ℕ → ℕ) → IsAfter sizes past e w → (x : ℕ) → IsOpenIn sizes (state sizes past) x → IsList sizes (state sizes past) (word_at sizes past) x → IsList sizes (state_by k sizes e (state sizes past)) w x
+list_after sizes z past e kept LinkEdge ok w a x o b = link_list sizes z past e kept ok w a x o b
+list_after sizes z past e kept UnlinkEdge ok w a x o b = cut_list sizes z past e kept ok w a x o b
+list_after sizes z past e kept MarkEdge ok w a x o b = mark_list sizes past e (state_by MarkEdge sizes e (state sizes past)) (λ _. refl) (node_in sizes past e.life.index).source.index (Node e.life.index) (sym ok.place) (omega (arith, ok.place, ok.there)) ok.word w a x (off_mark sizes z past e kept x ok.place) b
+list_after sizes z past e kept FreezeEdge ok w a x o b = mark_list sizes past e (state_by FreezeEdge sizes e (state sizes past)) (λ _. refl) (node_in sizes past e.life.index).source.index (Node e.life.index) (sym ok.place) (omega (arith, ok.place, ok.there)) ok.word w a x (off_mark sizes z past e kept x ok.place) b
+list_after sizes z past e kept FreezeHead ok w a x o b = mark_list sizes past e (state_by FreezeHead sizes e (state sizes past)) (λ _. refl) e.life.index Head (sym ok.place) (omega (arith, ok.place, ok.there)) ok.word w a x (off_close sizes z past e kept x ok.place) b
+list_after sizes z past e kept k ok w a x o b = list_idle sizes z past e kept x o k tt ok w a b
+
 lists_step : (sizes : Sizes) → IsLayout sizes → Keeps sizes (Lists sizes)
 lists_step sizes z past e kept c LinkVertex by ok w a = record {
   each = λ x o. ⊎_elim
-      (λ (old : IsOpenIn sizes (state sizes past) x). stays sizes (state sizes past) (state_by LinkVertex sizes e (state sizes past)) (word_at sizes past) w x refl (idle_list sizes z past e kept x old LinkVertex tt ok w a) (c.each x old))
+      (λ (old : IsOpenIn sizes (state sizes past) x). list_after sizes z past e kept LinkVertex ok w a x old (c.each x old))
       (λ (same : x ≡ e.life.index). subst (IsList sizes (state_by LinkVertex sizes e (state sizes past)) w) (sym same) (new_list sizes z past e kept ok w a))
       (open_linked sizes z past e kept ok x o);
 }
-lists_step sizes z past e kept c LinkEdge by ok w a = record { each = λ x o. let old = open_before sizes z past e kept LinkEdge tt ok x o in link_list sizes z past e kept ok w a x old (c.each x old) }
-lists_step sizes z past e kept c UnlinkEdge by ok w a = record { each = λ x o. let old = open_before sizes z past e kept UnlinkEdge tt ok x o in cut_list sizes z past e kept ok w a x old (c.each x old) }
-lists_step sizes z past e kept c MarkEdge by ok w a = record {
-  each = λ x o.
-      let old = open_before sizes z past e kept MarkEdge tt ok x o in
-      mark_list sizes past e (state_by MarkEdge sizes e (state sizes past)) (λ _. refl) (node_in sizes past e.life.index).source.index (Node e.life.index) (sym ok.place) (omega (arith, ok.place, ok.there)) ok.word w a x (off_mark sizes z past e kept x old ok.place) (c.each x old);
-}
-lists_step sizes z past e kept c FreezeEdge by ok w a = record {
-  each = λ x o.
-      let old = open_before sizes z past e kept FreezeEdge tt ok x o in
-      mark_list sizes past e (state_by FreezeEdge sizes e (state sizes past)) (λ _. refl) (node_in sizes past e.life.index).source.index (Node e.life.index) (sym ok.place) (omega (arith, ok.place, ok.there)) ok.word w a x (off_mark sizes z past e kept x old ok.place) (c.each x old);
-}
-lists_step sizes z past e kept c FreezeHead by ok w a = record {
-  each = λ x o.
-      let old = open_before sizes z past e kept FreezeHead tt ok x o in
-      mark_list sizes past e (state_by FreezeHead sizes e (state sizes past)) (λ _. refl) e.life.index Head (sym ok.place) (omega (arith, ok.place, ok.there)) ok.word w a x (off_close sizes z past e kept x old ok.place) (c.each x old);
-}
-lists_step sizes z past e kept c k by ok w a = record {
-  each = λ x o.
-      let old = open_before sizes z past e kept k tt ok x o in
-      stays sizes (state sizes past) (state_by k sizes e (state sizes past)) (word_at sizes past) w x (same_idle sizes z past e kept x old k tt ok) (idle_list sizes z past e kept x old k tt ok w a) (c.each x old);
-}
+lists_step sizes z past e kept c k by ok w a = record { each = λ x o. let old = open_before sizes z past e kept k tt ok x o in list_after sizes z past e kept k ok w a x old (c.each x old) }
 
 -- the lists after each kept journal
 pub lists : (sizes : Sizes) → IsLayout sizes → (journal : List Event) → IsKept sizes journal → Lists sizes (state sizes journal) (word_at sizes journal)

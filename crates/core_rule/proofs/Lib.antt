@@ -39,3 +39,5 @@ pub mod FrozenLists
 pub mod ListEffects
 pub mod EdgeEffects
 pub mod KindEffects
+pub mod ClosedStays
+pub mod Spenders

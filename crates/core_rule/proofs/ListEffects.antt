@@ -70,7 +70,7 @@ module _ (sizes : Sizes) (z : IsLayout sizes) (past : List Event) (e : Event) (k
 
   pub mark_rest : e.kind ≡ MarkEdge → IsMarkEdge sizes past e → OtherLists (node_in sizes past e.life.index).source.index
   mark_rest is ok x has ne = subst (λ (t : State). Untouched (edge_chain sizes past x) (list_chain sizes t words x)) (next_state sizes past e MarkEdge is)
-      (untouched sizes past e words (state_by MarkEdge sizes e (state sizes past)) x (after_event sizes past e) (off_mark sizes z past e kept x (has_open sizes past x has) ok.place ne) refl)
+      (untouched sizes past e words (state_by MarkEdge sizes e (state sizes past)) x (after_event sizes past e) (off_mark sizes z past e kept x ok.place ne) refl)
 
   -- a list is closed at its head
   pub close_step : e.kind ≡ FreezeHead → IsFreezeHead sizes past e → SetsMark (edge_chain sizes past e.life.index) (edge_chain sizes (past ++ e ∷ []) e.life.index) Head
@@ -79,7 +79,7 @@ module _ (sizes : Sizes) (z : IsLayout sizes) (past : List Event) (e : Event) (k
 
   pub close_rest : e.kind ≡ FreezeHead → IsFreezeHead sizes past e → OtherLists e.life.index
   close_rest is ok x has ne = subst (λ (t : State). Untouched (edge_chain sizes past x) (list_chain sizes t words x)) (next_state sizes past e FreezeHead is)
-      (untouched sizes past e words (state_by FreezeHead sizes e (state sizes past)) x (after_event sizes past e) (off_close sizes z past e kept x (has_open sizes past x has) ok.place ne) refl)
+      (untouched sizes past e words (state_by FreezeHead sizes e (state sizes past)) x (after_event sizes past e) (off_close sizes z past e kept x ok.place ne) refl)
 
   -- an edge is frozen, to which the frozen part of its list leads
   pub freeze_end : (ok : IsFreezeEdge sizes past e) → IsEnd sizes past (node_in sizes past e.life.index).source.index ok.before
@@ -99,4 +99,4 @@ module _ (sizes : Sizes) (z : IsLayout sizes) (past : List Event) (e : Event) (k
 
   pub freeze_rest : e.kind ≡ FreezeEdge → IsFreezeEdge sizes past e → OtherLists (node_in sizes past e.life.index).source.index
   freeze_rest is ok x has ne = subst (λ (t : State). Untouched (edge_chain sizes past x) (list_chain sizes t words x)) (next_state sizes past e FreezeEdge is)
-      (untouched sizes past e words (state_by FreezeEdge sizes e (state sizes past)) x (after_event sizes past e) (off_mark sizes z past e kept x (has_open sizes past x has) ok.place ne) refl)
+      (untouched sizes past e words (state_by FreezeEdge sizes e (state sizes past)) x (after_event sizes past e) (off_mark sizes z past e kept x ok.place ne) refl)

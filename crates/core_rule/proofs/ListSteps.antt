@@ -22,7 +22,7 @@ use Rattle.core_rule.proofs.LinkWords.{link_words, taken, mark_is, mark_isnt}
 use Rattle.core_rule.proofs.Contents.{contents}
 use Rattle.core_rule.proofs.Meets.{stands}
 use Rattle.core_rule.proofs.ListParts.{unlinked_was, unlinked_keeps, unlinked_none, IsWordOf, linked_was, linked_keeps, linked_joins, linked_none, part_unlinked, part_linked, part_same}
-use Rattle.core_rule.proofs.Listed.{part_of, IsEdgeOn, IsFinished, IsOpenList, IsOnSource, Listing, ListingOf, value_of, part_listed, open_mode, IsMoved, moved_open, moved_back, moved, IsGrown, then_open, handed_over}
+use Rattle.core_rule.proofs.Listed.{part_of, IsEdgeOn, IsFinished, IsOpenList, IsOnSource, Listing, ListingOf, value_of, part_listed, open_mode, IsMoved, moved_open, moved_back, moved_finish, moved, IsGrown, then_finished, then_open, handed_over}
 
 -- a node is taken: it leaves the lists, and has an empty one
 module _ (sizes : Sizes) (node : ℕ → Node) (edges : ℕ → List ℕ) (frozen : ℕ → Bool) (c : Listing sizes node edges frozen) (i : ℕ) (v : Node) (free : (node i).mode ≡ Free) (fresh : v.mode ≡ Fresh) where
@@ -52,7 +52,7 @@ module _ (sizes : Sizes) (node : ℕ → Node) (edges : ℕ → List ℕ) (froze
   pub popped_list : (x : ℕ) → IsOpenList sizes node edges frozen x → popped x ≡ edges x
   popped_list x o = put_other i [] (λ y. unlinked_from i (edges y)) x (not_free x o.used) ∙ unlinked_none i (edges x) (popped_not x o)
 
-  popped_finished : (x : ℕ) → x ≢ i → IsFinished node edges frozen x → IsFinished (put i v node) popped opened x
+  pub popped_finished : (x : ℕ) → x ≢ i → IsFinished node edges frozen x → IsFinished (put i v node) popped opened x
   popped_finished x ne f = record {
     head = put_other i false frozen x ne ∙ f.head;
     each = λ y h. let r = popped_was x y h in ap (λ (n : Node). n.marked) (popped_node y r.2) ∙ f.each y r.1;
@@ -145,7 +145,7 @@ module _ (sizes : Sizes) (node : ℕ → Node) (edges : ℕ → List ℕ) (froze
   now_vertex : (x : ℕ) → (put i v node x).vertex ≡ true → x ≢ i
   now_vertex x t same = let u : (put i v node x).vertex ≡ false = ap (λ (y : ℕ). (put i v node y).vertex) same ∙ (ap (λ (n : Node). n.vertex) (put_same i v node) ∙ vertex) in absurd (cc)
 
-  cut_finished : (x : ℕ) → IsFinished node edges frozen x → IsFinished (put i v node) cut frozen x
+  pub cut_finished : (x : ℕ) → IsFinished node edges frozen x → IsFinished (put i v node) cut frozen x
   cut_finished x f = record { head = f.head; each = λ y h. cut_mark y ∙ f.each y (unlinked_was i y (edges x) h).0 }
 
   finished_cut : (x : ℕ) → IsFinished (put i v node) cut frozen x → IsFinished node edges frozen x
@@ -239,12 +239,12 @@ module _ (sizes : Sizes) (node : ℕ → Node) (edges : ℕ → List ℕ) (froze
   joined_was x y h = ⊎_elim (λ (t : stands y (edges x) ≡ true). inl (t, not_new x y t)) (λ (t : (y ≡ i) × IsWordOf sizes (second_at sizes x) place (edges x)). inr (t.0, only x t.1)) (linked_was sizes (second_at sizes x) place i y (edges x) h)
 
   -- the list of the source isn't frozen to its end
-  source_unfinished : IsFinished node edges frozen v.source.index → ⊥
+  pub source_unfinished : IsFinished node edges frozen v.source.index → ⊥
   source_unfinished f = ⊎_elim
       (λ (at : place ≡ second_at sizes v.source.index). let t = head at in let u = f.head in absurd (cc))
       (λ (at : (z : ℕ) × (stands z (edges v.source.index) ≡ true) × (place ≡ link_at sizes z)). let t = unmarked at.0 at.2 in let u = f.each at.0 at.1 in absurd (cc)) word
 
-  join_finished : (x : ℕ) → IsFinished node edges frozen x → IsFinished (put i v node) joined frozen x
+  pub join_finished : (x : ℕ) → IsFinished node edges frozen x → IsFinished (put i v node) joined frozen x
   join_finished x f = record {
     head = f.head;
     each = λ y h. join_mark y ∙ ⊎_elim (λ (t : (stands y (edges x) ≡ true) × (y ≢ i)). f.each y t.0) (λ (t : (y ≡ i) × (x ≡ v.source.index)). absurd (source_unfinished (subst (IsFinished node edges frozen) t.1 f))) (joined_was x y h);
@@ -354,6 +354,13 @@ module _ (sizes : Sizes) (node : ℕ → Node) (edges : ℕ → List ℕ) (froze
 
   pub joins_open : (x : ℕ) → IsOpenList sizes (put i v node) (λ x. linked_in sizes (second_at sizes x) place i (edges x)) frozen x → IsOpenList sizes node edges frozen x
   joins_open = join_open sizes node edges frozen c i place v j.there j.fresh j.linked j.edge j.tag j.mark j.stored j.used j.vertex j.inside j.life j.word j.only j.head j.unmarked
+
+  pub joins_finished : (x : ℕ) → IsFinished node edges frozen x → IsFinished (put i v node) (λ x. linked_in sizes (second_at sizes x) place i (edges x)) frozen x
+  joins_finished = join_finished sizes node edges frozen c i place v j.there j.fresh j.linked j.edge j.tag j.mark j.stored j.used j.vertex j.inside j.life j.word j.only j.head j.unmarked
+
+  -- the list of the source isn't frozen to its end
+  pub joins_unfinished : IsFinished node edges frozen v.source.index → ⊥
+  joins_unfinished = source_unfinished sizes node edges frozen c i place v j.there j.fresh j.linked j.edge j.tag j.mark j.stored j.used j.vertex j.inside j.life j.word j.only j.head j.unmarked
 
 marked_same : {A : Type 0} (f : Node → A) (node : ℕ → Node) (i y : ℕ) → f (record (node i) { marked = true }) ≡ f (node i) → f (put i (record (node i) { marked = true }) node y) ≡ f (node y)
 marked_same f node i y h = put_case (λ (u : Node). f u ≡ f (node y)) i (record (node i) { marked = true }) node y (λ same. h ∙ ap (λ (z : ℕ). f (node z)) (sym same)) (λ _. refl)
@@ -556,6 +563,24 @@ open_before sizes z past e kept MarkEdge n ok x o = then_open sizes (state sizes
 open_before sizes z past e kept FreezeEdge n ok x o = then_open sizes (state sizes past).node (state sizes past).frozen (marked_state (state sizes past) e.life.index) (node_in sizes past e.life.index).source.index (listing sizes z past kept) (mark_grows sizes (state sizes past) e.life.index (listing sizes z past kept)) x o
 open_before sizes z past e kept FreezeHead n ok x o = then_open sizes (state sizes past).node (state sizes past).frozen (closed_state (state sizes past) e.life.index) e.life.index (listing sizes z past kept) (close_grows (state sizes past) e.life.index) x o
 open_before sizes z past e kept _ n ok x o = o
+
+-- a list that is frozen to its end is so after the event, where its vertex isn't taken
+pub finished_after : (sizes : Sizes) → IsLayout sizes → (past : List Event) (e : Event) → IsKept sizes past → (k : Kind) → AllowedAs k sizes past e → (x : ℕ) → (k ≡ PopFree → x ≢ e.life.index)
+    → IsFinished (state sizes past).node (state sizes past).edges (state sizes past).frozen x → IsFinished (state_by k sizes e (state sizes past)).node (state_by k sizes e (state sizes past)).edges (state_by k sizes e (state sizes past)).frozen x
+finished_after sizes z past e kept PopFree ok x ne f = popped_finished sizes (state sizes past).node (state sizes past).edges (state sizes past).frozen (listing sizes z past kept) e.life.index _ (taken sizes z past e kept ok).free refl x (ne refl) f
+finished_after sizes z past e kept LinkVertex ok x ne f = moved_finish sizes (state sizes past).node (state sizes past).edges (state sizes past).frozen (listing sizes z past kept) e.life.index _ (link_moves sizes z past e kept (listing sizes z past kept) ok) x f
+finished_after sizes z past e kept MarkVertex ok x ne f = moved_finish sizes (state sizes past).node (state sizes past).edges (state sizes past).frozen (listing sizes z past kept) e.life.index _ (mark_moves sizes z past e kept (listing sizes z past kept) ok) x f
+finished_after sizes z past e kept UnlinkVertex ok x ne f = moved_finish sizes (state sizes past).node (state sizes past).edges (state sizes past).frozen (listing sizes z past kept) e.life.index _ (unlink_moves sizes z past e kept (listing sizes z past kept) ok) x f
+finished_after sizes z past e kept StoreFree ok x ne f = moved_finish sizes (state sizes past).node (state sizes past).edges (state sizes past).frozen (listing sizes z past kept) e.life.index _ (store_moves sizes z past e kept (listing sizes z past kept) ok) x f
+finished_after sizes z past e kept PushFree ok x ne f = moved_finish sizes (state sizes past).node (state sizes past).edges (state sizes past).frozen (listing sizes z past kept) e.life.index _ (push_moves sizes z past e kept (listing sizes z past kept) ok) x f
+finished_after sizes z past e kept LinkEdge ok x ne f = joins_finished sizes (state sizes past).node (state sizes past).edges (state sizes past).frozen (listing sizes z past kept) e.life.index e.place _ (link_joins sizes z past e kept (listing sizes z past kept) ok) x f
+finished_after sizes z past e kept UnlinkEdge ok x ne f =
+    let m = cut_marked sizes z past e kept (listing sizes z past kept) ok in
+    cut_finished sizes (state sizes past).node (state sizes past).edges (state sizes past).frozen (listing sizes z past kept) e.life.index _ ok.linked.linked ok.linked.edge m refl refl ok.linked.edge m x f
+finished_after sizes z past e kept MarkEdge ok x ne f = then_finished sizes (state sizes past).node (state sizes past).frozen (marked_state (state sizes past) e.life.index) (node_in sizes past e.life.index).source.index (listing sizes z past kept) (mark_grows sizes (state sizes past) e.life.index (listing sizes z past kept)) x f
+finished_after sizes z past e kept FreezeEdge ok x ne f = then_finished sizes (state sizes past).node (state sizes past).frozen (marked_state (state sizes past) e.life.index) (node_in sizes past e.life.index).source.index (listing sizes z past kept) (mark_grows sizes (state sizes past) e.life.index (listing sizes z past kept)) x f
+finished_after sizes z past e kept FreezeHead ok x ne f = then_finished sizes (state sizes past).node (state sizes past).frozen (closed_state (state sizes past) e.life.index) e.life.index (listing sizes z past kept) (close_grows (state sizes past) e.life.index) x f
+finished_after sizes z past e kept _ ok x ne f = f
 
 -- where a vertex is linked, it had one before, or is that vertex, which was fresh
 pub open_linked : (sizes : Sizes) → IsLayout sizes → (past : List Event) (e : Event) → IsKept sizes past → IsLinkVertex sizes past e → (x : ℕ) → IsOpenIn sizes (state_by LinkVertex sizes e (state sizes past)) x → IsOpenIn sizes (state sizes past) x ⊎ (x ≡ e.life.index)

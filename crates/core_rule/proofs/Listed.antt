@@ -102,7 +102,7 @@ module _ (sizes : Sizes) (node : ℕ → Node) (edges : ℕ → List ℕ) (froze
         life = ap (λ (l : Life). l.tag) s ∙ (d.life ∙ sym (moved_tag x));
       }
 
-  moved_finish : (x : ℕ) → IsFinished node edges frozen x → IsFinished (put i v node) edges frozen x
+  pub moved_finish : (x : ℕ) → IsFinished node edges frozen x → IsFinished (put i v node) edges frozen x
   moved_finish x f = record { head = f.head; each = λ y h. moved_mark x y h ∙ f.each y h }
 
   moved_finished : (x : ℕ) → IsFinished (put i v node) edges frozen x → IsFinished node edges frozen x
@@ -248,7 +248,7 @@ module _ (sizes : Sizes) (node : ℕ → Node) (frozen : ℕ → Bool) (s : Stat
   then_vertex : (y : ℕ) → (then y).vertex ≡ (node y).vertex
   then_vertex y = (then_is y).vertex ∙ g.vertex y
 
-  then_finished : (x : ℕ) → IsFinished node s.edges frozen x → IsFinished then s.edges s.frozen x
+  pub then_finished : (x : ℕ) → IsFinished node s.edges frozen x → IsFinished then s.edges s.frozen x
   then_finished x f = record { head = g.head x f.head; each = λ y h. (then_is y).marked ∙ g.marked y (f.each y h) }
 
   pub then_open : (x : ℕ) → IsOpenList sizes then s.edges s.frozen x → IsOpenList sizes node s.edges frozen x
