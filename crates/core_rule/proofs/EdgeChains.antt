@@ -25,7 +25,6 @@ use Rattle.core_journal.specs.State.{Mode, Free, Fresh, Linked, Spent, Node as N
 use Rattle.core_rule.specs.Kept.{AllowedAs, IsKept}
 use Rattle.core_rule.specs.Nodes.{node_in, IsUsed}
 use Rattle.core_rule.specs.Edges.{IsLinkEdge, IsUnlinkEdge}
-use Rattle.core_rule.specs.FreeNodes.{IsStoreFree}
 use Rattle.core_rule.specs.Vertices.{IsLinkVertex}
 use Rattle.core_rule.specs.Chains.{list_word, list_places, is_listed, edge_chain, HasList, EdgeLists}
 use Rattle.core_rule.proofs.Steps.{IsAfter, Keeps, put_case, put_same, put_other, holds_all}
@@ -66,7 +65,7 @@ alone sizes x (Node n) = record { words = λ p ne h. word p ne h; keys = λ y h.
     word (Node y) ne h = ne (ap Node (omega arith))
 
 -- a list that stays
-stays : (sizes : Sizes) (s s' : State) (w w' : ℕ → ℕ) (x : ℕ) → s'.edges x ≡ s.edges x → Untouched (list_chain sizes s w x) (list_chain sizes s' w' x) → IsList sizes s w x → IsList sizes s' w' x
+pub stays : (sizes : Sizes) (s s' : State) (w w' : ℕ → ℕ) (x : ℕ) → s'.edges x ≡ s.edges x → Untouched (list_chain sizes s w x) (list_chain sizes s' w' x) → IsList sizes s w x → IsList sizes s' w' x
 stays sizes s s' w w' x same step b = record {
   chain = IsChain-untouched (list_chain sizes s w x) (list_chain sizes s' w' x) b.chain step;
   met = subst (λ (l : List ℕ). Meets (list_chain sizes s' w' x) Head l) (sym same) (meets_untouched (list_chain sizes s w x) (list_chain sizes s' w' x) (s.edges x) b.chain step b.met);
@@ -112,20 +111,20 @@ IsOffLists FreezeEdge = ⊥
 IsOffLists _ = Unit {0}
 
 module _ (sizes : Sizes) (z : IsLayout sizes) (past : List Event) (e : Event) (kept : IsKept sizes past) (x : ℕ) (used : IsUsed (node_in sizes past x).mode)
-    (unstored : IsStoreFree sizes past e → stands e.life.index ((state sizes past).edges x) ≡ true → ⊥) (unfree : (node_in sizes past e.life.index).mode ≡ Free → stands e.life.index ((state sizes past).edges x) ≡ true → ⊥) where
+    (unfree : (node_in sizes past e.life.index).mode ≡ Free → stands e.life.index ((state sizes past).edges x) ≡ true → ⊥) where
   here : ListingOf sizes (state sizes past)
   here = listing sizes z past kept
 
   -- such a kind writes no word of a list
-  off_idle : (k : Kind) → IsOffLists k → AllowedAs k sizes past e → IsOff sizes past e x
-  off_idle LinkEdge n ok = absurd n
-  off_idle MarkEdge n ok = absurd n
-  off_idle UnlinkEdge n ok = absurd n
-  off_idle FreezeHead n ok = absurd n
-  off_idle FreezeEdge n ok = absurd n
-  off_idle PopFree n ok = record { head = λ h. omega (arith, ok.place, h); links = λ y _ h. omega (arith, ok.place, h); keys = λ y _ h. omega (arith, ok.place, h) }
-  off_idle PushFree n ok = record { head = λ h. omega (arith, ok.place, h); links = λ y _ h. omega (arith, ok.place, h); keys = λ y _ h. omega (arith, ok.place, h) }
-  off_idle StorePrivate n ok =
+  off_idle : (k : Kind) → (k ≡ StoreFree → stands e.life.index ((state sizes past).edges x) ≡ true → ⊥) → IsOffLists k → AllowedAs k sizes past e → IsOff sizes past e x
+  off_idle LinkEdge u n ok = absurd n
+  off_idle MarkEdge u n ok = absurd n
+  off_idle UnlinkEdge u n ok = absurd n
+  off_idle FreezeHead u n ok = absurd n
+  off_idle FreezeEdge u n ok = absurd n
+  off_idle PopFree u n ok = record { head = λ h. omega (arith, ok.place, h); links = λ y _ h. omega (arith, ok.place, h); keys = λ y _ h. omega (arith, ok.place, h) }
+  off_idle PushFree u n ok = record { head = λ h. omega (arith, ok.place, h); links = λ y _ h. omega (arith, ok.place, h); keys = λ y _ h. omega (arith, ok.place, h) }
+  off_idle StorePrivate u n ok =
       let apart : (y : ℕ) → (node_in sizes past y).mode ≢ Fresh → y ≢ e.life.index = λ y f same. f (ap (λ (i : ℕ). (node_in sizes past i).mode) same ∙ ok.fresh.fresh) in
       let not_x : x ≢ e.life.index = apart x (λ f. subst IsUsed f used) in
       record {
@@ -133,27 +132,27 @@ module _ (sizes : Sizes) (z : IsLayout sizes) (past : List Event) (e : Event) (k
         links = λ y t h. apart y (here.on x y t).unfresh (omega (arith, ok.place, h));
         keys = λ y t h. apart y (here.on x y t).unfresh (omega (arith, ok.place, h));
       }
-  off_idle LinkVertex n ok = record {
+  off_idle LinkVertex u n ok = record {
     head = λ h. omega (arith, ok.place, h);
     links = λ y t h. let v = (ok.linked y h).vertex in let b = (here.on x y t).edge in absurd (cc);
     keys = λ y _ h. omega (arith, ok.place, h);
   }
-  off_idle UnlinkVertex n ok = record {
+  off_idle UnlinkVertex u n ok = record {
     head = λ h. omega (arith, ok.place, h);
     links = λ y t h. let v = (ok.before_linked y h).vertex in let b = (here.on x y t).edge in absurd (cc);
     keys = λ y _ h. omega (arith, ok.place, h);
   }
-  off_idle MarkVertex n ok = record {
+  off_idle MarkVertex u n ok = record {
     head = λ h. omega (arith, ok.place, h);
     links = λ y t h. let same : e.life.index ≡ y = omega (arith, ok.place, h) in let v = ap (λ (i : ℕ). (node_in sizes past i).vertex) (sym same) ∙ ok.linked.vertex in let b = (here.on x y t).edge in absurd (cc);
     keys = λ y _ h. omega (arith, ok.place, h);
   }
-  off_idle StoreFree n ok = record {
+  off_idle StoreFree u n ok = record {
     head = λ h. omega (arith, ok.place, h);
-    links = λ y t h. let same : y ≡ e.life.index = omega (arith, ok.place, h) in unstored ok (subst (λ (i : ℕ). stands i ((state sizes past).edges x) ≡ true) same t);
+    links = λ y t h. let same : y ≡ e.life.index = omega (arith, ok.place, h) in u refl (subst (λ (i : ℕ). stands i ((state sizes past).edges x) ≡ true) same t);
     keys = λ y _ h. omega (arith, ok.place, h);
   }
-  off_idle _ n ok = record { head = λ h. omega (arith, ok.place, ok.there, h); links = λ y _ h. omega (arith, ok.place, ok.there, h); keys = λ y _ h. omega (arith, ok.place, ok.there, h) }
+  off_idle _ u n ok = record { head = λ h. omega (arith, ok.place, ok.there, h); links = λ y _ h. omega (arith, ok.place, ok.there, h); keys = λ y _ h. omega (arith, ok.place, ok.there, h) }
 
   -- and changes no list
   same_idle : (k : Kind) → IsOffLists k → AllowedAs k sizes past e → (state_by k sizes e (state sizes past)).edges x ≡ (state sizes past).edges x
@@ -169,15 +168,16 @@ module _ (sizes : Sizes) (z : IsLayout sizes) (past : List Event) (e : Event) (k
   same_idle _ n ok = refl
 
   -- so it leaves the list untouched
-  pub idle_any : (k : Kind) → IsOffLists k → AllowedAs k sizes past e → (w : ℕ → ℕ) → IsAfter sizes past e w → Untouched (edge_chain sizes past x) (list_chain sizes (state_by k sizes e (state sizes past)) w x)
-  idle_any k n ok w a = untouched sizes past e w (state_by k sizes e (state sizes past)) x a (off_idle k n ok) (same_idle k n ok)
+  pub idle_any : (k : Kind) → (k ≡ StoreFree → stands e.life.index ((state sizes past).edges x) ≡ true → ⊥) → IsOffLists k → AllowedAs k sizes past e → (w : ℕ → ℕ) → IsAfter sizes past e w → Untouched (edge_chain sizes past x) (list_chain sizes (state_by k sizes e (state sizes past)) w x)
+  idle_any k u n ok w a = untouched sizes past e w (state_by k sizes e (state sizes past)) x a (off_idle k u n ok) (same_idle k n ok)
 
-  pub idle_stays : (k : Kind) → IsOffLists k → AllowedAs k sizes past e → (w : ℕ → ℕ) → IsAfter sizes past e w → IsList sizes (state sizes past) (word_at sizes past) x → IsList sizes (state_by k sizes e (state sizes past)) w x
-  idle_stays k n ok w a b = stays sizes (state sizes past) (state_by k sizes e (state sizes past)) (word_at sizes past) w x (same_idle k n ok) (idle_any k n ok w a) b
+  pub idle_stays : (k : Kind) → (k ≡ StoreFree → stands e.life.index ((state sizes past).edges x) ≡ true → ⊥) → IsOffLists k → AllowedAs k sizes past e → (w : ℕ → ℕ) → IsAfter sizes past e w → IsList sizes (state sizes past) (word_at sizes past) x → IsList sizes (state_by k sizes e (state sizes past)) w x
+  idle_stays k u n ok w a b = stays sizes (state sizes past) (state_by k sizes e (state sizes past)) (word_at sizes past) w x (same_idle k n ok) (idle_any k u n ok w a) b
 
 module _ (sizes : Sizes) (z : IsLayout sizes) (past : List Event) (e : Event) (kept : IsKept sizes past) (x : ℕ) (o : IsOpenIn sizes (state sizes past) x) where
-  open_unstored : IsStoreFree sizes past e → stands e.life.index ((state sizes past).edges x) ≡ true → ⊥
-  open_unstored ok t = let f = ok.list x o.there t in o.unfinished record { head = f.head; each = f.edges }
+  open_unstored : (k : Kind) → AllowedAs k sizes past e → k ≡ StoreFree → stands e.life.index ((state sizes past).edges x) ≡ true → ⊥
+  open_unstored StoreFree ok is t = let f = ok.list x o.there t in o.unfinished record { head = f.head; each = f.edges }
+  open_unstored _ ok is t = absurd (cc)
 
   open_unfree : (node_in sizes past e.life.index).mode ≡ Free → stands e.life.index ((state sizes past).edges x) ≡ true → ⊥
   open_unfree free t = ⊎_elim (λ (m : (node_in sizes past e.life.index).mode ≡ Linked). absurd (cc)) (λ (m : (node_in sizes past e.life.index).mode ≡ Spent). absurd (cc))
@@ -185,10 +185,10 @@ module _ (sizes : Sizes) (z : IsLayout sizes) (past : List Event) (e : Event) (k
 
   -- such a kind leaves a list that isn't frozen to its end untouched
   pub idle_list : (k : Kind) → IsOffLists k → AllowedAs k sizes past e → (w : ℕ → ℕ) → IsAfter sizes past e w → Untouched (edge_chain sizes past x) (list_chain sizes (state_by k sizes e (state sizes past)) w x)
-  idle_list = idle_any sizes z past e kept x o.used open_unstored open_unfree
+  idle_list k n ok w a = idle_any sizes z past e kept x o.used open_unfree k (open_unstored k ok) n ok w a
 
   list_idle : (k : Kind) → IsOffLists k → AllowedAs k sizes past e → (w : ℕ → ℕ) → IsAfter sizes past e w → IsList sizes (state sizes past) (word_at sizes past) x → IsList sizes (state_by k sizes e (state sizes past)) w x
-  list_idle = idle_stays sizes z past e kept x o.used open_unstored open_unfree
+  list_idle k n ok w a b = idle_stays sizes z past e kept x o.used open_unfree k (open_unstored k ok) n ok w a b
 
 module _ (sizes : Sizes) (z : IsLayout sizes) (past : List Event) (e : Event) (kept : IsKept sizes past) (x : ℕ) where
   -- an edge on the list is one of its vertex

@@ -32,11 +32,11 @@ use Rattle.core_rule.proofs.ListSteps.{listing, link_joins, popped_was, popped_n
 use Rattle.core_rule.proofs.EdgeChains.{lists}
 
 -- no life on a list was unlinked
-record NotCut (journal : List Event) (s : State) : Type 0 where
+pub record NotCut (journal : List Event) (s : State) : Type 0 where
   pub on : (x y : ℕ) → stands y (s.edges x) ≡ true → unlinked journal (life_of y (s.node y)) ≡ false
 
 -- no kind but the taking of a node changes the life of a node
-still_life : (k : Kind) → IsWithin k → (sizes : Sizes) (e : Event) (s : State) (y : ℕ) → life_of y ((state_by k sizes e s).node y) ≡ life_of y (s.node y)
+pub still_life : (k : Kind) → IsWithin k → (sizes : Sizes) (e : Event) (s : State) (y : ℕ) → life_of y ((state_by k sizes e s).node y) ≡ life_of y (s.node y)
 still_life k o sizes e s y = let f : ℕ → Life = λ n. record { index = y; tag = n } in ap f (same_tag k o sizes e s y)
 
 not_cut_step : (sizes : Sizes) → IsLayout sizes → KeepsIn sizes (λ (j : List Event) (s : State) (w : ℕ → ℕ). NotCut j s)
@@ -71,7 +71,7 @@ not_cut_step sizes z past e kept c k is ok w a = record {
   on = λ x y h. ap (unlinked (past ++ e ∷ [])) (still_life k tt sizes e (state sizes past) y) ∙ (unlinked_skip past e (ap unlinks is) (life_of y (node_in sizes past y)) ∙ c.on x y h);
 }
 
-not_cut : (sizes : Sizes) → IsLayout sizes → (journal : List Event) → IsKept sizes journal → NotCut journal (state sizes journal)
+pub not_cut : (sizes : Sizes) → IsLayout sizes → (journal : List Event) → IsKept sizes journal → NotCut journal (state sizes journal)
 not_cut sizes z journal kept = all_in sizes (λ (j : List Event) (s : State) (w : ℕ → ℕ). NotCut j s) (not_cut_step sizes z) (record { on = λ x y h. refl }) journal kept
 
 -- a life stands on the list of a vertex

@@ -41,3 +41,4 @@ pub mod EdgeEffects
 pub mod KindEffects
 pub mod ClosedStays
 pub mod Spenders
+pub mod ClosedLists

@@ -424,7 +424,7 @@ module _ (sizes : Sizes) (z : IsLayout sizes) (past : List Event) (e : Event) (k
   is_marked y t l m = mark_is (node_in sizes past y).marked (sym (((link_words sizes z past kept).each y t).linked l).mark ∙ m)
 
   -- an unmarked second word of a vertex
-  not_closed : (x : ℕ) → x < sizes.nodes → IsUsed (node_in sizes past x).mode → (node_in sizes past x).vertex ≡ true → mark_of (word_at sizes past (second_at sizes x)) ≡ 0 → (state sizes past).frozen x ≡ false
+  pub not_closed : (x : ℕ) → x < sizes.nodes → IsUsed (node_in sizes past x).mode → (node_in sizes past x).vertex ≡ true → mark_of (word_at sizes past (second_at sizes x)) ≡ 0 → (state sizes past).frozen x ≡ false
   not_closed x t u v m = mark_isnt ((state sizes past).frozen x) (sym (((contents sizes z past kept).each x t).vertex u v).second_mark ∙ m)
 
   pub link_joins : IsLinkEdge sizes past e → IsJoining sizes (state sizes past).node (state sizes past).edges (state sizes past).frozen e.life.index e.place (record (node_in sizes past e.life.index) { mode = Linked; vertex = false; key = e.key; source = e.source; target = e.target; weight = e.weight })

@@ -22,7 +22,7 @@ handed_stored : (s : State) (v x : ℕ) → ((handed v s).node x).stored ≡ fal
 handed_stored s v x = handed_case (λ (u : Node). u.stored ≡ false → (s.node x).stored ≡ false) s v x (λ m. m) (λ _ _ _ m. m)
 
 -- only the taking of a node makes it unstored
-stored_before : (k : Kind) → IsWithin k → (sizes : Sizes) (e : Event) (s : State) (x : ℕ) → ((state_by k sizes e s).node x).stored ≡ false → (s.node x).stored ≡ false
+pub stored_before : (k : Kind) → IsWithin k → (sizes : Sizes) (e : Event) (s : State) (x : ℕ) → ((state_by k sizes e s).node x).stored ≡ false → (s.node x).stored ≡ false
 stored_before PopFree o sizes e s x = absurd o
 stored_before LinkVertex o sizes e s x = put_stored s e.life.index _ x (λ m. m)
 stored_before MarkVertex o sizes e s x = put_stored s e.life.index _ x (λ m. m)

@@ -75,6 +75,20 @@ pub record IsEdgeOf (journal : List Event) (source x : Life) : Type 0 where
   pub from : link.source ≡ source
   pub stays : unlinked journal x ≡ false
 
+-- a life is its node's still, which is linked or spent and isn't stored for the free list
+pub record IsUnstored (sizes : Sizes) (journal : List Event) (x : Life) : Type 0 where
+  pub life : x.tag ≡ (node_in sizes journal x.index).tag
+  pub used : IsUsed (node_in sizes journal x.index).mode
+  pub unstored : (node_in sizes journal x.index).stored ≡ false
+
+-- a vertex is linked or spent, and no edge of its life that wasn't unlinked was stored for the free list: its list is one
+-- still, frozen to its end or not
+pub record KeepsList (sizes : Sizes) (journal : List Event) (x : ℕ) : Type 0 where
+  pub there : x < sizes.nodes
+  pub used : IsUsed (node_in sizes journal x).mode
+  pub vertex : (node_in sizes journal x).vertex ≡ true
+  pub edges : (y : Life) → IsEdgeOf journal (life_in sizes journal x) y → IsUnstored sizes journal y
+
 -- a life is that of a node on the chain of this bucket
 pub record IsInBucket (sizes : Sizes) (journal : List Event) (j : ℕ) (x : Life) : Type 0 where
   pub there : x.index < sizes.nodes
