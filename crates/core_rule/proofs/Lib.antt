@@ -42,3 +42,4 @@ pub mod KindEffects
 pub mod ClosedStays
 pub mod Spenders
 pub mod ClosedLists
+pub mod KeptLists

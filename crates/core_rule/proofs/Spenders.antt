@@ -18,7 +18,7 @@ use Rattle.core_rule.proofs.ClosedStays.{part_head, part_spent}
 
 -- a spent edge on the list of a vertex was handed over: the list is closed, and the vertex's spender is the edge's too; and
 -- no list of a linked node is closed
-record Spenders (node : ℕ → Node) (edges : ℕ → List ℕ) (frozen : ℕ → Bool) : Type 0 where
+pub record Spenders (node : ℕ → Node) (edges : ℕ → List ℕ) (frozen : ℕ → Bool) : Type 0 where
   pub closed : (x : ℕ) → frozen x ≡ true → (node x).mode ≢ Linked
   pub edge : (x y : ℕ) → IsUsed (node x).mode → (node x).vertex ≡ true → stands y (edges x) ≡ true → (node y).mode ≡ Spent → (frozen x ≡ true) × ((node y).who ≡ (node x).who)
 
@@ -161,7 +161,7 @@ spenders_step sizes z past e kept c FreezeHead by ok w a = spenders_handed (clos
 }
 spenders_step sizes z past e kept c _ by ok w a = c
 
-spenders : (sizes : Sizes) → IsLayout sizes → (journal : List Event) → IsKept sizes journal → Spenders (state sizes journal).node (state sizes journal).edges (state sizes journal).frozen
+pub spenders : (sizes : Sizes) → IsLayout sizes → (journal : List Event) → IsKept sizes journal → Spenders (state sizes journal).node (state sizes journal).edges (state sizes journal).frozen
 spenders sizes z journal kept = holds_all sizes (λ (s : State) (w : ℕ → ℕ). Spenders s.node s.edges s.frozen) (spenders_step sizes z) (record { closed = λ x h. absurd (cc); edge = λ x y u t h g. absurd u }) journal kept
 
 -- an edge of the frozen part of a vertex's list that isn't given back is spent, by the caller who spent the vertex

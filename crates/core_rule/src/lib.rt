@@ -22,8 +22,9 @@ pub use effects::{each_kind_has_its_effect, kept_journals_are_regular};
 pub use graph::{edges_have_ends, links_are_new};
 pub use journals::{a_vertex_is_added, kept_journals_grow};
 pub use lists::{
-    a_present_edge_is_on_its_list, edges_of_a_pair_differ, frozen_parts_are_handed_over,
-    linked_edges_are_at_their_source, lists_hold_their_edges,
+    a_closed_list_is_a_list, a_present_edge_is_on_its_list, closed_lists_stay,
+    edges_of_a_pair_differ, frozen_parts_are_handed_over, linked_edges_are_at_their_source,
+    lists_hold_their_edges,
 };
 pub use own::{callers_have_numbers, own_events_are_counted, own_facts_stay};
 pub use raises::marked_edges_were_linked_at_a_lower_counter;
