@@ -1,5 +1,5 @@
 -- A list is one still after it's frozen to its end, while no edge of its vertex's life is stored for the free list.
-use Rattle.std.proofs.Common.{◌≡◌, ◌≢◌, ◌⊎◌, ℕ, ◌<◌, Bool, true, false, List, [], ◌∷◌, ◌++◌, Some, None, refl, sym, ap, ◌∙◌, subst, arith, ⊎_elim, inl, inr}
+use Rattle.std.proofs.Common.{◌≡◌, ◌≢◌, ◌⊎◌, ◌↔◌, ℕ, ◌<◌, Bool, true, false, List, [], ◌∷◌, ◌++◌, Some, None, refl, sym, ap, ◌∙◌, subst, arith, ⊎_elim, inl, inr}
 use mathlib.Core.Logic.{dite}
 use native.Mathlib.Decide.{ℕ_discrete}
 use Rattle.packed_link.specs.Link.{nowhere, index_of, mark_of}
@@ -34,7 +34,7 @@ use Rattle.core_rule.proofs.ListParts.{unlinked_was, linked_was}
 use Rattle.core_rule.proofs.Listed.{IsFinished, Listing, value_of, open_mode}
 use Rattle.core_rule.proofs.ListSteps.{listing, link_only, link_joins, joins_unfinished, popped_was, not_closed, IsOpenIn, has_open}
 use Rattle.core_rule.proofs.EdgeChains.{list_chain, IsList, lists, list_after, IsOffLists, untouched, stays, idle_stays, off_link, same_link, off_unlink, same_unlink, off_mark, off_close}
-use Rattle.core_rule.proofs.EdgeLives.{still_life, not_cut, of_edge}
+use Rattle.core_rule.proofs.EdgeLives.{still_life, not_cut, of_edge, StandsAll, stands_after, all_edges}
 use Rattle.core_rule.proofs.FrozenLists.{IsEnd, frozen_end}
 use Rattle.core_rule.proofs.ClosedStays.{finished_or}
 
@@ -92,7 +92,7 @@ edge_on sizes z journal kept x y h =
     record { link = d.link; is = d.is; from = d.from; stays = (not_cut sizes z journal kept).on x y h }
 
 -- a life is its node's, which is linked or spent and isn't stored, by a state
-record IsHeldIn (s : State) (l : Life) : Type 0 where
+pub record IsHeldIn (s : State) (l : Life) : Type 0 where
   pub life : l.tag ≡ (s.node l.index).tag
   pub used : IsUsed (s.node l.index).mode
   pub unstored : (s.node l.index).stored ≡ false
@@ -194,9 +194,9 @@ unbroken_before sizes z past e kept k is ok x b used vertex = record {
     by l link h from stays true u = held l stays u
     by l link h from stays false u = held_before sizes z past e kept k ok l link h (b.each l link (link_more past (e ∷ []) l link h) (from ∙ sym (life_before sizes past e k ok x b.used)) u)
 
--- a list that is frozen to its end and of which no edge was stored is one still
+-- a list that is frozen to its end and of which no edge was stored is one still, and has all edges of its vertex's life
 record ClosedLists (sizes : Sizes) (journal : List Event) (s : State) (w : ℕ → ℕ) : Type 0 where
-  pub each : (x : ℕ) → IsUnbroken sizes journal s x → IsFinished s.node s.edges s.frozen x → IsList sizes s w x
+  pub each : (x : ℕ) → IsUnbroken sizes journal s x → IsFinished s.node s.edges s.frozen x → IsList sizes s w x × StandsAll journal s x
 
 module _ (sizes : Sizes) (z : IsLayout sizes) (past : List Event) (e : Event) (kept : IsKept sizes past) (x : ℕ) (b : IsUnbroken sizes past (state sizes past) x) (f : IsFinished (state sizes past).node (state sizes past).edges (state sizes past).frozen x) where
   -- its edges are in their lives
@@ -235,17 +235,27 @@ module _ (sizes : Sizes) (z : IsLayout sizes) (past : List Event) (e : Event) (k
 
 -- by cases on whether it was frozen to its end before
 closed_case : (sizes : Sizes) → IsLayout sizes → (past : List Event) (e : Event) → IsKept sizes past → (k : Kind) → e.kind ≡ k → AllowedAs k sizes past e → (w : ℕ → ℕ) → IsAfter sizes past e w → ClosedLists sizes past (state sizes past) (word_at sizes past)
-    → (x : ℕ) → IsUnbroken sizes (past ++ e ∷ []) (state_by k sizes e (state sizes past)) x → IsUsed (node_in sizes past x).mode × (((state_by k sizes e (state sizes past)).node x).vertex ≡ (node_in sizes past x).vertex) → IsList sizes (state_by k sizes e (state sizes past)) w x
+    → (x : ℕ) → IsUnbroken sizes (past ++ e ∷ []) (state_by k sizes e (state sizes past)) x → IsUsed (node_in sizes past x).mode × (((state_by k sizes e (state sizes past)).node x).vertex ≡ (node_in sizes past x).vertex) → IsList sizes (state_by k sizes e (state sizes past)) w x × StandsAll (past ++ e ∷ []) (state_by k sizes e (state sizes past)) x
 closed_case sizes z past e kept k is ok w a c x b q =
     let s : State = state sizes past in
     let old : IsUnbroken sizes past s x = unbroken_before sizes z past e kept k is ok x b q.0 q.1 in
     ⊎_elim
-    (λ (f : IsFinished s.node s.edges s.frozen x). closed_after sizes z past e kept x old f k (λ stores h. not_stored stores h) ok w a (c.each x old f))
+    (λ (f : IsFinished s.node s.edges s.frozen x).
+    let d = c.each x old f in
+    (closed_after sizes z past e kept x old f k (λ stores h. not_stored stores h) ok w a d.0, stands_after sizes z past e kept x d.1 k is ok (λ pops. apart old k pops ok)))
     (λ (n : IsFinished s.node s.edges s.frozen x → ⊥).
     let o : IsOpenIn sizes s x = record { there = used_there sizes past x kept (λ m. subst IsUsed m q.0); used = q.0; vertex = old.vertex; unfinished = n } in
-    list_after sizes z past e kept k ok w a x o ((lists sizes z past kept).each x o))
+    (list_after sizes z past e kept k ok w a x o ((lists sizes z past kept).each x o), stands_after sizes z past e kept x ((all_edges sizes z past kept).each x o) k is ok (λ pops. apart old k pops ok)))
     (finished_or s.node s.edges s.frozen x)
   where
+    apart : IsUnbroken sizes past (state sizes past) x → (j : Kind) → j ≡ PopFree → AllowedAs j sizes past e → (x ≢ e.life.index) × (stands e.life.index ((state sizes past).edges x) ≡ true → ⊥)
+    apart old PopFree pops ok =
+        let free = (taken sizes z past e kept ok).free in (
+          (λ same. subst IsUsed (ap (λ (i : ℕ). (node_in sizes past i).mode) same ∙ free) q.0),
+          (λ h. let d = edge_on sizes z past kept x e.life.index h in subst IsUsed free (old.each (life_in sizes past e.life.index) d.link d.is d.from d.stays).used),
+        )
+    apart old _ pops ok = absurd (cc)
+
     not_stored : k ≡ StoreFree → stands e.life.index ((state sizes past).edges x) ≡ true → ⊥
     not_stored stores h =
         let s : State = state sizes past in
@@ -278,9 +288,9 @@ closed_step sizes z past e kept c k is ok w a = record { each = λ x b f. closed
 closed_lists : (sizes : Sizes) → IsLayout sizes → (journal : List Event) → IsKept sizes journal → ClosedLists sizes journal (state sizes journal) (word_at sizes journal)
 closed_lists sizes z journal kept = all_in sizes (ClosedLists sizes) (closed_step sizes z) (record { each = λ x b f. absurd (b.used) }) journal kept
 
--- a list of which no edge was stored is a chain along which one meets the state's list
-pub kept_list : (sizes : Sizes) → IsLayout sizes → (journal : List Event) → IsKept sizes journal → (x : ℕ) → KeepsList sizes journal x → IsList sizes (state sizes journal) (word_at sizes journal) x
-kept_list sizes z journal kept x k =
+-- a list of which no edge was stored is a chain along which one meets the state's list, and has all edges of its vertex's life
+kept_both : (sizes : Sizes) → IsLayout sizes → (journal : List Event) → IsKept sizes journal → (x : ℕ) → KeepsList sizes journal x → IsList sizes (state sizes journal) (word_at sizes journal) x × StandsAll journal (state sizes journal) x
+kept_both sizes z journal kept x k =
     let s : State = state sizes journal in
     ⊎_elim
     (λ (f : IsFinished s.node s.edges s.frozen x). (closed_lists sizes z journal kept).each x record {
@@ -288,8 +298,22 @@ kept_list sizes z journal kept x k =
       vertex = k.vertex;
       each = λ l link is from stays. let d = k.edges l record { link = link; is = is; from = from; stays = stays } in record { life = d.life; used = d.used; unstored = d.unstored };
     } f)
-    (λ (n : IsFinished s.node s.edges s.frozen x → ⊥). (lists sizes z journal kept).each x record { there = k.there; used = k.used; vertex = k.vertex; unfinished = n })
+    (λ (n : IsFinished s.node s.edges s.frozen x → ⊥).
+    let o : IsOpenIn sizes s x = record { there = k.there; used = k.used; vertex = k.vertex; unfinished = n } in
+    ((lists sizes z journal kept).each x o, (all_edges sizes z journal kept).each x o))
     (finished_or s.node s.edges s.frozen x)
+
+pub kept_list : (sizes : Sizes) → IsLayout sizes → (journal : List Event) → IsKept sizes journal → (x : ℕ) → KeepsList sizes journal x → IsList sizes (state sizes journal) (word_at sizes journal) x
+kept_list sizes z journal kept x k = (kept_both sizes z journal kept x k).0
+
+-- the lives on it are the edges of its vertex's life that weren't unlinked
+pub kept_lives : (sizes : Sizes) → IsLayout sizes → (journal : List Event) → IsKept sizes journal → (x : ℕ) → KeepsList sizes journal x → (l : Life) → IsInList sizes journal x l ↔ IsEdgeOf journal (life_in sizes journal x) l
+kept_lives sizes z journal kept x k l = (
+  (λ i. subst (IsEdgeOf journal (life_in sizes journal x)) (sym (life_is l l.index (node_in sizes journal l.index).tag refl i.life)) (edge_on sizes z journal kept x l.index i.on)),
+  (λ f.
+      let h = (kept_both sizes z journal kept x k).1 l f.link f.is f.from f.stays in
+      record { there = ((listing sizes z journal kept).on x l.index h.on).there; life = h.life; on = h.on }),
+)
 
 pub kept_met : (sizes : Sizes) → IsLayout sizes → (journal : List Event) → IsKept sizes journal → (x : ℕ) → KeepsList sizes journal x → IsMet (edge_chain sizes journal x) ((state sizes journal).edges x)
 kept_met sizes z journal kept x k = let b = kept_list sizes z journal kept x k in IsMet-from_Meets (edge_chain sizes journal x) ((state sizes journal).edges x) b.chain b.met

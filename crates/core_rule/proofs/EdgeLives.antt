@@ -75,13 +75,17 @@ pub not_cut : (sizes : Sizes) → IsLayout sizes → (journal : List Event) → 
 not_cut sizes z journal kept = all_in sizes (λ (j : List Event) (s : State) (w : ℕ → ℕ). NotCut j s) (not_cut_step sizes z) (record { on = λ x y h. refl }) journal kept
 
 -- a life stands on the list of a vertex
-record IsStandingOn (s : State) (x : ℕ) (l : Life) : Type 0 where
+pub record IsStandingOn (s : State) (x : ℕ) (l : Life) : Type 0 where
   pub life : l.tag ≡ (s.node l.index).tag
   pub on : stands l.index (s.edges x) ≡ true
 
--- a life that was linked as an edge of a vertex's life and not unlinked stands on its list, where this isn't frozen to its end
-record AllEdges (sizes : Sizes) (journal : List Event) (s : State) : Type 0 where
-  pub each : (x : ℕ) (l : Life) (link : Event) → IsOpenIn sizes s x → link_of journal l ≡ Some link → link.source ≡ life_of x (s.node x) → unlinked journal l ≡ false → IsStandingOn s x l
+-- all lives that were linked as edges of a vertex's life and not unlinked stand on its list
+abbrev pub StandsAll : List Event → State → ℕ → Type 0
+StandsAll journal s x = (l : Life) (link : Event) → link_of journal l ≡ Some link → link.source ≡ life_of x (s.node x) → unlinked journal l ≡ false → IsStandingOn s x l
+
+-- they do, where the list isn't frozen to its end
+pub record AllEdges (sizes : Sizes) (journal : List Event) (s : State) : Type 0 where
+  pub each : (x : ℕ) → IsOpenIn sizes s x → StandsAll journal s x
 
 -- where no tag and no list changes
 stands_still : (s s' : State) (x : ℕ) (l : Life) → (s'.node l.index).tag ≡ (s.node l.index).tag → s'.edges x ≡ s.edges x → IsStandingOn s x l → IsStandingOn s' x l
@@ -90,98 +94,100 @@ stands_still s s' x l tag same h = record { life = h.life ∙ sym tag; on = subs
 some_is : {A : Type 0} (a b : A) → Some a ≡ Some b → a ≡ b
 some_is a b p = cc
 
--- an edge that is linked stands on the list of its source, and so does every other that did
-link_all : (sizes : Sizes) → IsLayout sizes → (past : List Event) (e : Event) → IsKept sizes past → e.kind ≡ LinkEdge → AllowedAs LinkEdge sizes past e → AllEdges sizes past (state sizes past) → AllEdges sizes (past ++ e ∷ []) (state_by LinkEdge sizes e (state sizes past))
-link_all sizes z past e kept is ok c = record { each = λ x l link o h from stays. by x l link o h from stays (same_life l e.life) refl }
-  where
-    s : State
-    s = state sizes past
+module _ (sizes : Sizes) (z : IsLayout sizes) (past : List Event) (e : Event) (kept : IsKept sizes past) (x : ℕ) (c : StandsAll past (state sizes past) x) where
+  -- an edge that is linked stands on the list of its source, and so does every other that did
+  link_stands : e.kind ≡ LinkEdge → AllowedAs LinkEdge sizes past e → StandsAll (past ++ e ∷ []) (state_by LinkEdge sizes e (state sizes past)) x
+  link_stands is ok l link h from stays = by (same_life l e.life) refl
+    where
+      s : State
+      s = state sizes past
 
-    s' : State
-    s' = state_by LinkEdge sizes e (state sizes past)
+      s' : State
+      s' = state_by LinkEdge sizes e s
 
-    by : (x : ℕ) (l : Life) (link : Event) → IsOpenIn sizes s' x → link_of (past ++ e ∷ []) l ≡ Some link → link.source ≡ life_of x (s'.node x) → unlinked (past ++ e ∷ []) l ≡ false → (b : Bool) → same_life l e.life ≡ b → IsStandingOn s' x l
-    by x l link o h from stays true same =
-        let one = same_is l e.life same in
-        let new : link_of past l ≡ None = ap (link_of past) one ∙ (new_edge sizes z past e kept is ok).new in
-        let which : e ≡ link = some_is e link (sym (link_first past e l new (ap links_edge is) same) ∙ h) in
-        let home : e.source.index ≡ x = ap (λ (d : Event). d.source.index) which ∙ ap (λ (y : Life). y.index) from in
-        record {
-          life = ap (λ (y : Life). y.tag) one ∙ (ok.life ∙ (sym (same_tag LinkEdge tt sizes e s e.life.index) ∙ ap (λ (y : Life). (s'.node y.index).tag) (sym one)));
-          on = subst (λ (i : ℕ). stands i (s'.edges x) ≡ true) (ap (λ (y : Life). y.index) (sym one)) (subst (λ (y : ℕ). stands e.life.index (s'.edges y) ≡ true) home
-              (linked_joins sizes (second_at sizes e.source.index) e.place e.life.index (s.edges e.source.index) (link_joins sizes z past e kept (listing sizes z past kept) ok).word));
-        }
-    by x l link o h from stays false same =
-        let old = c.each x l link (open_before sizes z past e kept LinkEdge tt ok x o) (sym (link_else past e l same) ∙ h) (from ∙ still_life LinkEdge tt sizes e s x) (sym (unlinked_skip past e (ap unlinks is) l) ∙ stays) in
-        record { life = old.life ∙ sym (same_tag LinkEdge tt sizes e s l.index); on = linked_keeps sizes (second_at sizes x) e.place e.life.index l.index (s.edges x) old.on }
+      by : (b : Bool) → same_life l e.life ≡ b → IsStandingOn s' x l
+      by true same =
+          let one = same_is l e.life same in
+          let new : link_of past l ≡ None = ap (link_of past) one ∙ (new_edge sizes z past e kept is ok).new in
+          let which : e ≡ link = some_is e link (sym (link_first past e l new (ap links_edge is) same) ∙ h) in
+          let home : e.source.index ≡ x = ap (λ (d : Event). d.source.index) which ∙ ap (λ (y : Life). y.index) from in
+          record {
+            life = ap (λ (y : Life). y.tag) one ∙ (ok.life ∙ (sym (same_tag LinkEdge tt sizes e s e.life.index) ∙ ap (λ (y : Life). (s'.node y.index).tag) (sym one)));
+            on = subst (λ (i : ℕ). stands i (s'.edges x) ≡ true) (ap (λ (y : Life). y.index) (sym one)) (subst (λ (y : ℕ). stands e.life.index (s'.edges y) ≡ true) home
+                (linked_joins sizes (second_at sizes e.source.index) e.place e.life.index (s.edges e.source.index) (link_joins sizes z past e kept (listing sizes z past kept) ok).word));
+          }
+      by false same =
+          let old = c l link (sym (link_else past e l same) ∙ h) (from ∙ still_life LinkEdge tt sizes e s x) (sym (unlinked_skip past e (ap unlinks is) l) ∙ stays) in
+          record { life = old.life ∙ sym (same_tag LinkEdge tt sizes e s l.index); on = linked_keeps sizes (second_at sizes x) e.place e.life.index l.index (s.edges x) old.on }
 
--- an edge that wasn't unlinked with the event stands on the list still
-cut_all : (sizes : Sizes) → IsLayout sizes → (past : List Event) (e : Event) → IsKept sizes past → e.kind ≡ UnlinkEdge → AllowedAs UnlinkEdge sizes past e → AllEdges sizes past (state sizes past) → AllEdges sizes (past ++ e ∷ []) (state_by UnlinkEdge sizes e (state sizes past))
-cut_all sizes z past e kept is ok c = record {
-  each = λ x l link o h from stays.
+  -- an edge that wasn't unlinked with the event stands on the list still
+  cut_stands : e.kind ≡ UnlinkEdge → AllowedAs UnlinkEdge sizes past e → StandsAll (past ++ e ∷ []) (state_by UnlinkEdge sizes e (state sizes past)) x
+  cut_stands is ok l link h from stays =
       let s : State = state sizes past in
       let other = not_this past e l (ap unlinks is) stays in
-      let old = c.each x l link (open_before sizes z past e kept UnlinkEdge tt ok x o) (sym (link_skip past e (ap links_edge is) l) ∙ h) (from ∙ still_life UnlinkEdge tt sizes e s x) (sym (unlinked_other past e l other) ∙ stays) in
+      let old = c l link (sym (link_skip past e (ap links_edge is) l) ∙ h) (from ∙ still_life UnlinkEdge tt sizes e s x) (sym (unlinked_other past e l other) ∙ stays) in
       let apart : l.index ≢ e.life.index = λ same.
       let t : l.tag ≡ e.life.tag = old.life ∙ (ap (λ (i : ℕ). (s.node i).tag) same ∙ sym ok.life) in
       let one = this_life l e.life same t in absurd (cc) in
-      record { life = old.life ∙ sym (same_tag UnlinkEdge tt sizes e s l.index); on = unlinked_keeps e.life.index l.index (s.edges x) old.on apart };
-}
+      record { life = old.life ∙ sym (same_tag UnlinkEdge tt sizes e s l.index); on = unlinked_keeps e.life.index l.index (s.edges x) old.on apart }
 
--- a node that is taken stands on no list that isn't frozen to its end
-pop_all : (sizes : Sizes) → IsLayout sizes → (past : List Event) (e : Event) → IsKept sizes past → e.kind ≡ PopFree → AllowedAs PopFree sizes past e → AllEdges sizes past (state sizes past) → AllEdges sizes (past ++ e ∷ []) (state_by PopFree sizes e (state sizes past))
-pop_all sizes z past e kept is ok c = record {
-  each = λ x l link o h from stays.
+  -- a node that is taken is neither the vertex nor one of its edges
+  pop_stands : e.kind ≡ PopFree → AllowedAs PopFree sizes past e → x ≢ e.life.index → (stands e.life.index ((state sizes past).edges x) ≡ true → ⊥) → StandsAll (past ++ e ∷ []) (state_by PopFree sizes e (state sizes past)) x
+  pop_stands is ok not_x off l link h from stays =
       let s : State = state sizes past in
       let v : Node = record (s.node e.life.index) { mode = Fresh; who = e.caller; tag = e.life.tag; marked = false; stored = false } in
-      let free = (taken sizes z past e kept ok).free in
-      let b = open_before sizes z past e kept PopFree tt ok x o in
-      let not_x : x ≢ e.life.index = λ same. subst IsUsed (ap (λ (i : ℕ). (s.node i).mode) same ∙ free) b.used in
-      let at_x : put e.life.index v s.node x ≡ s.node x = put_other e.life.index v s.node x not_x in
-      let old = c.each x l link b (sym (link_skip past e (ap links_edge is) l) ∙ h) (from ∙ ap (λ (n : Node). life_of x n) at_x) (sym (unlinked_skip past e (ap unlinks is) l) ∙ stays) in
-      let apart : l.index ≢ e.life.index = λ same.
-      let t = subst (λ (i : ℕ). stands i (s.edges x) ≡ true) same old.on in
-      let f = popped_not sizes s.node s.edges s.frozen (listing sizes z past kept) e.life.index v free refl x b in absurd (cc) in
-      stands_still s (state_by PopFree sizes e s) x l (ap (λ (n : Node). n.tag) (put_other e.life.index v s.node l.index apart))
-      (popped_list sizes s.node s.edges s.frozen (listing sizes z past kept) e.life.index v free refl x b) old;
-}
+      let old = c l link (sym (link_skip past e (ap links_edge is) l) ∙ h) (from ∙ ap (λ (n : Node). life_of x n) (put_other e.life.index v s.node x not_x)) (sym (unlinked_skip past e (ap unlinks is) l) ∙ stays) in
+      let apart : l.index ≢ e.life.index = λ same. off (subst (λ (i : ℕ). stands i (s.edges x) ≡ true) same old.on) in
+      record {
+        life = old.life ∙ ap (λ (n : Node). n.tag) (sym (put_other e.life.index v s.node l.index apart));
+        on = subst (λ (xs : List ℕ). stands l.index xs ≡ true) (sym (put_other e.life.index [] (λ y. unlinked_from e.life.index (s.edges y)) x not_x)) (unlinked_keeps e.life.index l.index (s.edges x) old.on apart);
+      }
 
--- no edge has a vertex as its source that is linked now
-new_all : (sizes : Sizes) → IsLayout sizes → (past : List Event) (e : Event) → IsKept sizes past → e.kind ≡ LinkVertex → AllowedAs LinkVertex sizes past e → AllEdges sizes past (state sizes past) → AllEdges sizes (past ++ e ∷ []) (state_by LinkVertex sizes e (state sizes past))
-new_all sizes z past e kept is ok c = record {
-  each = λ x l link o h from stays.
-      let s : State = state sizes past in
-      let was : link_of past l ≡ Some link = sym (link_skip past e (ap links_edge is) l) ∙ h in
-      let of_x : link.source ≡ life_of x (s.node x) = from ∙ still_life LinkVertex tt sizes e s x in
-      ⊎_elim
-      (λ (b : IsOpenIn sizes s x). stands_still s (state_by LinkVertex sizes e s) x l (same_tag LinkVertex tt sizes e s l.index) refl (c.each x l link b was of_x (sym (unlinked_skip past e (ap unlinks is) l) ∙ stays)))
-      (λ (same : x ≡ e.life.index).
-      let this : life_of x (s.node x) ≡ e.life = sym (life_is e.life x (s.node x).tag (sym same) (ok.life ∙ ap (λ (i : ℕ). (s.node i).tag) (sym same))) in
-      absurd (((new_vertex sizes z past e kept is ok).unnamed l link was).0 (of_x ∙ this)))
-      (open_linked sizes z past e kept ok x o);
-}
-
-all_edges_step : (sizes : Sizes) → IsLayout sizes → KeepsIn sizes (λ (j : List Event) (s : State) (w : ℕ → ℕ). AllEdges sizes j s)
-all_edges_step sizes z past e kept c LinkEdge is ok w a = link_all sizes z past e kept is ok c
-all_edges_step sizes z past e kept c UnlinkEdge is ok w a = cut_all sizes z past e kept is ok c
-all_edges_step sizes z past e kept c PopFree is ok w a = pop_all sizes z past e kept is ok c
-all_edges_step sizes z past e kept c LinkVertex is ok w a = new_all sizes z past e kept is ok c
-all_edges_step sizes z past e kept c UnlinkVertex is ok w a = record {
-  each = λ x l link o h from stays.
+  unlink_stands : e.kind ≡ UnlinkVertex → AllowedAs UnlinkVertex sizes past e → StandsAll (past ++ e ∷ []) (state_by UnlinkVertex sizes e (state sizes past)) x
+  unlink_stands is ok l link h from stays =
       let s : State = state sizes past in
       let other = not_this past e l (ap unlinks is) stays in
       stands_still s (state_by UnlinkVertex sizes e s) x l (same_tag UnlinkVertex tt sizes e s l.index) refl
-      (c.each x l link (open_before sizes z past e kept UnlinkVertex tt ok x o) (sym (link_skip past e (ap links_edge is) l) ∙ h) (from ∙ still_life UnlinkVertex tt sizes e s x) (sym (unlinked_other past e l other) ∙ stays));
-}
-all_edges_step sizes z past e kept c k is ok w a = record {
-  each = λ x l link o h from stays.
+      (c l link (sym (link_skip past e (ap links_edge is) l) ∙ h) (from ∙ still_life UnlinkVertex tt sizes e s x) (sym (unlinked_other past e l other) ∙ stays))
+
+  -- by the kind
+  pub stands_after : (k : Kind) → e.kind ≡ k → AllowedAs k sizes past e → (k ≡ PopFree → (x ≢ e.life.index) × (stands e.life.index ((state sizes past).edges x) ≡ true → ⊥)) → StandsAll (past ++ e ∷ []) (state_by k sizes e (state sizes past)) x
+  stands_after PopFree is ok apart l link h from stays = pop_stands is ok (apart refl).0 (apart refl).1 l link h from stays
+  stands_after LinkEdge is ok apart l link h from stays = link_stands is ok l link h from stays
+  stands_after UnlinkEdge is ok apart l link h from stays = cut_stands is ok l link h from stays
+  stands_after UnlinkVertex is ok apart l link h from stays = unlink_stands is ok l link h from stays
+  stands_after k is ok apart l link h from stays =
       let s : State = state sizes past in
       stands_still s (state_by k sizes e s) x l (same_tag k tt sizes e s l.index) refl
-      (c.each x l link (open_before sizes z past e kept k tt ok x o) (sym (link_skip past e (ap links_edge is) l) ∙ h) (from ∙ still_life k tt sizes e s x) (sym (unlinked_skip past e (ap unlinks is) l) ∙ stays));
-}
+      (c l link (sym (link_skip past e (ap links_edge is) l) ∙ h) (from ∙ still_life k tt sizes e s x) (sym (unlinked_skip past e (ap unlinks is) l) ∙ stays))
 
-all_edges : (sizes : Sizes) → IsLayout sizes → (journal : List Event) → IsKept sizes journal → AllEdges sizes journal (state sizes journal)
-all_edges sizes z journal kept = all_in sizes (λ (j : List Event) (s : State) (w : ℕ → ℕ). AllEdges sizes j s) (all_edges_step sizes z) (record { each = λ x l link o. absurd (o.used) }) journal kept
+-- no edge has a vertex as its source that is linked now
+new_stands : (sizes : Sizes) → IsLayout sizes → (past : List Event) (e : Event) → IsKept sizes past → e.kind ≡ LinkVertex → AllowedAs LinkVertex sizes past e → (x : ℕ) → x ≡ e.life.index → StandsAll past (state sizes past) x
+new_stands sizes z past e kept is ok x same l link h from stays =
+    let s : State = state sizes past in
+    let this : life_of x (s.node x) ≡ e.life = sym (life_is e.life x (s.node x).tag (sym same) (ok.life ∙ ap (λ (i : ℕ). (s.node i).tag) (sym same))) in
+    absurd (((new_vertex sizes z past e kept is ok).unnamed l link h).0 (from ∙ this))
+
+all_edges_step : (sizes : Sizes) → IsLayout sizes → KeepsIn sizes (λ (j : List Event) (s : State) (w : ℕ → ℕ). AllEdges sizes j s)
+all_edges_step sizes z past e kept c LinkVertex is ok w a = record {
+  each = λ x o. stands_after sizes z past e kept x (⊎_elim (λ (b : IsOpenIn sizes (state sizes past) x). c.each x b) (λ (same : x ≡ e.life.index). new_stands sizes z past e kept is ok x same) (open_linked sizes z past e kept ok x o)) LinkVertex is ok (λ p. absurd (cc));
+}
+all_edges_step sizes z past e kept c PopFree is ok w a = record {
+  each = λ x o.
+      let s : State = state sizes past in
+      let b = open_before sizes z past e kept PopFree tt ok x o in
+      let free = (taken sizes z past e kept ok).free in
+      stands_after sizes z past e kept x (c.each x b) PopFree is ok
+      (λ _. (
+        (λ same. subst IsUsed (ap (λ (i : ℕ). (s.node i).mode) same ∙ free) b.used),
+        (λ t.
+            let f = popped_not sizes s.node s.edges s.frozen (listing sizes z past kept) e.life.index (record (s.node e.life.index) { mode = Fresh; who = e.caller; tag = e.life.tag; marked = false; stored = false }) free refl x b in absurd (cc)),
+      ));
+}
+all_edges_step sizes z past e kept c k is ok w a = record { each = λ x o. stands_after sizes z past e kept x (c.each x (open_before sizes z past e kept k tt ok x o)) k is ok (λ p. absurd (cc)) }
+
+pub all_edges : (sizes : Sizes) → IsLayout sizes → (journal : List Event) → IsKept sizes journal → AllEdges sizes journal (state sizes journal)
+all_edges sizes z journal kept = all_in sizes (λ (j : List Event) (s : State) (w : ℕ → ℕ). AllEdges sizes j s) (all_edges_step sizes z) (record { each = λ x o. absurd (o.used) }) journal kept
 
 -- the lives on a list are those that were linked as edges of its vertex's life, and not unlinked
 pub edge_of : (sizes : Sizes) → IsLayout sizes → (journal : List Event) → IsKept sizes journal → (x : ℕ) → HasList sizes journal x → (l : Life) → IsInList sizes journal x l → IsEdgeOf journal (life_in sizes journal x) l
@@ -201,7 +207,7 @@ edge_of sizes z journal kept x has l i =
 
 pub of_edge : (sizes : Sizes) → IsLayout sizes → (journal : List Event) → IsKept sizes journal → (x : ℕ) → HasList sizes journal x → (l : Life) → IsEdgeOf journal (life_in sizes journal x) l → IsInList sizes journal x l
 of_edge sizes z journal kept x has l f =
-    let h = (all_edges sizes z journal kept).each x l f.link (has_open sizes journal x has) f.is f.from f.stays in
+    let h = (all_edges sizes z journal kept).each x (has_open sizes journal x has) l f.link f.is f.from f.stays in
     record { there = ((listing sizes z journal kept).on x l.index h.on).there; life = h.life; on = h.on }
 
 -- the key of an edge on a list is that with which it was linked

@@ -62,3 +62,4 @@ pub mod SmallSteps
 pub mod TwoLives
 pub mod Refusals
 pub mod LivesShown
+pub mod KeptLists

@@ -4,14 +4,21 @@
 //! `specs/Chains.antt`). An edge joins the list of its source with its link and leaves it when it's unlinked; marked, or
 //! handed over with the frozen part, it's on it in between. Since keys rise strictly along a list, it has one edge a key.
 
-ghost use Rattle.std.specs.Prelude.{◌≡◌, ◌↔◌, ℕ, false, List, Some};
+ghost use Rattle.std.specs.Prelude.{◌≡◌, ◌≢◌, ◌⊎◌, ◌↔◌, ℕ, ◌<◌, ◌≤◌, false, true, List, Some, length};
+ghost use Rattle.packed_link.specs.Link.{index_of, nowhere};
 ghost use Rattle.packed_link.specs.Layout.{IsLayout, Sizes};
 ghost use Rattle.packed_link.specs.declared.link.Life.{Life};
+ghost use Rattle.core_chain.specs.Met.{IsMet};
 ghost use Rattle.core_journal.specs.declared.event.Event.{Event};
 ghost use Rattle.core_journal.specs.Life.{edge_marked, link_of};
-ghost use Rattle.core_rule.specs.Chains.{EdgeLists, FrozenParts, HasList, IsAtSource, IsEdgeOf, IsInList, Sources, life_in};
-ghost use Rattle.core_rule.specs.Kept.{IsKept};
-ghost use Rattle.core_rule.specs.Nodes.{IsLinkedEdge, node_in};
+ghost use Rattle.core_journal.specs.Machine.{word_at};
+ghost use Rattle.core_journal.specs.Prefix.{IsPrefix};
+ghost use Rattle.core_journal.specs.State.{Fresh, Spent, state};
+ghost use Rattle.core_rule.specs.Chains.{EdgeLists, FrozenParts, HasList, IsAtSource, IsEdgeOf, IsInList, KeepsList};
+ghost use Rattle.core_rule.specs.Chains.{Sources, edge_chain, is_frozen, is_listed, life_in};
+ghost use Rattle.core_rule.specs.Freezing.{IsFrozenWord, IsSpentVertex};
+ghost use Rattle.core_rule.specs.Kept.{IsKept, IsQuiet};
+ghost use Rattle.core_rule.specs.Nodes.{IsFrozenToEnd, IsLinkedEdge, IsUsed, node_in};
 
 /// From the second word of each vertex that has a list, link after link, one meets the edges of its list, each once, by
 /// strictly rising keys. They are the lives that were linked as edges of the vertex's life, and not unlinked.
@@ -24,10 +31,64 @@ pub fn lists_hold_their_edges()
 {}
 
 /// The frozen part of a list holds exactly its edges that were handed over, and the others are linked. A frozen word leads
-/// to none, or to an edge of the list.
+/// to none, or to an edge of the list. Each edge of a frozen part that isn't given back is spent, by the caller who spent
+/// the vertex.
 pub fn frozen_parts_are_handed_over()
     ensures parts { (sizes : Sizes) → IsLayout sizes → (journal : List Event) → IsKept sizes journal
         → FrozenParts sizes journal }
+    ensures who { (sizes : Sizes) → IsLayout sizes → (journal : List Event) → IsKept sizes journal
+        → (x y : ℕ) → IsUsed (node_in sizes journal x).mode → (node_in sizes journal x).vertex ≡ true
+        → is_frozen (state sizes journal) x y ≡ true → IsUsed (node_in sizes journal y).mode
+        → (node_in sizes journal y).mode ≡ Spent × ((node_in sizes journal y).who ≡ (node_in sizes journal x).who) }
+{}
+
+/// A list that is frozen to its end is one still while no edge of its vertex's life is stored for the free list: one meets
+/// its edges from the second word of the vertex, they are all edges of the vertex's life that weren't unlinked, and a frozen
+/// word leads to none or to one of them. Each list that isn't frozen to its end is such a list, and that of a vertex which a
+/// caller spent stays one while others act.
+pub fn a_closed_list_is_a_list()
+    ensures list { (sizes : Sizes) → IsLayout sizes → (journal : List Event) → IsKept sizes journal
+        → (x : ℕ) → HasList sizes journal x → KeepsList sizes journal x }
+    ensures met { (sizes : Sizes) → IsLayout sizes → (journal : List Event) → IsKept sizes journal
+        → (x : ℕ) → KeepsList sizes journal x → IsMet (edge_chain sizes journal x) ((state sizes journal).edges x) }
+    ensures lives { (sizes : Sizes) → IsLayout sizes → (journal : List Event) → IsKept sizes journal
+        → (x : ℕ) → KeepsList sizes journal x → (l : Life)
+        → IsInList sizes journal x l ↔ IsEdgeOf journal (life_in sizes journal x) l }
+    ensures leads { (sizes : Sizes) → IsLayout sizes → (journal : List Event) → IsKept sizes journal
+        → (x place : ℕ) → KeepsList sizes journal x → IsFrozenWord sizes journal x place
+        → (index_of (word_at sizes journal place) ≡ nowhere)
+        ⊎ (is_listed (state sizes journal) x (index_of (word_at sizes journal place)) ≡ true) }
+    ensures stays { (sizes : Sizes) → IsLayout sizes → (caller last x : ℕ) (front journal : List Event)
+        → IsPrefix front journal → IsKept sizes journal → IsQuiet journal caller last → last ≤ length front
+        → IsSpentVertex sizes front caller x → KeepsList sizes front x
+        → IsSpentVertex sizes journal caller x × KeepsList sizes journal x
+        × ((node_in sizes journal x).tag ≡ (node_in sizes front x).tag) }
+{}
+
+/// While a vertex is in its life, a closed head stays closed, a list that is frozen to its end stays so, and an edge of the
+/// frozen part stays in it until it's given back. No list takes up an edge that isn't fresh; so where each list on which an
+/// edge stood was frozen to its end, each is on which it stands.
+pub fn closed_lists_stay()
+    ensures head { (sizes : Sizes) → IsLayout sizes → (x : ℕ) (front journal : List Event) → IsPrefix front journal
+        → IsKept sizes journal → (node_in sizes journal x).tag ≡ (node_in sizes front x).tag
+        → (state sizes front).frozen x ≡ true → (state sizes journal).frozen x ≡ true }
+    ensures end { (sizes : Sizes) → IsLayout sizes → (x : ℕ) (front journal : List Event) → IsPrefix front journal
+        → IsKept sizes journal → (node_in sizes journal x).tag ≡ (node_in sizes front x).tag
+        → IsFrozenToEnd sizes front x → IsFrozenToEnd sizes journal x }
+    ensures part { (sizes : Sizes) → IsLayout sizes → (x y : ℕ) (front journal : List Event) → IsPrefix front journal
+        → IsKept sizes journal → (node_in sizes journal x).tag ≡ (node_in sizes front x).tag
+        → (node_in sizes journal y).tag ≡ (node_in sizes front y).tag → is_frozen (state sizes front) x y ≡ true
+        → IsUsed (node_in sizes journal y).mode → is_frozen (state sizes journal) x y ≡ true }
+    ensures old { (sizes : Sizes) → IsLayout sizes → (y : ℕ) (front journal : List Event) → IsPrefix front journal
+        → IsKept sizes journal → (node_in sizes front y).mode ≢ Fresh
+        → (node_in sizes journal y).tag ≡ (node_in sizes front y).tag
+        → (x : ℕ) → is_listed (state sizes journal) x y ≡ true
+        → (is_listed (state sizes front) x y ≡ true) × ((node_in sizes journal x).tag ≡ (node_in sizes front x).tag) }
+    ensures ends { (sizes : Sizes) → IsLayout sizes → (y : ℕ) (front journal : List Event) → IsPrefix front journal
+        → IsKept sizes journal → (node_in sizes front y).mode ≢ Fresh
+        → (node_in sizes journal y).tag ≡ (node_in sizes front y).tag
+        → ((x : ℕ) → x < sizes.nodes → is_listed (state sizes front) x y ≡ true → IsFrozenToEnd sizes front x)
+        → (x : ℕ) → x < sizes.nodes → is_listed (state sizes journal) x y ≡ true → IsFrozenToEnd sizes journal x }
 {}
 
 /// Each linked edge stands on the list of its source, which is in the life that was the edge's source, and is linked, or

@@ -1,5 +1,9 @@
 use Rattle.core_rule.proofs.FrozenLists.{frozen_parts}
+use Rattle.core_rule.proofs.Spenders.{part_who}
 use Rattle.core_rule.proofs.lists.frozen_parts_are_handed_over.Goals as goal
 
-pub returns : goal.returns
-returns c = record { parts = λ sizes z journal kept. frozen_parts sizes z journal kept }
+pub returns-clause-parts : goal.returns-clause-parts
+returns-clause-parts c = λ sizes z journal kept. frozen_parts sizes z journal kept
+
+pub returns-clause-who : goal.returns-clause-who
+returns-clause-who c = λ sizes z journal kept x y u t h v. part_who sizes z journal kept x y u t h v

@@ -1,0 +1,179 @@
+-- The list of a vertex that a caller spent stays one while others act.
+use Rattle.std.proofs.Common.{◌≡◌, ◌≢◌, ◌⊎◌, ℕ, ◌<◌, ◌≤◌, Bool, true, false, List, [], ◌∷◌, ◌++◌, Option, Some, None, length, refl, sym, ap, ◌∙◌, subst, arith, ⊎_elim}
+use mathlib.Core.Logic.{dite}
+use native.Mathlib.Decide.{ℕ_discrete}
+use Rattle.packed_link.specs.Layout.{Sizes, IsLayout}
+use Rattle.packed_link.specs.declared.link.Life.{Life}
+use Rattle.core_journal.specs.declared.event.Kind.{Kind}
+use Rattle.core_journal.specs.declared.event.Kind.TheVariants.{PopFree, LinkVertex, MarkVertex, UnlinkVertex, LinkEdge, MarkEdge, UnlinkEdge, FreezeHead, FreezeEdge, StoreFree, PushFree}
+use Rattle.core_journal.specs.declared.event.Event.{Event}
+use Rattle.core_journal.specs.Event.{same_life, links_edge}
+use Rattle.core_journal.specs.Life.{link_of, unlinked}
+use Rattle.core_journal.specs.Prefix.{IsPrefix}
+use Rattle.core_journal.specs.State.{Mode, Free, Fresh, Linked, Spent, Node, State, put, handed, frozen_part, state_by, state}
+use Rattle.core_journal.proofs.KeptLives.{link_more, unlinked_more}
+use Rattle.core_journal.proofs.Snoc.{same_is, link_skip, link_else}
+use Rattle.core_journal.proofs.States.{state-snoc}
+use Rattle.core_rule.specs.Kept.{Allowed, AllowedAs, IsKept, IsQuiet}
+use Rattle.core_rule.specs.Nodes.{node_in, IsUsed}
+use Rattle.core_rule.specs.Freezing.{IsSpentVertex}
+use Rattle.core_rule.specs.Chains.{life_in, IsEdgeOf, IsUnstored, KeepsList}
+use Rattle.core_rule.proofs.Induction.{kept_beyond}
+use Rattle.core_rule.proofs.Steps.{put_case, put_same, put_other, handed_case, marked_state, closed_state}
+use Rattle.core_rule.proofs.LinkWords.{link_words, taken}
+use Rattle.core_rule.proofs.Living.{life_of}
+use Rattle.core_rule.proofs.Meets.{stands}
+use Rattle.core_rule.proofs.Listed.{Listing, value_of, part_listed, handed_split}
+use Rattle.core_rule.proofs.ListSteps.{listing}
+use Rattle.core_rule.proofs.ClosedLists.{IsHeldIn, kept_lives}
+use Rattle.core_rule.proofs.Spenders.{Spenders, spenders}
+
+-- a caller's spent vertex and its list
+record IsOwnList (sizes : Sizes) (caller x tag : ℕ) (journal : List Event) (s : State) : Type 0 where
+  pub there : x < sizes.nodes
+  pub spent : (s.node x).mode ≡ Spent
+  pub vertex : (s.node x).vertex ≡ true
+  pub mine : (s.node x).who ≡ caller
+  pub life : (s.node x).tag ≡ tag
+  pub edges : (l : Life) (link : Event) → link_of journal l ≡ Some link → link.source ≡ life_of x (s.node x) → unlinked journal l ≡ false → IsHeldIn s l
+
+module _ (sizes : Sizes) (z : IsLayout sizes) (past : List Event) (e : Event) (kept : IsKept sizes past) (caller x tag : ℕ) (c : IsOwnList sizes caller x tag past (state sizes past)) (other : e.caller ≢ caller) where
+  as_keeps : KeepsList sizes past x
+  as_keeps = record {
+    there = c.there;
+    used = subst IsUsed (sym c.spent) tt;
+    vertex = c.vertex;
+    edges = λ y f. let h = c.edges y f.link f.is f.from f.stays in record { life = h.life; used = h.used; unstored = h.unstored };
+  }
+
+  -- a node in another state, or of another spender, is another
+  apart_mode : (i : ℕ) → (node_in sizes past i).mode ≢ Spent → x ≢ i
+  apart_mode i ne same = ne (ap (λ (j : ℕ). (node_in sizes past j).mode) (sym same) ∙ c.spent)
+
+  apart_who : (i : ℕ) → (node_in sizes past i).who ≡ e.caller → x ≢ i
+  apart_who i mine same = other (sym mine ∙ (ap (λ (j : ℕ). (node_in sizes past j).who) (sym same) ∙ c.mine))
+
+  not_handed : (s : State) (v : ℕ) → ((y : ℕ) → s.edges y ≡ (state sizes past).edges y) → s.node x ≡ node_in sizes past x → (handed v s).node x ≡ node_in sizes past x
+  not_handed s v lists is = handed_split (λ (n : Node). n ≡ node_in sizes past x) s v x (λ _. is)
+      (λ at _. let b = ((listing sizes z past kept).on v x (subst (λ (l : List ℕ). stands x l ≡ true) (lists v) (part_listed s.node s.edges s.frozen v x at))).edge in let t = c.vertex in absurd (cc))
+
+  -- so the vertex stays as it is
+  own_still : (k : Kind) → AllowedAs k sizes past e → (state_by k sizes e (state sizes past)).node x ≡ node_in sizes past x
+  own_still PopFree ok = put_other e.life.index _ (state sizes past).node x (apart_mode e.life.index (λ m. let f = (taken sizes z past e kept ok).free in absurd (cc)))
+  own_still LinkVertex ok = put_other e.life.index _ (state sizes past).node x (apart_mode e.life.index (λ m. let f = ok.fresh.fresh in absurd (cc)))
+  own_still LinkEdge ok = put_other e.life.index _ (state sizes past).node x (apart_mode e.life.index (λ m. let f = ok.fresh.fresh in absurd (cc)))
+  own_still MarkVertex ok = put_other e.life.index _ (state sizes past).node x (apart_mode e.life.index (λ m. let f = ok.linked.linked in absurd (cc)))
+  own_still UnlinkVertex ok = put_other e.life.index _ (state sizes past).node x (apart_mode e.life.index (λ m. let f = ok.linked.linked in absurd (cc)))
+  own_still UnlinkEdge ok = put_other e.life.index _ (state sizes past).node x (apart_mode e.life.index (λ m. let f = ok.linked.linked in absurd (cc)))
+  own_still StoreFree ok = put_other e.life.index _ (state sizes past).node x (apart_who e.life.index ok.ripe.mine)
+  own_still PushFree ok = put_other e.life.index _ (state sizes past).node x (apart_who e.life.index ok.ripe.mine)
+  own_still MarkEdge ok = not_handed (marked_state (state sizes past) e.life.index) (node_in sizes past e.life.index).source.index (λ _. refl) (put_other e.life.index _ (state sizes past).node x (apart_mode e.life.index (λ m. let f = ok.linked.linked in absurd (cc))))
+  own_still FreezeEdge ok = not_handed (marked_state (state sizes past) e.life.index) (node_in sizes past e.life.index).source.index (λ _. refl) (put_other e.life.index _ (state sizes past).node x (apart_mode e.life.index (λ m. let f = ok.linked.linked in absurd (cc))))
+  own_still FreezeHead ok = not_handed (closed_state (state sizes past) e.life.index) e.life.index (λ _. refl) refl
+  own_still _ ok = refl
+
+  module _ (l : Life) (h : IsHeldIn (state sizes past) l) (on : stands l.index ((state sizes past).edges x) ≡ true) where
+    put_held : (i : ℕ) (v : Node) → (l.index ≡ i → (v.tag ≡ (node_in sizes past i).tag) × IsUsed v.mode × (v.stored ≡ (node_in sizes past i).stored)) → (s' : State) → s'.node l.index ≡ put i v (state sizes past).node l.index → IsHeldIn s' l
+    put_held i v same s' is =
+        let q = put_case (λ (n : Node). (l.tag ≡ n.tag) × IsUsed n.mode × (n.stored ≡ false)) i v (state sizes past).node l.index
+        (λ at. let r = same at in (h.life ∙ (ap (λ (j : ℕ). (node_in sizes past j).tag) at ∙ sym r.0), r.1, r.2 ∙ (ap (λ (j : ℕ). (node_in sizes past j).stored) (sym at) ∙ h.unstored)))
+        (λ _. (h.life, h.used, h.unstored)) in
+        record { life = q.0 ∙ ap (λ (n : Node). n.tag) (sym is); used = subst (λ (n : Node). IsUsed n.mode) (sym is) q.1; unstored = ap (λ (n : Node). n.stored) is ∙ q.2 }
+
+    handed_held : (s : State) (v : ℕ) → IsHeldIn s l → IsHeldIn (handed v s) l
+    handed_held s v d =
+        let q = handed_case (λ (n : Node). (l.tag ≡ n.tag) × IsUsed n.mode × (n.stored ≡ false)) s v l.index (d.life, d.used, d.unstored) (λ _ _ _. (d.life, tt, d.unstored)) in
+        record { life = q.0; used = q.1; unstored = q.2 }
+
+    -- an edge of the list that's spent is the caller's
+    held_mine : (i : ℕ) → (node_in sizes past i).mode ≡ Spent → (node_in sizes past i).who ≡ e.caller → l.index ≢ i
+    held_mine i m mine same =
+        let is : (node_in sizes past l.index).mode ≡ Spent = ap (λ (j : ℕ). (node_in sizes past j).mode) same ∙ m in
+        let who = ((spenders sizes z past kept).edge x l.index (subst IsUsed (sym c.spent) tt) c.vertex on is).1 in
+        other (sym mine ∙ (ap (λ (j : ℕ). (node_in sizes past j).who) (sym same) ∙ (who ∙ c.mine)))
+
+    not_used : (i : ℕ) → (IsUsed (node_in sizes past i).mode → ⊥) → l.index ≢ i
+    not_used i none same = none (subst (λ (j : ℕ). IsUsed (node_in sizes past j).mode) same h.used)
+
+    held_after : (k : Kind) → AllowedAs k sizes past e → IsHeldIn (state_by k sizes e (state sizes past)) l
+    held_after PopFree ok = put_held e.life.index _ (λ same. absurd (not_used e.life.index (λ u. subst IsUsed (taken sizes z past e kept ok).free u) same)) (state_by PopFree sizes e (state sizes past)) refl
+    held_after LinkVertex ok = put_held e.life.index _ (λ same. absurd (not_used e.life.index (λ u. subst IsUsed ok.fresh.fresh u) same)) (state_by LinkVertex sizes e (state sizes past)) refl
+    held_after LinkEdge ok = put_held e.life.index _ (λ same. absurd (not_used e.life.index (λ u. subst IsUsed ok.fresh.fresh u) same)) (state_by LinkEdge sizes e (state sizes past)) refl
+    held_after MarkVertex ok = put_held e.life.index _ (λ same. (refl, subst IsUsed (sym ok.linked.linked) tt, refl)) (state_by MarkVertex sizes e (state sizes past)) refl
+    held_after UnlinkVertex ok = put_held e.life.index _ (λ same. (refl, tt, refl)) (state_by UnlinkVertex sizes e (state sizes past)) refl
+    held_after UnlinkEdge ok = put_held e.life.index _ (λ same. (refl, tt, refl)) (state_by UnlinkEdge sizes e (state sizes past)) refl
+    held_after StoreFree ok = put_held e.life.index _ (λ same. absurd (held_mine e.life.index ok.ripe.spent ok.ripe.mine same)) (state_by StoreFree sizes e (state sizes past)) refl
+    held_after PushFree ok = put_held e.life.index _ (λ same. absurd (held_mine e.life.index ok.ripe.spent ok.ripe.mine same)) (state_by PushFree sizes e (state sizes past)) refl
+    held_after MarkEdge ok = handed_held (marked_state (state sizes past) e.life.index) (node_in sizes past e.life.index).source.index (put_held e.life.index _ (λ same. (refl, subst IsUsed (sym ok.linked.linked) tt, refl)) (marked_state (state sizes past) e.life.index) refl)
+    held_after FreezeEdge ok = handed_held (marked_state (state sizes past) e.life.index) (node_in sizes past e.life.index).source.index (put_held e.life.index _ (λ same. (refl, subst IsUsed (sym ok.linked.linked) tt, refl)) (marked_state (state sizes past) e.life.index) refl)
+    held_after FreezeHead ok = handed_held (closed_state (state sizes past) e.life.index) e.life.index record { life = h.life; used = h.used; unstored = h.unstored }
+    held_after _ ok = record { life = h.life; used = h.used; unstored = h.unstored }
+
+  -- an edge that is linked next is held
+  new_held : (k : Kind) → links_edge k ≡ true → AllowedAs k sizes past e → IsHeldIn (state_by k sizes e (state sizes past)) e.life
+  new_held LinkEdge is ok =
+      let v : Node = record (node_in sizes past e.life.index) { mode = Linked; vertex = false; key = e.key; source = e.source; target = e.target; weight = e.weight } in
+      let at = put_same e.life.index v (state sizes past).node in
+      record {
+        life = ok.life ∙ ap (λ (n : Node). n.tag) (sym at);
+        used = subst (λ (n : Node). IsUsed n.mode) (sym at) tt;
+        unstored = ap (λ (n : Node). n.stored) at ∙ (((link_words sizes z past kept).each e.life.index ok.there).unmarked ok.fresh.fresh).1;
+      }
+  new_held _ is ok = absurd (cc)
+
+  own_edge : (k : Kind) → e.kind ≡ k → AllowedAs k sizes past e → (l : Life) (link : Event) → link_of (past ++ e ∷ []) l ≡ Some link → link.source ≡ life_of x (node_in sizes past x) → unlinked (past ++ e ∷ []) l ≡ false → IsHeldIn (state_by k sizes e (state sizes past)) l
+  own_edge k is ok l link h from stays = by (link_of past l) refl
+    where
+      value : (a b : Event) → Some a ≡ Some b → a ≡ b
+      value a b p = cc
+
+      was : unlinked past l ≡ false
+      was = value_of (unlinked past l ≡ false) (unlinked past l) (λ t. let u = unlinked_more past (e ∷ []) l t in absurd (cc)) (λ f. f)
+
+      by : (o : Option Event) → link_of past l ≡ o → IsHeldIn (state_by k sizes e (state sizes past)) l
+      by (Some d) q =
+          let same : d ≡ link = value d link (sym (link_more past (e ∷ []) l d q) ∙ h) in
+          let f : IsEdgeOf past (life_in sizes past x) l = record { link = d; is = q; from = ap (λ (y : Event). y.source) same ∙ from; stays = was } in
+          let i = (kept_lives sizes z past kept x as_keeps l).1 f in
+          held_after l (c.edges l d q f.from was) i.on k ok
+      by None q = value_of (IsHeldIn (state_by k sizes e (state sizes past)) l) (same_life l e.life)
+          (λ one. value_of (IsHeldIn (state_by k sizes e (state sizes past)) l) (links_edge k)
+          (λ links. subst (IsHeldIn (state_by k sizes e (state sizes past))) (sym (same_is l e.life one)) (new_held k links ok))
+          (λ none. let t = sym q ∙ (sym (link_skip past e (ap links_edge is ∙ none) l) ∙ h) in absurd (cc)))
+          (λ else. let t = sym q ∙ (sym (link_else past e l else) ∙ h) in absurd (cc))
+
+  own_step : (k : Kind) → e.kind ≡ k → AllowedAs k sizes past e → IsOwnList sizes caller x tag (past ++ e ∷ []) (state_by k sizes e (state sizes past))
+  own_step k is ok =
+      let same = own_still k ok in record {
+        there = c.there;
+        spent = ap (λ (n : Node). n.mode) same ∙ c.spent;
+        vertex = ap (λ (n : Node). n.vertex) same ∙ c.vertex;
+        mine = ap (λ (n : Node). n.who) same ∙ c.mine;
+        life = ap (λ (n : Node). n.tag) same ∙ c.life;
+        edges = λ l link h from stays. own_edge k is ok l link h (from ∙ ap (λ (n : Node). life_of x n) same) stays;
+      }
+
+-- while others act, the list of a vertex that the caller spent stays one
+pub own_list_stays : (sizes : Sizes) → IsLayout sizes → (caller last x : ℕ) (front journal : List Event) → IsPrefix front journal → IsKept sizes journal → IsQuiet journal caller last → last ≤ length front → IsSpentVertex sizes front caller x → KeepsList sizes front x
+    → IsSpentVertex sizes journal caller x × KeepsList sizes journal x × ((node_in sizes journal x).tag ≡ (node_in sizes front x).tag)
+own_list_stays sizes z caller last x front journal p kept quiet old spent k =
+    let P : List Event → Type 0 = λ j. IsOwnList sizes caller x (node_in sizes front x).tag j (state sizes j) in
+    let end : P journal = kept_beyond sizes P caller last
+    (λ past e before c other ok. subst (IsOwnList sizes caller x (node_in sizes front x).tag (past ++ e ∷ [])) (sym (state-snoc sizes past e)) (own_step sizes z past e before caller x (node_in sizes front x).tag c other e.kind refl ok.as_kind))
+    front journal p kept quiet old record {
+      there = k.there;
+      spent = spent.spent;
+      vertex = spent.vertex;
+      mine = spent.mine;
+      life = refl;
+      edges = λ l link is from stays. let d = k.edges l record { link = link; is = is; from = from; stays = stays } in record { life = d.life; used = d.used; unstored = d.unstored };
+    } in (
+      record { spent = end.spent; vertex = end.vertex; mine = end.mine },
+      record {
+        there = end.there;
+        used = subst IsUsed (sym end.spent) tt;
+        vertex = end.vertex;
+        edges = λ y f. let h = end.edges y f.link f.is f.from f.stays in record { life = h.life; used = h.used; unstored = h.unstored };
+      },
+      end.life,
+    )

@@ -1,0 +1,18 @@
+use Rattle.core_rule.proofs.ClosedLists.{kept_met, kept_lives, kept_leads, has_keeps}
+use Rattle.core_rule.proofs.KeptLists.{own_list_stays}
+use Rattle.core_rule.proofs.lists.a_closed_list_is_a_list.Goals as goal
+
+pub returns-clause-list : goal.returns-clause-list
+returns-clause-list c = λ sizes z journal kept x has. has_keeps sizes z journal kept x has
+
+pub returns-clause-met : goal.returns-clause-met
+returns-clause-met c = λ sizes z journal kept x k. kept_met sizes z journal kept x k
+
+pub returns-clause-lives : goal.returns-clause-lives
+returns-clause-lives c = λ sizes z journal kept x k l. kept_lives sizes z journal kept x k l
+
+pub returns-clause-leads : goal.returns-clause-leads
+returns-clause-leads c = λ sizes z journal kept x place k f. kept_leads sizes z journal kept x place k f
+
+pub returns-clause-stays : goal.returns-clause-stays
+returns-clause-stays c = λ sizes z caller last x front journal p kept quiet old spent k. own_list_stays sizes z caller last x front journal p kept quiet old spent k
