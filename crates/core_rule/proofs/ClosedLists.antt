@@ -1,5 +1,5 @@
 -- A list is one still after it's frozen to its end, while no edge of its vertex's life is stored for the free list.
-use Rattle.std.proofs.Common.{◌≡◌, ◌≢◌, ◌⊎◌, ◌↔◌, ℕ, ◌<◌, Bool, true, false, List, [], ◌∷◌, ◌++◌, Some, None, refl, sym, ap, ◌∙◌, subst, arith, ⊎_elim, inl, inr}
+use Rattle.std.proofs.Common.{◌≡◌, ◌≢◌, ◌⊎◌, ◌↔◌, ℕ, ◌<◌, Bool, true, false, List, [], ◌∷◌, ◌++◌, Some, None, refl, sym, ap, ◌∙◌, subst, ⊎_elim, inl, inr}
 use mathlib.Core.Logic.{dite}
 use native.Mathlib.Decide.{ℕ_discrete}
 use Rattle.packed_link.specs.Link.{nowhere, index_of, mark_of}
@@ -13,29 +13,29 @@ use Rattle.core_journal.specs.declared.event.Event.{Event}
 use Rattle.core_journal.specs.Event.{same_life, links_edge, unlinks}
 use Rattle.core_journal.specs.Life.{link_of, unlinked}
 use Rattle.core_journal.specs.Machine.{word_at}
-use Rattle.core_journal.specs.State.{Mode, Free, Fresh, Linked, Spent, Node, State, put, handed, state_by, opening, state}
+use Rattle.core_journal.specs.State.{Free, Fresh, Linked, Spent, Node, State, put, handed, state_by, state}
 use Rattle.core_journal.proofs.KeptLives.{link_more}
 use Rattle.core_journal.proofs.Snoc.{same_is, same_self}
 use Rattle.core_rule.specs.Kept.{AllowedAs, IsKept}
 use Rattle.core_rule.specs.Nodes.{node_in, IsUsed}
 use Rattle.core_rule.specs.Freezing.{IsFrozenWord}
-use Rattle.core_rule.specs.Chains.{list_word, edge_chain, is_listed, life_in, HasList, IsEdgeOf, IsInList, IsUnstored, KeepsList}
-use Rattle.core_rule.proofs.Steps.{IsAfter, Keeps, KeepsIn, put_case, put_same, put_other, handed_case, marked_state, closed_state, all_in}
+use Rattle.core_rule.specs.Chains.{list_word, edge_chain, is_listed, life_in, HasList, IsEdgeOf, IsInList, KeepsList}
+use Rattle.core_rule.proofs.Steps.{IsAfter, KeepsIn, put_case, put_same, put_other, handed_case, marked_state, closed_state, all_in}
 use Rattle.core_rule.proofs.LinkWords.{link_words, taken}
 use Rattle.core_rule.proofs.Contents.{contents}
-use Rattle.core_rule.proofs.Lives.{IsWithin, same_tag}
+use Rattle.core_rule.proofs.Lives.{same_tag}
 use Rattle.core_rule.proofs.MarkedWords.{stored_before}
 use Rattle.core_rule.proofs.Named.{life_is, named, link_first}
 use Rattle.core_rule.proofs.Ends.{new_edge}
-use Rattle.core_rule.proofs.Living.{unlinked_skip, unlinked_other, life_of, not_this}
+use Rattle.core_rule.proofs.Living.{unlinked_skip, unlinked_other, life_of}
 use Rattle.core_rule.proofs.Placed.{used_there}
 use Rattle.core_rule.proofs.Meets.{stands}
 use Rattle.core_rule.proofs.ListParts.{unlinked_was, linked_was}
-use Rattle.core_rule.proofs.Listed.{IsFinished, Listing, value_of, open_mode}
+use Rattle.core_rule.proofs.Listed.{IsFinished, value_of, open_mode}
 use Rattle.core_rule.proofs.ListSteps.{listing, link_only, link_joins, joins_unfinished, popped_was, not_closed, IsOpenIn, has_open}
-use Rattle.core_rule.proofs.EdgeChains.{list_chain, IsList, lists, list_after, IsOffLists, untouched, stays, idle_stays, off_link, same_link, off_unlink, same_unlink, off_mark, off_close}
+use Rattle.core_rule.proofs.EdgeChains.{IsList, lists, list_after, untouched, stays, idle_stays, off_link, same_link, off_unlink, same_unlink, off_mark, off_close}
 use Rattle.core_rule.proofs.EdgeLives.{still_life, not_cut, of_edge, StandsAll, stands_after, all_edges}
-use Rattle.core_rule.proofs.FrozenLists.{IsEnd, frozen_end}
+use Rattle.core_rule.proofs.FrozenLists.{frozen_end}
 use Rattle.core_rule.proofs.ClosedStays.{finished_or}
 
 -- a life was linked as an edge of a life

@@ -8,8 +8,7 @@ use Rattle.core_journal.specs.declared.event.Kind.{Kind}
 use Rattle.core_journal.specs.declared.event.Kind.TheVariants.{PopFree, LinkVertex, MarkVertex, UnlinkVertex, LinkEdge, MarkEdge, UnlinkEdge, FreezeHead, FreezeEdge, StoreFree, PushFree}
 use Rattle.core_journal.specs.declared.event.Event.{Event}
 use Rattle.core_journal.specs.Prefix.{IsPrefix}
-use Rattle.core_journal.specs.Machine.{word_at}
-use Rattle.core_journal.specs.State.{Mode, Free, Fresh, Linked, Spent, Node, State, put, unlinked_from, linked_in, handed, frozen_part, state_by, opening, state}
+use Rattle.core_journal.specs.State.{Mode, Free, Fresh, Linked, Spent, Node, State, put, unlinked_from, handed, frozen_part, state_by, state}
 use Rattle.core_rule.specs.Kept.{AllowedAs, IsKept}
 use Rattle.core_rule.specs.Nodes.{node_in, IsUsed, IsFrozenToEnd}
 use Rattle.core_rule.specs.Chains.{is_listed, is_frozen}
@@ -17,13 +16,12 @@ use Rattle.core_rule.proofs.Steps.{Keeps, put_case, put_other, handed_case, mark
 use Rattle.core_rule.proofs.Induction.{kept_front}
 use Rattle.core_rule.proofs.LinkWords.{taken}
 use Rattle.core_rule.proofs.LinkedOnce.{fresh_before}
-use Rattle.core_rule.proofs.Contents.{contents}
 use Rattle.core_rule.proofs.Lives.{same_tag}
 use Rattle.core_rule.proofs.Placed.{used_there}
 use Rattle.core_rule.proofs.Meets.{stands}
 use Rattle.core_rule.proofs.ListParts.{stands_case, stands_here, stands_later, unlinked_was, unlinked_keeps, linked_was, linked_keeps, part_all}
-use Rattle.core_rule.proofs.Listed.{IsFinished, IsOpenList, Listing, ListingOf, value_of, part_listed, handed_split}
-use Rattle.core_rule.proofs.ListSteps.{listing, popped_was, IsOpenIn, finished_after}
+use Rattle.core_rule.proofs.Listed.{IsFinished, value_of, part_listed}
+use Rattle.core_rule.proofs.ListSteps.{listing, popped_was, finished_after}
 
 -- what holds while two nodes are in their lives
 record IsWhile (x y tag_x tag_y : ℕ) (P : State → Type 0) (s : State) : Type 0 where

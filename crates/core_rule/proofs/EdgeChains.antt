@@ -1,15 +1,14 @@
 -- The list of each vertex after each kept journal as a chain, and what each kind of event does to it.
-use Rattle.std.proofs.Common.{◌≡◌, ◌≢◌, ◌⊎◌, ℕ, ◌+◌, ◌<◌, Bool, true, false, cond, List, [], ◌∷◌, ◌++◌, refl, sym, ap, ◌∙◌, subst, arith, ⊎_elim, inl, inr}
-use Rattle.std.specs.Prelude.{take_while}
+use Rattle.std.proofs.Common.{◌≡◌, ◌≢◌, ℕ, ◌<◌, true, false, List, [], refl, sym, ap, ◌∙◌, subst, arith, ⊎_elim, inl, inr}
 use mathlib.Core.Logic.{dite}
 use native.Mathlib.Decide.{ℕ_discrete}
-use Rattle.packed_link.specs.Link.{pack, nowhere, index_of, mark_of, tag_of, with_mark}
-use Rattle.packed_link.specs.Layout.{Sizes, IsLayout, word_count, bucket_at, key_at, link_at, second_at}
+use Rattle.packed_link.specs.Link.{nowhere, index_of, mark_of, tag_of, with_mark}
+use Rattle.packed_link.specs.Layout.{Sizes, IsLayout, word_count, key_at, link_at, second_at}
 use Rattle.packed_link.specs.declared.link.Life.{Life}
 use Rattle.packed_link.proofs.Links.{index_of-pack, index_of-bound}
 use Rattle.core_chain.specs.Chain.{Chain, Position, Head, Node, IsOn, IsChain}
 use Rattle.core_chain.specs.Met.{Meets, IsMet}
-use Rattle.core_chain.specs.Steps.{CanInsert, CanUnlink, Inserts, Joins, Leaves, Marks, Unlinks, SetsMark, Untouched}
+use Rattle.core_chain.specs.Steps.{CanInsert, CanUnlink, Inserts, Joins, Unlinks, SetsMark, Untouched}
 use Rattle.core_chain.specs.Table.{StandsAlone, Writes, chain_in}
 use Rattle.core_chain.specs.Walk.{IsBelow}
 use Rattle.core_chain.proofs.Inserts.{IsChain-inserted}
@@ -18,22 +17,21 @@ use Rattle.core_chain.proofs.Meets.{IsMet-from_Meets, IsChain-from_IsMet}
 use Rattle.core_chain.proofs.Tables.{Inserts-in, SetsMark-in, Unlinks-in}
 use Rattle.core_chain.proofs.Unlinks.{IsChain-unlinked}
 use Rattle.core_journal.specs.declared.event.Kind.{Kind}
-use Rattle.core_journal.specs.declared.event.Kind.TheVariants.{PopFree, StorePrivate, LinkVertex, MarkVertex, UnlinkVertex, LinkEdge, Raise, MarkEdge, UnlinkEdge, FreezeHead, FreezeEdge, StoreFree, PushFree}
+use Rattle.core_journal.specs.declared.event.Kind.TheVariants.{PopFree, StorePrivate, LinkVertex, MarkVertex, UnlinkVertex, LinkEdge, MarkEdge, UnlinkEdge, FreezeHead, FreezeEdge, StoreFree, PushFree}
 use Rattle.core_journal.specs.declared.event.Event.{Event}
 use Rattle.core_journal.specs.Machine.{word_at}
-use Rattle.core_journal.specs.State.{Mode, Free, Fresh, Linked, Spent, Node as Nodes, State, put, linked_in, unlinked_from, state_by, opening, state}
+use Rattle.core_journal.specs.State.{Free, Fresh, Linked, Spent, State, linked_in, unlinked_from, state_by, state}
 use Rattle.core_rule.specs.Kept.{AllowedAs, IsKept}
 use Rattle.core_rule.specs.Nodes.{node_in, IsUsed}
 use Rattle.core_rule.specs.Edges.{IsLinkEdge, IsUnlinkEdge}
 use Rattle.core_rule.specs.Vertices.{IsLinkVertex}
-use Rattle.core_rule.specs.Chains.{list_word, list_places, is_listed, edge_chain, HasList, EdgeLists}
-use Rattle.core_rule.proofs.Steps.{IsAfter, Keeps, put_case, put_same, put_other, holds_all}
+use Rattle.core_rule.specs.Chains.{list_word, list_places, is_listed, edge_chain, EdgeLists}
+use Rattle.core_rule.proofs.Steps.{IsAfter, Keeps, put_other, holds_all}
 use Rattle.core_rule.proofs.LinkWords.{taken}
-use Rattle.core_rule.proofs.Contents.{contents}
 use Rattle.core_rule.proofs.Meets.{AreLinks, stands, meets_inserted, meets_unlinked, meets_marked, meets_untouched, joins_linked, leaves_unlinked}
-use Rattle.core_rule.proofs.ListParts.{IsWordOf, linked_none, unlinked_none}
-use Rattle.core_rule.proofs.Listed.{Listing, ListingOf, value_of, open_mode}
-use Rattle.core_rule.proofs.ListSteps.{listing, link_only, IsNoVertex, IsOpenIn, open_before, open_linked, has_open}
+use Rattle.core_rule.proofs.ListParts.{linked_none, unlinked_none}
+use Rattle.core_rule.proofs.Listed.{ListingOf, value_of, open_mode}
+use Rattle.core_rule.proofs.ListSteps.{listing, link_only, IsOpenIn, open_before, open_linked, has_open}
 
 -- the list of a vertex, by a state and the words
 abbrev pub list_chain : Sizes → State → (ℕ → ℕ) → ℕ → Chain

@@ -1,19 +1,19 @@
 -- What a token knows by its front makes its steps on edges allowed: an edge is linked and marked, and a list is closed.
-use Rattle.std.proofs.Common.{◌≡◌, ◌≢◌, ◌⊎◌, ℕ, ◌+◌, ◌<◌, ◌≤◌, List, length, true, false, Some, inl, inr, refl, sym, ap, ◌∙◌, subst, arith, ⊎_elim}
+use Rattle.std.proofs.Common.{◌≡◌, ◌≢◌, ℕ, ◌<◌, List, length, true, Some, inl, inr, refl, sym, ap, ◌∙◌, subst, arith, ⊎_elim}
 use Rattle.std.specs.Prelude.{slice_get, take}
-use Rattle.packed_link.specs.Link.{pack, with_mark, index_of, mark_of, tag_of, nowhere}
-use Rattle.packed_link.specs.Layout.{Sizes, IsLayout, key_at, link_at, second_at, third_at}
+use Rattle.packed_link.specs.Link.{pack, index_of, mark_of, tag_of, nowhere}
+use Rattle.packed_link.specs.Layout.{IsLayout, key_at, link_at, second_at}
 use Rattle.packed_link.specs.declared.link.Life.{Life}
 use Rattle.core_journal.specs.declared.event.Event.{Event}
 use Rattle.core_journal.specs.Life.{key_of, edge_linked}
 use Rattle.core_journal.specs.Machine.{word_at}
 use Rattle.core_journal.specs.Reuse.{pass_in}
-use Rattle.core_journal.specs.State.{Node, Pass, Linked}
+use Rattle.core_journal.specs.State.{Node, Pass}
 use Rattle.core_journal.proofs.Lists.{get_short, get_front, take_front}
-use Rattle.core_rule.specs.Nodes.{node_in, IsLinkedEdge, IsListWord, IsVertex}
-use Rattle.core_rule.specs.Edges.{IsFilledEdge, IsEdgeGap, IsEdgeFrom, IsLinkEdge, IsRaisedFor, IsMarkEdge}
-use Rattle.core_rule.specs.Freezing.{IsSpentVertex, IsFreezeHead}
-use Rattle.core_rule.specs.Fronts.{IsLifeAt, MetVertex, MetEdge, IsEdgeBelow, IsBeforeEdge, IsEdgeAbove, MayLinkEdge, MayMarkEdge, MayFreezeHead, key_in}
+use Rattle.core_rule.specs.Nodes.{node_in, IsVertex}
+use Rattle.core_rule.specs.Edges.{IsFilledEdge, IsEdgeFrom, IsLinkEdge, IsRaisedFor, IsMarkEdge}
+use Rattle.core_rule.specs.Freezing.{IsFreezeHead}
+use Rattle.core_rule.specs.Fronts.{MetEdge, IsEdgeBelow, MayLinkEdge, MayMarkEdge, MayFreezeHead, key_in}
 use Rattle.core_rule.specs.OwnEvents.{link_edge_event, mark_edge_event, freeze_head_event}
 use Rattle.core_rule.specs.Owes.{Reaches}
 use Rattle.core_rule.specs.declared.view.View.{View}

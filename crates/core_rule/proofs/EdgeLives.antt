@@ -1,7 +1,5 @@
 -- The lives on the list of a vertex are those that were linked as edges of its life and not unlinked.
-use Rattle.std.proofs.Common.{◌≡◌, ◌≢◌, ◌⊎◌, ◌↔◌, ℕ, ◌<◌, Bool, true, false, List, [], ◌∷◌, ◌++◌, Some, None, refl, sym, ap, ◌∙◌, subst, ⊎_elim, inl, inr}
-use mathlib.Core.Logic.{dite}
-use native.Mathlib.Decide.{ℕ_discrete}
+use Rattle.std.proofs.Common.{◌≡◌, ◌≢◌, ℕ, ◌<◌, Bool, true, false, List, [], ◌∷◌, ◌++◌, Some, None, refl, sym, ap, ◌∙◌, subst, ⊎_elim}
 use Rattle.packed_link.specs.Layout.{Sizes, IsLayout, second_at}
 use Rattle.packed_link.specs.declared.link.Life.{Life}
 use Rattle.core_chain.proofs.Walks.{one_of_key}
@@ -10,13 +8,12 @@ use Rattle.core_journal.specs.declared.event.Kind.TheVariants.{PopFree, LinkVert
 use Rattle.core_journal.specs.declared.event.Event.{Event}
 use Rattle.core_journal.specs.Event.{same_life, links_edge, unlinks}
 use Rattle.core_journal.specs.Life.{link_of, unlinked, edge_marked}
-use Rattle.core_journal.specs.Machine.{word_at}
-use Rattle.core_journal.specs.State.{Mode, Free, Fresh, Linked, Spent, Node, State, put, unlinked_from, linked_in, opening, state, state_by}
+use Rattle.core_journal.specs.State.{Fresh, Linked, Spent, Node, State, unlinked_from, state, state_by}
 use Rattle.core_journal.proofs.Snoc.{same_is, link_skip, link_else}
 use Rattle.core_rule.specs.Kept.{AllowedAs, IsKept}
 use Rattle.core_rule.specs.Nodes.{node_in, IsUsed, IsLinkedEdge}
 use Rattle.core_rule.specs.Chains.{edge_chain, life_in, HasList, IsEdgeOf, IsInList, IsAtSource}
-use Rattle.core_rule.proofs.Steps.{KeepsIn, put_case, put_other, all_in}
+use Rattle.core_rule.proofs.Steps.{KeepsIn, put_other, all_in}
 use Rattle.core_rule.proofs.LinkWords.{taken}
 use Rattle.core_rule.proofs.Contents.{contents}
 use Rattle.core_rule.proofs.Lives.{IsWithin, same_tag, other_index, this_life}
@@ -27,8 +24,8 @@ use Rattle.core_rule.proofs.LivingEdges.{live_edges}
 use Rattle.core_rule.proofs.Placed.{used_there}
 use Rattle.core_rule.proofs.Meets.{stands}
 use Rattle.core_rule.proofs.ListParts.{unlinked_was, unlinked_keeps, linked_was, linked_keeps, linked_joins}
-use Rattle.core_rule.proofs.Listed.{Listing, open_mode}
-use Rattle.core_rule.proofs.ListSteps.{listing, link_joins, popped_was, popped_not, popped_list, IsNoVertex, IsOpenIn, open_before, open_linked, has_open, open_has, sources}
+use Rattle.core_rule.proofs.Listed.{open_mode}
+use Rattle.core_rule.proofs.ListSteps.{listing, link_joins, popped_was, popped_not, IsOpenIn, open_before, open_linked, has_open, sources}
 use Rattle.core_rule.proofs.EdgeChains.{lists}
 
 -- no life on a list was unlinked

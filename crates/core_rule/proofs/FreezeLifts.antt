@@ -1,8 +1,6 @@
 -- What a token knows by its front makes its steps on closed lists allowed: an edge is frozen, and a link is stored for the free
 -- list.
-use Rattle.std.proofs.Common.{◌≡◌, ◌≢◌, ◌⊎◌, ℕ, ◌<◌, ◌≤◌, Bool, true, false, List, [], ◌∷◌, ◌++◌, length, inl, inr, refl, sym, ap, ◌∙◌, subst, arith, ⊎_elim}
-use mathlib.Core.Logic.{dite}
-use native.Mathlib.Decide.{ℕ_discrete}
+use Rattle.std.proofs.Common.{◌≡◌, ◌≢◌, ℕ, ◌<◌, ◌≤◌, true, List, [], ◌∷◌, ◌++◌, length, inl, inr, refl, sym, ap, ◌∙◌, subst, arith, ⊎_elim}
 use Rattle.packed_link.specs.Link.{pack, index_of, mark_of, mark_bit, nowhere}
 use Rattle.packed_link.specs.Layout.{Sizes, IsLayout, link_at, second_at}
 use Rattle.packed_link.specs.declared.link.Life.{Life}
@@ -16,13 +14,13 @@ use Rattle.core_journal.specs.Machine.{word_at}
 use Rattle.core_journal.specs.State.{Mode, Free, Fresh, Linked, Spent, Node as Nodes, State, put, handed, unlinked_from, state_by, state}
 use Rattle.core_journal.proofs.Lists.{prefix_trans, prefix_snoc, prefix_refl}
 use Rattle.core_journal.proofs.States.{state-snoc}
-use Rattle.core_rule.specs.Kept.{Allowed, AllowedAs, IsKept, IsQuiet}
-use Rattle.core_rule.specs.Nodes.{node_in, IsUsed, IsVertex, IsLinkedEdge}
+use Rattle.core_rule.specs.Kept.{AllowedAs, IsKept, IsQuiet}
+use Rattle.core_rule.specs.Nodes.{node_in, IsUsed, IsVertex}
 use Rattle.core_rule.specs.Edges.{IsUnlinkEdge}
 use Rattle.core_rule.specs.FreeNodes.{IsPushFree, IsStoreFree}
 use Rattle.core_rule.specs.Freezing.{IsSpentVertex, IsFrozenWord, IsFreezeEdge}
 use Rattle.core_rule.specs.Chains.{list_word, edge_chain, is_listed, is_frozen, life_in, KeepsList}
-use Rattle.core_rule.specs.Fronts.{IsLifeAt, MayFreezeEdge, MayStoreFree}
+use Rattle.core_rule.specs.Fronts.{MayFreezeEdge, MayStoreFree}
 use Rattle.core_rule.specs.OwnEvents.{freeze_edge_event, store_free_event}
 use Rattle.core_rule.specs.Owes.{Reaches}
 use Rattle.core_rule.specs.Standings.{IsSpentWith, IsKeptSpent}
@@ -39,7 +37,6 @@ use Rattle.core_rule.proofs.ListParts.{unlinked_keeps, linked_keeps}
 use Rattle.core_rule.proofs.ListSteps.{listing, sources, has_open}
 use Rattle.core_rule.proofs.MarkedWords.{marked_head_stays}
 use Rattle.core_rule.proofs.Meets.{stands}
-use Rattle.core_rule.proofs.Named.{life_is}
 use Rattle.core_rule.proofs.OwnLifts.{own_spent, still_ripe}
 use Rattle.core_rule.proofs.OwnSpent.{spent_stays}
 use Rattle.core_rule.proofs.Spenders.{spenders, part_who}

@@ -1,25 +1,24 @@
 -- The frozen part of each list after each kept journal: what it holds, where its words lead, and that it begins the list.
-use Rattle.std.proofs.Common.{◌≡◌, ◌≢◌, ◌⊎◌, ℕ, ◌+◌, ◌<◌, Bool, true, false, cond, List, [], ◌∷◌, refl, sym, ap, ◌∙◌, subst, arith, ⊎_elim, inl, inr}
-use Rattle.std.specs.Prelude.{take_while, Contains}
+use Rattle.std.proofs.Common.{◌≡◌, ◌⊎◌, ℕ, Bool, true, false, cond, List, [], ◌∷◌, refl, sym, ap, ◌∙◌, subst, arith, ⊎_elim, inl, inr}
+use Rattle.std.specs.Prelude.{take_while}
 use mathlib.Core.Logic.{dite}
 use native.Mathlib.Decide.{ℕ_discrete}
 use Rattle.packed_link.specs.Link.{nowhere, index_of, mark_of, mark_bit}
-use Rattle.packed_link.specs.Layout.{Sizes, IsLayout, link_at, second_at}
-use Rattle.core_chain.specs.Chain.{Chain, Position, Head, Node, IsOn, IsChain, Precedes}
-use Rattle.core_chain.specs.Met.{Rises, IsMet}
+use Rattle.packed_link.specs.Layout.{Sizes, IsLayout, link_at}
+use Rattle.core_chain.specs.Chain.{Chain, Position, Head, Node, IsOn, Precedes}
+use Rattle.core_chain.specs.Met.{Rises}
 use Rattle.core_chain.specs.Steps.{IsFrozenTo}
 use Rattle.core_journal.specs.declared.event.Event.{Event}
 use Rattle.core_journal.specs.Machine.{word_at}
-use Rattle.core_journal.specs.State.{Linked, Spent, State, frozen_part, state}
+use Rattle.core_journal.specs.State.{State, frozen_part, state}
 use Rattle.core_rule.specs.Kept.{IsKept}
-use Rattle.core_rule.specs.Nodes.{node_in}
 use Rattle.core_rule.specs.Freezing.{IsFrozenWord}
-use Rattle.core_rule.specs.Chains.{list_word, is_listed, is_frozen, edge_chain, HasList, FrozenParts}
+use Rattle.core_rule.specs.Chains.{list_word, is_listed, edge_chain, HasList, FrozenParts}
 use Rattle.core_rule.proofs.LinkWords.{link_words}
 use Rattle.core_rule.proofs.Contents.{contents}
-use Rattle.core_rule.proofs.Meets.{stands, contains_stands}
+use Rattle.core_rule.proofs.Meets.{stands}
 use Rattle.core_rule.proofs.ListParts.{yes_no, stands_case, stands_here, stands_later, part_more, part_end}
-use Rattle.core_rule.proofs.Listed.{Listing, part_listed}
+use Rattle.core_rule.proofs.Listed.{part_listed}
 use Rattle.core_rule.proofs.ListSteps.{listing, IsOpenIn, has_open}
 use Rattle.core_rule.proofs.EdgeChains.{lists, list_met}
 

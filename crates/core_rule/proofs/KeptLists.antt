@@ -1,7 +1,5 @@
 -- The list of a vertex that a caller spent stays one while others act.
-use Rattle.std.proofs.Common.{◌≡◌, ◌≢◌, ◌⊎◌, ℕ, ◌<◌, ◌≤◌, Bool, true, false, List, [], ◌∷◌, ◌++◌, Option, Some, None, length, refl, sym, ap, ◌∙◌, subst, arith, ⊎_elim}
-use mathlib.Core.Logic.{dite}
-use native.Mathlib.Decide.{ℕ_discrete}
+use Rattle.std.proofs.Common.{◌≡◌, ◌≢◌, ℕ, ◌<◌, ◌≤◌, true, false, List, [], ◌∷◌, ◌++◌, Option, Some, None, length, refl, sym, ap, ◌∙◌, subst}
 use Rattle.packed_link.specs.Layout.{Sizes, IsLayout}
 use Rattle.packed_link.specs.declared.link.Life.{Life}
 use Rattle.core_journal.specs.declared.event.Kind.{Kind}
@@ -10,23 +8,23 @@ use Rattle.core_journal.specs.declared.event.Event.{Event}
 use Rattle.core_journal.specs.Event.{same_life, links_edge}
 use Rattle.core_journal.specs.Life.{link_of, unlinked}
 use Rattle.core_journal.specs.Prefix.{IsPrefix}
-use Rattle.core_journal.specs.State.{Mode, Free, Fresh, Linked, Spent, Node, State, put, handed, frozen_part, state_by, state}
+use Rattle.core_journal.specs.State.{Linked, Spent, Node, State, put, handed, state_by, state}
 use Rattle.core_journal.proofs.KeptLives.{link_more, unlinked_more}
 use Rattle.core_journal.proofs.Snoc.{same_is, link_skip, link_else}
 use Rattle.core_journal.proofs.States.{state-snoc}
-use Rattle.core_rule.specs.Kept.{Allowed, AllowedAs, IsKept, IsQuiet}
+use Rattle.core_rule.specs.Kept.{AllowedAs, IsKept, IsQuiet}
 use Rattle.core_rule.specs.Nodes.{node_in, IsUsed}
 use Rattle.core_rule.specs.Freezing.{IsSpentVertex}
-use Rattle.core_rule.specs.Chains.{life_in, IsEdgeOf, IsUnstored, KeepsList}
+use Rattle.core_rule.specs.Chains.{life_in, IsEdgeOf, KeepsList}
 use Rattle.core_rule.proofs.Induction.{kept_beyond}
 use Rattle.core_rule.proofs.Steps.{put_case, put_same, put_other, handed_case, marked_state, closed_state}
 use Rattle.core_rule.proofs.LinkWords.{link_words, taken}
 use Rattle.core_rule.proofs.Living.{life_of}
 use Rattle.core_rule.proofs.Meets.{stands}
-use Rattle.core_rule.proofs.Listed.{Listing, value_of, part_listed, handed_split}
+use Rattle.core_rule.proofs.Listed.{value_of, part_listed, handed_split}
 use Rattle.core_rule.proofs.ListSteps.{listing}
 use Rattle.core_rule.proofs.ClosedLists.{IsHeldIn, kept_lives}
-use Rattle.core_rule.proofs.Spenders.{Spenders, spenders}
+use Rattle.core_rule.proofs.Spenders.{spenders}
 
 -- a caller's spent vertex and its list
 record IsOwnList (sizes : Sizes) (caller x tag : ℕ) (journal : List Event) (s : State) : Type 0 where

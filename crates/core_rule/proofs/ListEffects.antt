@@ -1,8 +1,8 @@
 -- What each kind of event does to the lists of edges, from journal to journal.
-use Rattle.std.proofs.Common.{◌≡◌, ◌≢◌, ℕ, ◌<◌, List, [], ◌∷◌, ◌++◌, refl, sym, ap, ◌∙◌, subst, arith}
+use Rattle.std.proofs.Common.{◌≡◌, ◌≢◌, ℕ, List, [], ◌∷◌, ◌++◌, refl, sym, ap, ◌∙◌, subst, arith}
 use Rattle.packed_link.specs.Link.{index_of}
 use Rattle.packed_link.specs.Layout.{Sizes, IsLayout}
-use Rattle.core_chain.specs.Chain.{Position, Head, Node}
+use Rattle.core_chain.specs.Chain.{Head, Node}
 use Rattle.core_chain.specs.Steps.{Inserts, Marks, Unlinks, SetsMark, Freezes, Untouched}
 use Rattle.core_journal.specs.declared.event.Kind.{Kind}
 use Rattle.core_journal.specs.declared.event.Kind.TheVariants.{LinkEdge, MarkEdge, UnlinkEdge, FreezeHead, FreezeEdge}

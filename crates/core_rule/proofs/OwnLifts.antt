@@ -1,20 +1,19 @@
 -- What a token knows by its front makes its step allowed in each journal that it may meet: free nodes, and passes.
-use Rattle.std.proofs.Common.{◌≡◌, ◌≢◌, ◌⊎◌, ℕ, ◌+◌, ◌<◌, ◌≤◌, List, true, refl, sym, ap, ◌∙◌, subst, arith}
+use Rattle.std.proofs.Common.{◌≡◌, ◌⊎◌, ℕ, ◌+◌, ◌<◌, ◌≤◌, List, refl, sym, ap, ◌∙◌, subst, arith}
 use Rattle.packed_link.specs.Link.{pack, index_of, tag_of}
 use Rattle.packed_link.specs.Layout.{IsLayout, free_at, epoch_at, announce_at, link_at}
 use Rattle.packed_link.specs.declared.link.Life.{Life}
 use Rattle.core_journal.specs.declared.event.Event.{Event}
-use Rattle.core_journal.specs.Prefix.{IsPrefix}
 use Rattle.core_journal.specs.Machine.{word_at}
 use Rattle.core_journal.specs.Reuse.{pass_in}
-use Rattle.core_journal.specs.State.{Mode, Fresh, Pass, Node}
+use Rattle.core_journal.specs.State.{Pass, Node}
 use Rattle.core_journal.proofs.Lists.{prefix_trans}
 use Rattle.core_rule.specs.Counts.{pops, moves}
-use Rattle.core_rule.specs.Nodes.{node_in, IsFreshWith, IsRipe}
-use Rattle.core_rule.specs.Passes.{IsChecked, IsAnnounce, IsWithdraw, IsMoveEpoch}
+use Rattle.core_rule.specs.Nodes.{IsFreshWith, IsRipe}
+use Rattle.core_rule.specs.Passes.{IsAnnounce, IsWithdraw, IsMoveEpoch}
 use Rattle.core_rule.specs.FreeNodes.{IsPopFree, IsStorePrivate, IsPushFree}
 use Rattle.core_rule.specs.Facts.{IsHeld}
-use Rattle.core_rule.specs.Fronts.{IsLifeAt, MayPopFree, MayStorePrivate, MayPushFree, MayAnnounce, MayWithdraw, MayMoveEpoch}
+use Rattle.core_rule.specs.Fronts.{MayPopFree, MayStorePrivate, MayPushFree, MayAnnounce, MayWithdraw, MayMoveEpoch}
 use Rattle.core_rule.specs.OwnEvents.{pop_event, store_event, push_event, announce_event, withdraw_event, move_event}
 use Rattle.core_rule.specs.Owes.{Reaches}
 use Rattle.core_rule.specs.declared.view.View.{View}

@@ -1,5 +1,5 @@
 -- What the open pass of a caller has met at a front with all of its events is met still while only others make events.
-use Rattle.std.proofs.Common.{◌≡◌, ◌≢◌, ℕ, ◌<◌, ◌≤◌, Bool, true, false, List, length, refl, sym, ap, ◌∙◌, arith}
+use Rattle.std.proofs.Common.{◌≡◌, ℕ, ◌<◌, ◌≤◌, Bool, true, false, List, length, refl, ap, ◌∙◌, arith}
 use Rattle.packed_link.specs.Link.{mark_of}
 use Rattle.packed_link.specs.Layout.{Sizes, IsLayout, key_at, link_at}
 use Rattle.core_journal.specs.declared.event.Event.{Event}

@@ -1,9 +1,9 @@
 -- The edges of a closed list are spent by the caller who spent its vertex.
-use Rattle.std.proofs.Common.{◌≡◌, ◌≢◌, ◌⊎◌, ℕ, ◌<◌, Bool, true, false, cond, List, [], refl, sym, ap, ◌∙◌, subst, ⊎_elim}
+use Rattle.std.proofs.Common.{◌≡◌, ◌≢◌, ℕ, ◌<◌, Bool, true, false, List, [], refl, sym, ap, ◌∙◌, subst, ⊎_elim}
 use Rattle.packed_link.specs.Layout.{Sizes, IsLayout, second_at}
 use Rattle.core_journal.specs.declared.event.Kind.TheVariants.{PopFree, LinkVertex, MarkVertex, UnlinkVertex, LinkEdge, MarkEdge, UnlinkEdge, FreezeHead, FreezeEdge, StoreFree, PushFree}
 use Rattle.core_journal.specs.declared.event.Event.{Event}
-use Rattle.core_journal.specs.State.{Mode, Fresh, Linked, Spent, Node, State, put, handed, frozen_part, state_by, opening, state}
+use Rattle.core_journal.specs.State.{Fresh, Linked, Spent, Node, State, put, handed, state_by, state}
 use Rattle.core_rule.specs.Kept.{IsKept}
 use Rattle.core_rule.specs.Nodes.{node_in, IsUsed}
 use Rattle.core_rule.specs.Chains.{is_frozen}
@@ -12,7 +12,7 @@ use Rattle.core_rule.proofs.LinkWords.{taken}
 use Rattle.core_rule.proofs.Contents.{contents}
 use Rattle.core_rule.proofs.Meets.{stands}
 use Rattle.core_rule.proofs.ListParts.{unlinked_was, linked_was}
-use Rattle.core_rule.proofs.Listed.{Listing, ListingOf, part_listed, handed_split}
+use Rattle.core_rule.proofs.Listed.{part_listed, handed_split}
 use Rattle.core_rule.proofs.ListSteps.{listing, popped_was}
 use Rattle.core_rule.proofs.ClosedStays.{part_head, part_spent}
 

@@ -1,19 +1,19 @@
 -- What a token knows by its front makes its steps on vertices allowed: a vertex is linked, marked, and raised for.
-use Rattle.std.proofs.Common.{◌≡◌, ◌≢◌, ◌⊎◌, ℕ, ◌+◌, ◌%◌, ◌<◌, ◌≤◌, List, length, true, Some, inl, inr, refl, sym, ap, ◌∙◌, subst, arith, ⊎_elim}
+use Rattle.std.proofs.Common.{◌≡◌, ◌≢◌, ℕ, ◌%◌, ◌<◌, List, true, inl, inr, refl, sym, ap, ◌∙◌, subst, arith, ⊎_elim}
 use Rattle.std.proofs.Math.Nat.{mod-lt}
-use Rattle.packed_link.specs.Link.{pack, with_mark, index_of, mark_of, tag_of, nowhere}
-use Rattle.packed_link.specs.Layout.{Sizes, IsLayout, bucket_at, key_at, link_at, second_at, third_at}
+use Rattle.packed_link.specs.Link.{pack, index_of, mark_of, tag_of, nowhere}
+use Rattle.packed_link.specs.Layout.{IsLayout, bucket_at, key_at, link_at, third_at}
 use Rattle.packed_link.specs.declared.link.Life.{Life}
 use Rattle.core_journal.specs.declared.event.Event.{Event}
 use Rattle.core_journal.specs.Machine.{word_at}
 use Rattle.core_journal.specs.Reuse.{pass_in}
-use Rattle.core_journal.specs.State.{Node, Pass, Linked}
+use Rattle.core_journal.specs.State.{Node, Pass}
 use Rattle.core_journal.proofs.Lists.{prefix_trans}
 use Rattle.core_rule.specs.Counts.{raises}
-use Rattle.core_rule.specs.Nodes.{node_in, IsLinkedVertex, IsBucketWord, IsVertex}
-use Rattle.core_rule.specs.Vertices.{IsFilledVertex, IsVertexGap, IsLinkVertex, IsMarkVertex}
+use Rattle.core_rule.specs.Nodes.{node_in, IsLinkedVertex, IsVertex}
+use Rattle.core_rule.specs.Vertices.{IsFilledVertex, IsLinkVertex, IsMarkVertex}
 use Rattle.core_rule.specs.Edges.{IsRaise}
-use Rattle.core_rule.specs.Fronts.{IsLifeAt, MetVertex, IsVertexBelow, IsBeforeVertex, IsVertexAbove, MayLinkVertex, MayMarkVertex, MayRaise, key_in}
+use Rattle.core_rule.specs.Fronts.{MetVertex, IsVertexBelow, MayLinkVertex, MayMarkVertex, MayRaise, key_in}
 use Rattle.core_rule.specs.OwnEvents.{link_vertex_event, mark_vertex_event, raise_event}
 use Rattle.core_rule.specs.Owes.{Reaches}
 use Rattle.core_rule.specs.declared.view.View.{View}

@@ -1,8 +1,8 @@
 -- What a token must know by its front, so that its next step of a kind is allowed wherever it wins: one condition a kind.
 -- "Met" is what an open pass has met (`IsMet`); nothing is said of what the token loaded.
-use Rattle.std.specs.Prelude.{◌≡◌, ◌≢◌, ℕ, ◌+◌, ◌%◌, ◌<◌, ◌≤◌, ◌^◌, ◌⊎◌, ◌==◌, true, false, List, Some, length}
+use Rattle.std.specs.Prelude.{◌≡◌, ◌≢◌, ℕ, ◌+◌, ◌%◌, ◌<◌, ◌^◌, ◌⊎◌, ◌==◌, true, false, List, Some, length}
 use Rattle.std.specs.List.{list_any}
-use Rattle.packed_link.specs.Link.{pack, index_of, mark_of, tag_of, nowhere}
+use Rattle.packed_link.specs.Link.{index_of, mark_of, tag_of, nowhere}
 use Rattle.packed_link.specs.Layout.{free_at, epoch_at, bucket_at, key_at, link_at, second_at}
 use Rattle.packed_link.specs.declared.link.Life.{Life}
 use Rattle.core_journal.specs.declared.event.Event.{Event}
