@@ -63,3 +63,4 @@ pub mod TwoLives
 pub mod Refusals
 pub mod LivesShown
 pub mod KeptLists
+pub mod KnownSteps

@@ -32,7 +32,7 @@ refused_holding = record {
 }
 
 -- no event of a list passes a test
-none_such : (test : Event → Bool) (xs : List Event) → list_all (λ e. not (test e)) xs ≡ true → (k : ℕ) (e : Event) → slice_get xs k ≡ Some e → test e ≡ true → ⊥
+pub none_such : (test : Event → Bool) (xs : List Event) → list_all (λ e. not (test e)) xs ≡ true → (k : ℕ) (e : Event) → slice_get xs k ≡ Some e → test e ≡ true → ⊥
 none_such test [] h k e at is = absurd (cc)
 none_such test (x ∷ xs) h k e at is =
     let rest : list_all (λ e. not (test e)) xs ≡ true → (j : ℕ) → slice_get xs j ≡ Some e → ⊥ = λ g j found. none_such test xs g j e found is in

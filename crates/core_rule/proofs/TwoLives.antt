@@ -19,14 +19,14 @@ use Rattle.core_rule.proofs.SmallSteps.{whole, none_fresh, announced, filled, wi
 abbrev pub before : ℕ → List Event
 before n = take n two_lives
 
-abbrev event : ℕ → Event
+abbrev pub event : ℕ → Event
 event n = get_or two_lives n blank
 
 next : (n : ℕ) → IsKept small (before n) → Allowed small (before n) (event n) → IsKept small (before n ++ event n ∷ [])
 next n = kept_snoc small (before n) (event n)
 
 -- a node that was spent by event 43 is ripe once the epoch is 2
-ripe : (past : List Event) (x : ℕ) → IsPrefix (before 47) past → (node_in small past x).mode ≡ Spent → (node_in small past x).who ≡ 0 → (node_in small (before 45) x).mode ≡ Spent → (node_in small (before 45) x).tag ≡ (node_in small past x).tag
+pub ripe : (past : List Event) (x : ℕ) → IsPrefix (before 47) past → (node_in small past x).mode ≡ Spent → (node_in small past x).who ≡ 0 → (node_in small (before 45) x).mode ≡ Spent → (node_in small (before 45) x).tag ≡ (node_in small past x).tag
     → IsRipe small past 0 x
 unfolding machine word_at
 ripe past x p spent mine was same = record {

@@ -21,3 +21,4 @@ pub mod Raised
 pub mod Walks
 pub mod TwoLives
 pub mod Refused
+pub mod KnownSteps

@@ -27,8 +27,8 @@ pub use journals::{
     a_node_has_two_lives, a_vertex_is_added, kept_journals_grow, wrong_events_are_refused,
 };
 pub use lifts::{
-    steps_on_closed_lists_are_allowed, steps_on_edges_are_allowed, steps_on_free_nodes_are_allowed,
-    steps_on_passes_are_allowed, steps_on_vertices_are_allowed,
+    a_token_may_make_each_step, steps_on_closed_lists_are_allowed, steps_on_edges_are_allowed,
+    steps_on_free_nodes_are_allowed, steps_on_passes_are_allowed, steps_on_vertices_are_allowed,
 };
 pub use lists::{
     a_closed_list_is_a_list, a_present_edge_is_on_its_list, closed_lists_stay,
