@@ -1,6 +1,8 @@
 //! The worked rows: each input with the lines that must be written for it, and each way in which a run ends
 //! otherwise.
 
+ghost use Rattle.std.specs.Prelude.{◌≤◌, ◌<◌};
+
 use crate::graph_main::graph_main;
 use crate::status::{Status, UsageCause};
 use crate::streams::{ReadSource, WriteSink};
