@@ -1,13 +1,11 @@
 -- The worked journal of two callers at once is kept, and its steps are made by fronts that lag behind the journal.
-use Rattle.std.proofs.Common.{◌≡◌, ℕ, true, not, ◌==◌, List, [], ◌∷◌, ◌++◌, take, drop, get_or, length, refl, arith, inl, inr, lit<, lit≤, take-append-drop}
-use Rattle.std.specs.List.{list_all}
+use Rattle.std.proofs.Common.{ℕ, List, [], ◌∷◌, ◌++◌, take, drop, get_or, refl, arith, inl, inr, lit<, lit≤}
 use Rattle.packed_link.specs.Link.{pack, nowhere}
 use Rattle.packed_link.specs.Layout.{link_at, second_at}
 use Rattle.core_journal.specs.declared.event.Event.{Event}
 use Rattle.core_journal.specs.Event.{blank}
 use Rattle.core_journal.specs.Life.{key_of}
 use Rattle.core_journal.specs.Machine.{machine, word_at}
-use Rattle.core_journal.specs.Prefix.{IsPrefix}
 use Rattle.core_journal.specs.State.{state}
 use Rattle.core_journal.specs.TwoHands.{hands_journal}
 use Rattle.core_journal.specs.Worked.{small, first_life}
@@ -15,11 +13,12 @@ use Rattle.core_rule.specs.Fronts.{MayMarkVertex, MayUnlinkVertex, MayFreezeHead
 use Rattle.core_rule.specs.Kept.{Allowed, IsKept}
 use Rattle.core_rule.specs.KnownSteps.{view_among, Makes}
 use Rattle.core_rule.specs.Nodes.{IsLinkedVertex}
-use Rattle.core_rule.specs.Owes.{Reaches}
 use Rattle.core_rule.specs.OwnEvents.{mark_vertex_event, unlink_vertex_event, link_edge_event, freeze_head_event}
-use Rattle.core_rule.proofs.Induction.{kept_snoc, kept_front}
-use Rattle.core_rule.proofs.KnownSteps.{kept_before, met_vertex}
-use Rattle.core_rule.proofs.SmallSteps.{whole, quiet_from, none_fresh, announced, filled, withdrawn, at_link}
+use Rattle.core_rule.specs.TwoLives.{two_lives}
+use Rattle.core_rule.proofs.Induction.{kept_snoc}
+use Rattle.core_rule.proofs.KnownSteps.{front_kept, reached, met_vertex}
+use Rattle.core_rule.proofs.SmallSteps.{whole, none_fresh, announced, filled, withdrawn, at_link}
+use Rattle.core_rule.proofs.TwoLives.{two_lives_kept}
 
 -- a front of the journal, and one more event
 abbrev first : ℕ → List Event
@@ -35,7 +34,7 @@ next n = kept_snoc small (first n) (event n)
 
 kept_19 : IsKept small (first 19)
 unfolding machine word_at state
-kept_19 = next 18 (kept_before 18) (announced (first 18) 0 (lit< tt) refl refl)
+kept_19 = next 18 (front_kept two_lives two_lives_kept 18) (announced (first 18) 0 (lit< tt) refl refl)
 
 kept_20 : IsKept small (first 20)
 unfolding machine word_at state
@@ -132,15 +131,6 @@ kept_33 = next 32 kept_32 (record { by = λ _. lit< tt; as_kind = record { life 
 pub hands_kept : IsKept small hands_journal
 hands_kept = kept_33
 
--- a token of a caller that made no event behind its front may meet a longer front of the journal
-reached : (caller n m : ℕ) → IsPrefix (first n) (first m) → list_all (λ e. not (e.caller == caller)) (drop n (first m)) ≡ true → length (first n) ≡ n → Reaches (view_among caller n) (first m)
-reached caller n m front quiet size = record {
-  kept = kept_front small (first m) hands_journal (record { rest = drop m hands_journal; whole = take-append-drop m hands_journal }) hands_kept;
-  front = front;
-  quiet = quiet_from caller n (first m) quiet;
-  old = omega (arith, size);
-}
-
 -- caller 1 opened its pass before caller 0 took a node, and marks the vertex behind that
 
 pub among_mark : MayMarkVertex (view_among 1 20) (first_life 1)
@@ -151,7 +141,7 @@ among_mark = record {
 
 pub makes_mark : Makes hands_journal (view_among 1 20) 22 (pack nowhere 0 1) (mark_vertex_event (view_among 1 20) (first_life 1) (pack nowhere 0 1))
 unfolding machine word_at
-makes_mark = record { reaches = reached 1 20 22 (record { rest = drop 20 (first 22); whole = refl }) refl refl; finds = refl; makes = refl }
+makes_mark = record { reaches = reached hands_journal hands_kept 1 20 22 (record { rest = drop 20 (first 22); whole = refl }) refl (lit≤ tt); finds = refl; makes = refl }
 
 -- it unlinks the vertex from the link of the one before it
 
@@ -175,7 +165,7 @@ among_unlink = record {
 
 pub makes_unlink : Makes hands_journal (view_among 1 23) 24 (pack 1 0 1) (unlink_vertex_event (view_among 1 23) (link_at small 0) (pack 1 0 1) nowhere (first_life 1))
 unfolding machine word_at
-makes_unlink = record { reaches = reached 1 23 24 (record { rest = drop 23 (first 24); whole = refl }) refl refl; finds = refl; makes = refl }
+makes_unlink = record { reaches = reached hands_journal hands_kept 1 23 24 (record { rest = drop 23 (first 24); whole = refl }) refl (lit≤ tt); finds = refl; makes = refl }
 
 -- it closes the list of the vertex
 
@@ -185,7 +175,7 @@ among_freeze = record { life = record { there = lit< tt; tag = refl }; spent = r
 
 pub makes_freeze : Makes hands_journal (view_among 1 25) 26 (pack nowhere 0 1) (freeze_head_event (view_among 1 25) (first_life 1) (pack nowhere 0 1))
 unfolding machine word_at
-makes_freeze = record { reaches = reached 1 25 26 (record { rest = drop 25 (first 26); whole = refl }) refl refl; finds = refl; makes = refl }
+makes_freeze = record { reaches = reached hands_journal hands_kept 1 25 26 (record { rest = drop 25 (first 26); whole = refl }) refl (lit≤ tt); finds = refl; makes = refl }
 
 -- caller 0 links the edge; its target is spent by then, and its pass has met it all the same
 
@@ -209,4 +199,4 @@ among_link = record {
 
 pub makes_link : Makes hands_journal (view_among 0 28) 29 (pack nowhere 0 1) (link_edge_event (view_among 0 28) (second_at small 0) (pack nowhere 0 1) 2 (first_life 0) (first_life 1) 5 (first_life 2))
 unfolding machine word_at
-makes_link = record { reaches = reached 0 28 29 (record { rest = drop 28 (first 29); whole = refl }) refl refl; finds = refl; makes = refl }
+makes_link = record { reaches = reached hands_journal hands_kept 0 28 29 (record { rest = drop 28 (first 29); whole = refl }) refl (lit≤ tt); finds = refl; makes = refl }

@@ -65,3 +65,4 @@ pub mod LivesShown
 pub mod KeptLists
 pub mod KnownSteps
 pub mod HandsKept
+pub mod Beside

@@ -4,8 +4,9 @@ use Rattle.core_journal.specs.declared.event.Event.{Event}
 use Rattle.core_journal.specs.Machine.{word_at}
 use Rattle.core_journal.specs.TwoHands.{hands_journal}
 use Rattle.core_journal.specs.Worked.{small}
-use Rattle.core_rule.specs.TwoLives.{two_lives}
+use Rattle.core_rule.specs.Beside.{beside_others}
 use Rattle.core_rule.specs.Owes.{Reaches}
+use Rattle.core_rule.specs.TwoLives.{two_lives}
 use Rattle.core_rule.specs.declared.view.View.{View}
 
 -- the view of a token with this caller's number whose front is the first n events, and which made no event behind them
@@ -19,6 +20,10 @@ view_at caller n = view_of two_lives caller n
 -- the same of the worked journal of two callers at once
 abbrev pub view_among : ℕ → ℕ → View
 view_among caller n = view_of hands_journal caller n
+
+-- the same of the worked journal with links in front of others and behind others
+abbrev pub view_beside : ℕ → ℕ → View
+view_beside caller n = view_of beside_others caller n
 
 -- a token's step makes event n of a journal: the token may meet the events before it, the step finds this word at its place,
 -- and its event is the next one

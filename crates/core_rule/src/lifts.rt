@@ -22,8 +22,9 @@ ghost use Rattle.core_rule.specs.Fronts.{MayAnnounce, MayFreezeEdge, MayFreezeHe
 ghost use Rattle.core_rule.specs.Fronts.{MayMarkEdge, MayMarkVertex};
 ghost use Rattle.core_rule.specs.Fronts.{MayMoveEpoch, MayPopFree, MayPushFree, MayRaise, MayStoreFree, MayStorePrivate};
 ghost use Rattle.core_rule.specs.Fronts.{MayUnlinkEdge, MayUnlinkVertex, MayWithdraw};
+ghost use Rattle.core_rule.specs.Beside.{beside_others};
 ghost use Rattle.core_rule.specs.Kept.{AllowedAs};
-ghost use Rattle.core_rule.specs.KnownSteps.{Makes, view_among, view_at};
+ghost use Rattle.core_rule.specs.KnownSteps.{Makes, view_among, view_at, view_beside};
 ghost use Rattle.core_rule.specs.OwnEvents.{announce_event, freeze_edge_event, freeze_head_event, link_edge_event};
 ghost use Rattle.core_rule.specs.OwnEvents.{link_vertex_event, store_free_event};
 ghost use Rattle.core_rule.specs.OwnEvents.{mark_edge_event, mark_vertex_event, move_event, pop_event, push_event};
@@ -156,4 +157,25 @@ pub fn a_token_may_lag_behind()
     ensures link_edge { MayLinkEdge (view_among 0 28) (second_at small 0) (pack nowhere 0 1) 2 (first_life 0) (first_life 1) 5 (first_life 2)
         × Makes hands_journal (view_among 0 28) 29 (pack nowhere 0 1)
         (link_edge_event (view_among 0 28) (second_at small 0) (pack nowhere 0 1) 2 (first_life 0) (first_life 1) 5 (first_life 2)) }
+{}
+
+/// Steps in front of others and behind others (`specs/Beside.antt`): a vertex and an edge are linked where the word leads to
+/// one of a greater key, an edge is linked and one unlinked at the link of one of a smaller key, and an edge is frozen behind
+/// a frozen one.
+pub fn a_token_may_step_beside_others()
+    ensures vertex_before { MayLinkVertex (view_beside 0 32) (bucket_at small 0) (pack 0 0 0) 0 (first_life 3)
+        × Makes beside_others (view_beside 0 32) 32 (pack 0 0 0)
+        (link_vertex_event (view_beside 0 32) (bucket_at small 0) (pack 0 0 0) 0 (first_life 3)) }
+    ensures edge_before { MayLinkEdge (view_beside 0 40) (second_at small 0) (pack 2 0 1) 0 (first_life 0) (first_life 3) 7 (first_life 4)
+        × Makes beside_others (view_beside 0 40) 40 (pack 2 0 1)
+        (link_edge_event (view_beside 0 40) (second_at small 0) (pack 2 0 1) 0 (first_life 0) (first_life 3) 7 (first_life 4)) }
+    ensures unlink_behind { MayUnlinkEdge (view_beside 0 45) (link_at small 4) (pack 2 0 1) nowhere (first_life 0) (first_life 2)
+        × Makes beside_others (view_beside 0 45) 45 (pack 2 0 1)
+        (unlink_edge_event (view_beside 0 45) (link_at small 4) (pack 2 0 1) nowhere (first_life 2)) }
+    ensures edge_behind { MayLinkEdge (view_beside 0 53) (link_at small 4) (pack nowhere 0 1) 2 (first_life 0) (first_life 1) 6 (first_life 5)
+        × Makes beside_others (view_beside 0 53) 53 (pack nowhere 0 1)
+        (link_edge_event (view_beside 0 53) (link_at small 4) (pack nowhere 0 1) 2 (first_life 0) (first_life 1) 6 (first_life 5)) }
+    ensures freeze_behind { MayFreezeEdge (view_beside 0 60) (first_life 0) (link_at small 4) (first_life 5)
+        × Makes beside_others (view_beside 0 60) 60 (pack nowhere 0 1)
+        (freeze_edge_event (view_beside 0 60) (first_life 5) (pack nowhere 0 1)) }
 {}
