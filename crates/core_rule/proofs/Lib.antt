@@ -64,3 +64,5 @@ pub mod Refusals
 pub mod LivesShown
 pub mod KeptLists
 pub mod KnownSteps
+pub mod HandsKept
+pub mod Beside

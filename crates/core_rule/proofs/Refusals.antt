@@ -1,7 +1,5 @@
 -- Each refused event breaks one part of its condition.
-use Rattle.std.proofs.Common.{◌≡◌, ℕ, zero, suc, ◌≤◌, Bool, true, false, true≢false, not, ◌&&◌, List, [], ◌∷◌, ◌++◌, take, get_or, refl, sym, ap, ◌∙◌, subst, arith, inl, inr, lit<, lit≤}
-use Rattle.std.specs.Prelude.{slice_get, Some}
-use Rattle.std.specs.List.{list_all}
+use Rattle.std.proofs.Common.{◌≡◌, ℕ, ◌≤◌, true≢false, List, [], ◌∷◌, ◌++◌, take, get_or, refl, sym, ap, subst, arith, inl, inr, lit<, lit≤}
 use Rattle.packed_link.specs.Link.{pack, nowhere}
 use Rattle.packed_link.specs.Layout.{epoch_at}
 use Rattle.core_journal.specs.declared.event.Event.{Event}
@@ -21,7 +19,7 @@ use Rattle.core_rule.proofs.Announcements.{epoch_was}
 use Rattle.core_rule.proofs.Counted.{allowed_at}
 use Rattle.core_rule.proofs.Epochs.{checked}
 use Rattle.core_rule.proofs.Induction.{kept_snoc}
-use Rattle.core_rule.proofs.SmallSteps.{none_fresh, announced, filled, withdrawn, moved}
+use Rattle.core_rule.proofs.SmallSteps.{none_such, none_fresh, announced, filled, withdrawn, moved}
 use Rattle.core_rule.proofs.TwoLives.{before, kept_3, kept_4, kept_27, kept_32, kept_42, kept_46}
 
 pub refused_holding : IsRefused small holding (takes 0 1 2)
@@ -30,18 +28,6 @@ refused_holding = record {
   front = kept_4;
   whole = λ kept. let a : IsPopFree small holding (takes 0 1 2) = (allowed_at small (holding ++ takes 0 1 2 ∷ []) 4 (takes 0 1 2) kept refl).as_kind in a.holds_none 0 (lit< tt) (record { fresh = refl; mine = refl });
 }
-
--- no event of a list passes a test
-pub none_such : (test : Event → Bool) (xs : List Event) → list_all (λ e. not (test e)) xs ≡ true → (k : ℕ) (e : Event) → slice_get xs k ≡ Some e → test e ≡ true → ⊥
-none_such test [] h k e at is = absurd (cc)
-none_such test (x ∷ xs) h k e at is =
-    let rest : list_all (λ e. not (test e)) xs ≡ true → (j : ℕ) → slice_get xs j ≡ Some e → ⊥ = λ g j found. none_such test xs g j e found is in
-    by (test x) refl h k at rest
-  where
-    by : (b : Bool) → test x ≡ b → (not b && list_all (λ e. not (test e)) xs) ≡ true → (k : ℕ) → slice_get (x ∷ xs) k ≡ Some e → (list_all (λ e. not (test e)) xs ≡ true → (j : ℕ) → slice_get xs j ≡ Some e → ⊥) → ⊥
-    by true t g k at rest = true≢false (sym g)
-    by false t g zero at rest = let same : x ≡ e = cc in true≢false (sym is ∙ (ap test (sym same) ∙ t))
-    by false t g (suc j) at rest = rest g j at
 
 pub refused_unraised : IsRefused small unraised marks_first
 refused_unraised = record {

@@ -1,6 +1,7 @@
 -- When some events of a small table are allowed, and facts of all its nodes by a test that is computed.
-use Rattle.std.proofs.Common.{◌≡◌, ℕ, zero, suc, ◌+◌, ◌<◌, ◌≤◌, ◌⊎◌, ◌^◌, Bool, true, false, true≢false, not, ◌&&◌, ◌||◌, ◌==◌, List, [], ◌∷◌, refl, sym, ap, ◌∙◌, subst, arith, inl, inr, ⊎_elim, lit<, append-nil, ne_eqb}
-use Rattle.std.specs.List.{list_any}
+use Rattle.std.proofs.Common.{◌≡◌, ◌≢◌, ℕ, zero, suc, ◌+◌, ◌<◌, ◌≤◌, ◌⊎◌, ◌^◌, Bool, true, false, true≢false, not, ◌&&◌, ◌||◌, ◌==◌, List, [], ◌∷◌, refl, sym, ap, ◌∙◌, subst, arith, inl, inr, ⊎_elim, lit<, append-nil, eq-eqb, ne_eqb, drop}
+use Rattle.std.specs.Prelude.{slice_get, Some}
+use Rattle.std.specs.List.{list_all, list_any}
 use mathlib.Core.Logic.{dite}
 use native.Mathlib.Decide.{ℕ_discrete}
 use Rattle.packed_link.specs.Link.{mark_of, tag_of}
@@ -16,7 +17,7 @@ use Rattle.core_journal.specs.Reuse.{pass_in}
 use Rattle.core_journal.specs.TwoHands.{fills, withdraws}
 use Rattle.core_journal.specs.Worked.{small}
 use Rattle.core_rule.specs.Counts.{moves, made, most_moves}
-use Rattle.core_rule.specs.Kept.{Allowed}
+use Rattle.core_rule.specs.Kept.{Allowed, IsQuiet}
 use Rattle.core_rule.specs.Moments.{clock_in}
 use Rattle.core_rule.specs.Nodes.{node_in, IsFreshWith, IsFrozenToEnd}
 use Rattle.core_rule.specs.TwoLives.{moves_epoch}
@@ -137,3 +138,25 @@ on_none past y h x t on = absurd (true≢false (sym on ∙ false_not (list_any (
 pub on_one : (past : List Event) (y : ℕ) → IsFrozenToEnd small past 0 → all_below 7 (λ x. off past y (suc x)) ≡ true → (x : ℕ) → x < 8 → list_any (λ z. z == y) ((state small past).edges x) ≡ true → IsFrozenToEnd small past x
 on_one past y closed h zero t on = closed
 on_one past y closed h (suc n) t on = absurd (true≢false (sym on ∙ false_not (list_any (λ z. z == y) ((state small past).edges (suc n))) (below 7 (λ x. off past y (suc x)) h n (omega (arith, t)))))
+
+-- no event of a list passes a test
+pub none_such : (test : Event → Bool) (xs : List Event) → list_all (λ e. not (test e)) xs ≡ true → (k : ℕ) (e : Event) → slice_get xs k ≡ Some e → test e ≡ true → ⊥
+none_such test [] h k e at is = absurd (cc)
+none_such test (x ∷ xs) h k e at is =
+    let rest : list_all (λ e. not (test e)) xs ≡ true → (j : ℕ) → slice_get xs j ≡ Some e → ⊥ = λ g j found. none_such test xs g j e found is in
+    by (test x) refl h k at rest
+  where
+    by : (b : Bool) → test x ≡ b → (not b && list_all (λ e. not (test e)) xs) ≡ true → (k : ℕ) → slice_get (x ∷ xs) k ≡ Some e → (list_all (λ e. not (test e)) xs ≡ true → (j : ℕ) → slice_get xs j ≡ Some e → ⊥) → ⊥
+    by true t g k at rest = true≢false (sym g)
+    by false t g zero at rest = let same : x ≡ e = cc in true≢false (sym is ∙ (ap test (sym same) ∙ t))
+    by false t g (suc j) at rest = rest g j at
+
+-- no event of a caller stands at or after a length
+pub quiet_from : (caller last : ℕ) (xs : List Event) → list_all (λ e. not (e.caller == caller)) (drop last xs) ≡ true → IsQuiet xs caller last
+quiet_from caller last xs h = record { none = none last xs h }
+  where
+    none : (last : ℕ) (xs : List Event) → list_all (λ e. not (e.caller == caller)) (drop last xs) ≡ true → (k : ℕ) (e : Event) → last ≤ k → slice_get xs k ≡ Some e → e.caller ≢ caller
+    none zero xs h k e late at = λ is. none_such (λ e. e.caller == caller) xs h k e at (eq-eqb e.caller caller is)
+    none (suc n) [] h k e late at = absurd (cc)
+    none (suc n) (x ∷ xs) h zero e late at = absurd (omega (arith, late))
+    none (suc n) (x ∷ xs) h (suc k) e late at = none n xs h k e (omega (arith, late)) at

@@ -21,4 +21,5 @@ pub mod Raised
 pub mod Walks
 pub mod TwoLives
 pub mod Refused
+pub mod Beside
 pub mod KnownSteps

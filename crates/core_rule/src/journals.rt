@@ -14,8 +14,9 @@ ghost use Rattle.core_journal.specs.FirstVertex.{eight_events, tiny};
 ghost use Rattle.core_journal.specs.Machine.{machine};
 ghost use Rattle.core_journal.specs.Reuse.{ReusesSafely};
 ghost use Rattle.core_journal.specs.State.{state};
-ghost use Rattle.core_journal.specs.TwoHands.{takes};
+ghost use Rattle.core_journal.specs.TwoHands.{hands_journal, takes};
 ghost use Rattle.core_journal.specs.Worked.{small};
+ghost use Rattle.core_rule.specs.Beside.{beside_others};
 ghost use Rattle.core_rule.specs.Kept.{Allowed, IsKept};
 ghost use Rattle.core_rule.specs.Nodes.{node_in};
 ghost use Rattle.core_rule.specs.Refused.{IsRefused, closed, early, holding, lagging, unclosed, unraised};
@@ -58,6 +59,17 @@ pub fn a_node_has_two_lives()
     ensures free_list { (state small two_lives).free ≡ 3 ∷ 4 ∷ 5 ∷ 6 ∷ 7 ∷ [] }
     ensures words { machine small two_lives ≡ lives_words }
     ensures reuse { ReusesSafely small two_lives }
+{}
+
+/// The worked journal of two callers at once is kept: one links an edge to a vertex that the other removes meanwhile.
+pub fn an_overtaken_edge_is_linked()
+    ensures { IsKept small hands_journal }
+{}
+
+/// A worked journal is kept in which nodes are linked in front of others and behind others, an edge is unlinked behind another
+/// one, and a list of two edges is closed edge by edge.
+pub fn nodes_are_linked_beside_others()
+    ensures { IsKept small beside_others }
 {}
 
 /// Six events that are refused behind kept journals. A second node is taken while one is held; an edge is marked without a

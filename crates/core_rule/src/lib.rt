@@ -24,11 +24,13 @@ pub use buckets::{
 pub use effects::{each_kind_has_its_effect, kept_journals_are_regular};
 pub use graph::{edges_have_ends, links_are_new};
 pub use journals::{
-    a_node_has_two_lives, a_vertex_is_added, kept_journals_grow, wrong_events_are_refused,
+    a_node_has_two_lives, a_vertex_is_added, an_overtaken_edge_is_linked, kept_journals_grow,
+    nodes_are_linked_beside_others, wrong_events_are_refused,
 };
 pub use lifts::{
-    a_token_may_make_each_step, steps_on_closed_lists_are_allowed, steps_on_edges_are_allowed,
-    steps_on_free_nodes_are_allowed, steps_on_passes_are_allowed, steps_on_vertices_are_allowed,
+    a_token_may_lag_behind, a_token_may_make_each_step, a_token_may_step_beside_others,
+    steps_on_closed_lists_are_allowed, steps_on_edges_are_allowed, steps_on_free_nodes_are_allowed,
+    steps_on_passes_are_allowed, steps_on_vertices_are_allowed,
 };
 pub use lists::{
     a_closed_list_is_a_list, a_present_edge_is_on_its_list, closed_lists_stay,
