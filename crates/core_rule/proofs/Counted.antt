@@ -246,7 +246,7 @@ counter_rises sizes z x front journal p kept fresh tag =
     (holds_onward sizes P (no_less_step sizes z x (node_in sizes front x).tag (word_at sizes front (third_at sizes x))) front journal p kept record { low = omega arith; fresh = λ _. fresh; no_less = λ _. omega arith }).no_less tag
 
 -- what a pass has met isn't stored for the free list
-unstored_met : (sizes : Sizes) → IsLayout sizes → (journal : List Event) → IsKept sizes journal → (caller x : ℕ) → x < sizes.nodes → IsMet sizes journal caller x → (node_in sizes journal x).stored ≡ false
+pub unstored_met : (sizes : Sizes) → IsLayout sizes → (journal : List Event) → IsKept sizes journal → (caller x : ℕ) → x < sizes.nodes → IsMet sizes journal caller x → (node_in sizes journal x).stored ≡ false
 unstored_met sizes z journal kept caller x there m = by (node_in sizes journal x).mode refl
   where
     by : (k : Mode) → (node_in sizes journal x).mode ≡ k → (node_in sizes journal x).stored ≡ false

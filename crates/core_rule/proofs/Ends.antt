@@ -29,7 +29,7 @@ pub vertex_key : (sizes : Sizes) → IsLayout sizes → (past : List Event) → 
 vertex_key sizes z past kept x v = ap (key_of past) (life_is x x.index (node_in sizes past x.index).tag refl v.life) ∙ ((named sizes z past kept).each x.index v.there).vertex_key v.used v.vertex
 
 -- the two ends of an edge that is linked next
-end_keys : (sizes : Sizes) → IsLayout sizes → (past : List Event) (e : Event) → IsKept sizes past → (k : Kind) → links_edge k ≡ true → AllowedAs k sizes past e → (key_of past e.source ≢ None) × (key_of past e.target ≡ Some e.key)
+pub end_keys : (sizes : Sizes) → IsLayout sizes → (past : List Event) (e : Event) → IsKept sizes past → (k : Kind) → links_edge k ≡ true → AllowedAs k sizes past e → (key_of past e.source ≢ None) × (key_of past e.target ≡ Some e.key)
 end_keys sizes z past e kept LinkEdge is ok = (some_none _ _ (vertex_key sizes z past kept e.source ok.source), ok.target)
 end_keys sizes z past e kept _ is ok = absurd (cc)
 

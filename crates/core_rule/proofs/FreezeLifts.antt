@@ -108,7 +108,7 @@ module _ (sizes : Sizes) (z : IsLayout sizes) (caller last place x : ℕ) (sourc
     head_now = source_still.closed ∙ word.head
 
     -- the frozen word is the same, frozen and marked
-    record IsSameWord : Type 0 where
+    pub record IsSameWord : Type 0 where
       pub frozen : IsFrozenWord sizes journal source.index place
       pub same : word_at sizes journal place ≡ word_at sizes front place
       pub marked : mark_of (word_at sizes journal place) ≡ 1
@@ -116,7 +116,7 @@ module _ (sizes : Sizes) (z : IsLayout sizes) (caller last place x : ℕ) (sourc
       pub at_place : list_word sizes source.index at ≡ place
       pub on : IsOn (edge_chain sizes journal source.index) at
 
-    same_word : IsSameWord
+    pub same_word : IsSameWord
     same_word = ⊎_elim
         (λ (h : place ≡ second_at sizes source.index).
         let unfresh : (node_in sizes front source.index).mode ≢ Fresh = λ f. let t = spent.spent in absurd (cc) in
@@ -228,7 +228,7 @@ module _ (v : View) (z : IsLayout v.sizes) (journal : List Event) (r : Reaches v
   used_at : (source : Life) → KeepsList v.sizes v.front source.index → (y : ℕ) → is_listed (state v.sizes v.front) source.index y ≡ true → IsUsed (node_in v.sizes v.front y).mode
   used_at source list y on = (list.edges (life_in v.sizes v.front y) (edge_on v.sizes z v.front (kept_front v.sizes v.front journal r.front r.kept) source.index y on)).used
 
-  handed_at : (source : Life) → KeepsList v.sizes v.front source.index → IsSpentVertex v.sizes v.front v.number source.index → (y : ℕ) → is_frozen (state v.sizes v.front) source.index y ≡ true → IsSpentWith v.sizes v.front v.number y × (y < v.sizes.nodes)
+  pub handed_at : (source : Life) → KeepsList v.sizes v.front source.index → IsSpentVertex v.sizes v.front v.number source.index → (y : ℕ) → is_frozen (state v.sizes v.front) source.index y ≡ true → IsSpentWith v.sizes v.front v.number y × (y < v.sizes.nodes)
   handed_at source list spent y part =
       let old : IsKept v.sizes v.front = kept_front v.sizes v.front journal r.front r.kept in
       let on = part_listed (state v.sizes v.front).node (state v.sizes v.front).edges (state v.sizes v.front).frozen source.index y part in

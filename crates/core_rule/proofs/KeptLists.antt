@@ -1,5 +1,5 @@
 -- The list of a vertex that a caller spent stays one while others act.
-use Rattle.std.proofs.Common.{◌≡◌, ◌≢◌, ℕ, ◌<◌, ◌≤◌, true, false, List, [], ◌∷◌, ◌++◌, Option, Some, None, length, refl, sym, ap, ◌∙◌, subst}
+use Rattle.std.proofs.Common.{◌≡◌, ◌≢◌, Bool, ℕ, ◌<◌, ◌≤◌, true, false, List, [], ◌∷◌, ◌++◌, Option, Some, None, length, refl, sym, ap, ◌∙◌, subst}
 use Rattle.packed_link.specs.Layout.{Sizes, IsLayout}
 use Rattle.packed_link.specs.declared.link.Life.{Life}
 use Rattle.core_journal.specs.declared.event.Kind.{Kind}
@@ -12,7 +12,7 @@ use Rattle.core_journal.specs.State.{Linked, Spent, Node, State, put, handed, st
 use Rattle.core_journal.proofs.KeptLives.{link_more, unlinked_more}
 use Rattle.core_journal.proofs.Snoc.{same_is, link_skip, link_else}
 use Rattle.core_journal.proofs.States.{state-snoc}
-use Rattle.core_rule.specs.Kept.{AllowedAs, IsKept, IsQuiet}
+use Rattle.core_rule.specs.Kept.{Allowed, AllowedAs, IsKept, IsQuiet}
 use Rattle.core_rule.specs.Nodes.{node_in, IsUsed}
 use Rattle.core_rule.specs.Freezing.{IsSpentVertex}
 use Rattle.core_rule.specs.Chains.{life_in, IsEdgeOf, KeepsList}
@@ -35,7 +35,13 @@ record IsOwnList (sizes : Sizes) (caller x tag : ℕ) (journal : List Event) (s 
   pub life : (s.node x).tag ≡ tag
   pub edges : (l : Life) (link : Event) → link_of journal l ≡ Some link → link.source ≡ life_of x (s.node x) → unlinked journal l ≡ false → IsHeldIn s l
 
-module _ (sizes : Sizes) (z : IsLayout sizes) (past : List Event) (e : Event) (kept : IsKept sizes past) (caller x tag : ℕ) (c : IsOwnList sizes caller x tag past (state sizes past)) (other : e.caller ≢ caller) where
+-- a node is stored for the free list, or given back
+abbrev pub gives : Kind → Bool
+gives StoreFree = true
+gives PushFree = true
+gives _ = false
+
+module _ (sizes : Sizes) (z : IsLayout sizes) (past : List Event) (e : Event) (kept : IsKept sizes past) (caller x tag : ℕ) (c : IsOwnList sizes caller x tag past (state sizes past)) (other : gives e.kind ≡ true → e.caller ≢ caller) where
   as_keeps : KeepsList sizes past x
   as_keeps = record {
     there = c.there;
@@ -48,27 +54,27 @@ module _ (sizes : Sizes) (z : IsLayout sizes) (past : List Event) (e : Event) (k
   apart_mode : (i : ℕ) → (node_in sizes past i).mode ≢ Spent → x ≢ i
   apart_mode i ne same = ne (ap (λ (j : ℕ). (node_in sizes past j).mode) (sym same) ∙ c.spent)
 
-  apart_who : (i : ℕ) → (node_in sizes past i).who ≡ e.caller → x ≢ i
-  apart_who i mine same = other (sym mine ∙ (ap (λ (j : ℕ). (node_in sizes past j).who) (sym same) ∙ c.mine))
+  apart_who : gives e.kind ≡ true → (i : ℕ) → (node_in sizes past i).who ≡ e.caller → x ≢ i
+  apart_who given i mine same = other given (sym mine ∙ (ap (λ (j : ℕ). (node_in sizes past j).who) (sym same) ∙ c.mine))
 
   not_handed : (s : State) (v : ℕ) → ((y : ℕ) → s.edges y ≡ (state sizes past).edges y) → s.node x ≡ node_in sizes past x → (handed v s).node x ≡ node_in sizes past x
   not_handed s v lists is = handed_split (λ (n : Node). n ≡ node_in sizes past x) s v x (λ _. is)
       (λ at _. let b = ((listing sizes z past kept).on v x (subst (λ (l : List ℕ). stands x l ≡ true) (lists v) (part_listed s.node s.edges s.frozen v x at))).edge in let t = c.vertex in absurd (cc))
 
   -- so the vertex stays as it is
-  own_still : (k : Kind) → AllowedAs k sizes past e → (state_by k sizes e (state sizes past)).node x ≡ node_in sizes past x
-  own_still PopFree ok = put_other e.life.index _ (state sizes past).node x (apart_mode e.life.index (λ m. let f = (taken sizes z past e kept ok).free in absurd (cc)))
-  own_still LinkVertex ok = put_other e.life.index _ (state sizes past).node x (apart_mode e.life.index (λ m. let f = ok.fresh.fresh in absurd (cc)))
-  own_still LinkEdge ok = put_other e.life.index _ (state sizes past).node x (apart_mode e.life.index (λ m. let f = ok.fresh.fresh in absurd (cc)))
-  own_still MarkVertex ok = put_other e.life.index _ (state sizes past).node x (apart_mode e.life.index (λ m. let f = ok.linked.linked in absurd (cc)))
-  own_still UnlinkVertex ok = put_other e.life.index _ (state sizes past).node x (apart_mode e.life.index (λ m. let f = ok.linked.linked in absurd (cc)))
-  own_still UnlinkEdge ok = put_other e.life.index _ (state sizes past).node x (apart_mode e.life.index (λ m. let f = ok.linked.linked in absurd (cc)))
-  own_still StoreFree ok = put_other e.life.index _ (state sizes past).node x (apart_who e.life.index ok.ripe.mine)
-  own_still PushFree ok = put_other e.life.index _ (state sizes past).node x (apart_who e.life.index ok.ripe.mine)
-  own_still MarkEdge ok = not_handed (marked_state (state sizes past) e.life.index) (node_in sizes past e.life.index).source.index (λ _. refl) (put_other e.life.index _ (state sizes past).node x (apart_mode e.life.index (λ m. let f = ok.linked.linked in absurd (cc))))
-  own_still FreezeEdge ok = not_handed (marked_state (state sizes past) e.life.index) (node_in sizes past e.life.index).source.index (λ _. refl) (put_other e.life.index _ (state sizes past).node x (apart_mode e.life.index (λ m. let f = ok.linked.linked in absurd (cc))))
-  own_still FreezeHead ok = not_handed (closed_state (state sizes past) e.life.index) e.life.index (λ _. refl) refl
-  own_still _ ok = refl
+  own_still : (k : Kind) → e.kind ≡ k → AllowedAs k sizes past e → (state_by k sizes e (state sizes past)).node x ≡ node_in sizes past x
+  own_still PopFree is ok = put_other e.life.index _ (state sizes past).node x (apart_mode e.life.index (λ m. let f = (taken sizes z past e kept ok).free in absurd (cc)))
+  own_still LinkVertex is ok = put_other e.life.index _ (state sizes past).node x (apart_mode e.life.index (λ m. let f = ok.fresh.fresh in absurd (cc)))
+  own_still LinkEdge is ok = put_other e.life.index _ (state sizes past).node x (apart_mode e.life.index (λ m. let f = ok.fresh.fresh in absurd (cc)))
+  own_still MarkVertex is ok = put_other e.life.index _ (state sizes past).node x (apart_mode e.life.index (λ m. let f = ok.linked.linked in absurd (cc)))
+  own_still UnlinkVertex is ok = put_other e.life.index _ (state sizes past).node x (apart_mode e.life.index (λ m. let f = ok.linked.linked in absurd (cc)))
+  own_still UnlinkEdge is ok = put_other e.life.index _ (state sizes past).node x (apart_mode e.life.index (λ m. let f = ok.linked.linked in absurd (cc)))
+  own_still StoreFree is ok = put_other e.life.index _ (state sizes past).node x (apart_who (ap gives is) e.life.index ok.ripe.mine)
+  own_still PushFree is ok = put_other e.life.index _ (state sizes past).node x (apart_who (ap gives is) e.life.index ok.ripe.mine)
+  own_still MarkEdge is ok = not_handed (marked_state (state sizes past) e.life.index) (node_in sizes past e.life.index).source.index (λ _. refl) (put_other e.life.index _ (state sizes past).node x (apart_mode e.life.index (λ m. let f = ok.linked.linked in absurd (cc))))
+  own_still FreezeEdge is ok = not_handed (marked_state (state sizes past) e.life.index) (node_in sizes past e.life.index).source.index (λ _. refl) (put_other e.life.index _ (state sizes past).node x (apart_mode e.life.index (λ m. let f = ok.linked.linked in absurd (cc))))
+  own_still FreezeHead is ok = not_handed (closed_state (state sizes past) e.life.index) e.life.index (λ _. refl) refl
+  own_still _ is ok = refl
 
   module _ (l : Life) (h : IsHeldIn (state sizes past) l) (on : stands l.index ((state sizes past).edges x) ≡ true) where
     put_held : (i : ℕ) (v : Node) → (l.index ≡ i → (v.tag ≡ (node_in sizes past i).tag) × IsUsed v.mode × (v.stored ≡ (node_in sizes past i).stored)) → (s' : State) → s'.node l.index ≡ put i v (state sizes past).node l.index → IsHeldIn s' l
@@ -84,28 +90,28 @@ module _ (sizes : Sizes) (z : IsLayout sizes) (past : List Event) (e : Event) (k
         record { life = q.0; used = q.1; unstored = q.2 }
 
     -- an edge of the list that's spent is the caller's
-    held_mine : (i : ℕ) → (node_in sizes past i).mode ≡ Spent → (node_in sizes past i).who ≡ e.caller → l.index ≢ i
-    held_mine i m mine same =
+    held_mine : gives e.kind ≡ true → (i : ℕ) → (node_in sizes past i).mode ≡ Spent → (node_in sizes past i).who ≡ e.caller → l.index ≢ i
+    held_mine given i m mine same =
         let is : (node_in sizes past l.index).mode ≡ Spent = ap (λ (j : ℕ). (node_in sizes past j).mode) same ∙ m in
         let who = ((spenders sizes z past kept).edge x l.index (subst IsUsed (sym c.spent) tt) c.vertex on is).1 in
-        other (sym mine ∙ (ap (λ (j : ℕ). (node_in sizes past j).who) (sym same) ∙ (who ∙ c.mine)))
+        other given (sym mine ∙ (ap (λ (j : ℕ). (node_in sizes past j).who) (sym same) ∙ (who ∙ c.mine)))
 
     not_used : (i : ℕ) → (IsUsed (node_in sizes past i).mode → ⊥) → l.index ≢ i
     not_used i none same = none (subst (λ (j : ℕ). IsUsed (node_in sizes past j).mode) same h.used)
 
-    held_after : (k : Kind) → AllowedAs k sizes past e → IsHeldIn (state_by k sizes e (state sizes past)) l
-    held_after PopFree ok = put_held e.life.index _ (λ same. absurd (not_used e.life.index (λ u. subst IsUsed (taken sizes z past e kept ok).free u) same)) (state_by PopFree sizes e (state sizes past)) refl
-    held_after LinkVertex ok = put_held e.life.index _ (λ same. absurd (not_used e.life.index (λ u. subst IsUsed ok.fresh.fresh u) same)) (state_by LinkVertex sizes e (state sizes past)) refl
-    held_after LinkEdge ok = put_held e.life.index _ (λ same. absurd (not_used e.life.index (λ u. subst IsUsed ok.fresh.fresh u) same)) (state_by LinkEdge sizes e (state sizes past)) refl
-    held_after MarkVertex ok = put_held e.life.index _ (λ same. (refl, subst IsUsed (sym ok.linked.linked) tt, refl)) (state_by MarkVertex sizes e (state sizes past)) refl
-    held_after UnlinkVertex ok = put_held e.life.index _ (λ same. (refl, tt, refl)) (state_by UnlinkVertex sizes e (state sizes past)) refl
-    held_after UnlinkEdge ok = put_held e.life.index _ (λ same. (refl, tt, refl)) (state_by UnlinkEdge sizes e (state sizes past)) refl
-    held_after StoreFree ok = put_held e.life.index _ (λ same. absurd (held_mine e.life.index ok.ripe.spent ok.ripe.mine same)) (state_by StoreFree sizes e (state sizes past)) refl
-    held_after PushFree ok = put_held e.life.index _ (λ same. absurd (held_mine e.life.index ok.ripe.spent ok.ripe.mine same)) (state_by PushFree sizes e (state sizes past)) refl
-    held_after MarkEdge ok = handed_held (marked_state (state sizes past) e.life.index) (node_in sizes past e.life.index).source.index (put_held e.life.index _ (λ same. (refl, subst IsUsed (sym ok.linked.linked) tt, refl)) (marked_state (state sizes past) e.life.index) refl)
-    held_after FreezeEdge ok = handed_held (marked_state (state sizes past) e.life.index) (node_in sizes past e.life.index).source.index (put_held e.life.index _ (λ same. (refl, subst IsUsed (sym ok.linked.linked) tt, refl)) (marked_state (state sizes past) e.life.index) refl)
-    held_after FreezeHead ok = handed_held (closed_state (state sizes past) e.life.index) e.life.index record { life = h.life; used = h.used; unstored = h.unstored }
-    held_after _ ok = record { life = h.life; used = h.used; unstored = h.unstored }
+    held_after : (k : Kind) → e.kind ≡ k → AllowedAs k sizes past e → IsHeldIn (state_by k sizes e (state sizes past)) l
+    held_after PopFree is ok = put_held e.life.index _ (λ same. absurd (not_used e.life.index (λ u. subst IsUsed (taken sizes z past e kept ok).free u) same)) (state_by PopFree sizes e (state sizes past)) refl
+    held_after LinkVertex is ok = put_held e.life.index _ (λ same. absurd (not_used e.life.index (λ u. subst IsUsed ok.fresh.fresh u) same)) (state_by LinkVertex sizes e (state sizes past)) refl
+    held_after LinkEdge is ok = put_held e.life.index _ (λ same. absurd (not_used e.life.index (λ u. subst IsUsed ok.fresh.fresh u) same)) (state_by LinkEdge sizes e (state sizes past)) refl
+    held_after MarkVertex is ok = put_held e.life.index _ (λ same. (refl, subst IsUsed (sym ok.linked.linked) tt, refl)) (state_by MarkVertex sizes e (state sizes past)) refl
+    held_after UnlinkVertex is ok = put_held e.life.index _ (λ same. (refl, tt, refl)) (state_by UnlinkVertex sizes e (state sizes past)) refl
+    held_after UnlinkEdge is ok = put_held e.life.index _ (λ same. (refl, tt, refl)) (state_by UnlinkEdge sizes e (state sizes past)) refl
+    held_after StoreFree is ok = put_held e.life.index _ (λ same. absurd (held_mine (ap gives is) e.life.index ok.ripe.spent ok.ripe.mine same)) (state_by StoreFree sizes e (state sizes past)) refl
+    held_after PushFree is ok = put_held e.life.index _ (λ same. absurd (held_mine (ap gives is) e.life.index ok.ripe.spent ok.ripe.mine same)) (state_by PushFree sizes e (state sizes past)) refl
+    held_after MarkEdge is ok = handed_held (marked_state (state sizes past) e.life.index) (node_in sizes past e.life.index).source.index (put_held e.life.index _ (λ same. (refl, subst IsUsed (sym ok.linked.linked) tt, refl)) (marked_state (state sizes past) e.life.index) refl)
+    held_after FreezeEdge is ok = handed_held (marked_state (state sizes past) e.life.index) (node_in sizes past e.life.index).source.index (put_held e.life.index _ (λ same. (refl, subst IsUsed (sym ok.linked.linked) tt, refl)) (marked_state (state sizes past) e.life.index) refl)
+    held_after FreezeHead is ok = handed_held (closed_state (state sizes past) e.life.index) e.life.index record { life = h.life; used = h.used; unstored = h.unstored }
+    held_after _ is ok = record { life = h.life; used = h.used; unstored = h.unstored }
 
   -- an edge that is linked next is held
   new_held : (k : Kind) → links_edge k ≡ true → AllowedAs k sizes past e → IsHeldIn (state_by k sizes e (state sizes past)) e.life
@@ -133,7 +139,7 @@ module _ (sizes : Sizes) (z : IsLayout sizes) (past : List Event) (e : Event) (k
           let same : d ≡ link = value d link (sym (link_more past (e ∷ []) l d q) ∙ h) in
           let f : IsEdgeOf past (life_in sizes past x) l = record { link = d; is = q; from = ap (λ (y : Event). y.source) same ∙ from; stays = was } in
           let i = (kept_lives sizes z past kept x as_keeps l).1 f in
-          held_after l (c.edges l d q f.from was) i.on k ok
+          held_after l (c.edges l d q f.from was) i.on k is ok
       by None q = value_of (IsHeldIn (state_by k sizes e (state sizes past)) l) (same_life l e.life)
           (λ one. value_of (IsHeldIn (state_by k sizes e (state sizes past)) l) (links_edge k)
           (λ links. subst (IsHeldIn (state_by k sizes e (state sizes past))) (sym (same_is l e.life one)) (new_held k links ok))
@@ -142,7 +148,7 @@ module _ (sizes : Sizes) (z : IsLayout sizes) (past : List Event) (e : Event) (k
 
   own_step : (k : Kind) → e.kind ≡ k → AllowedAs k sizes past e → IsOwnList sizes caller x tag (past ++ e ∷ []) (state_by k sizes e (state sizes past))
   own_step k is ok =
-      let same = own_still k ok in record {
+      let same = own_still k is ok in record {
         there = c.there;
         spent = ap (λ (n : Node). n.mode) same ∙ c.spent;
         vertex = ap (λ (n : Node). n.vertex) same ∙ c.vertex;
@@ -157,7 +163,7 @@ pub own_list_stays : (sizes : Sizes) → IsLayout sizes → (caller last x : ℕ
 own_list_stays sizes z caller last x front journal p kept quiet old spent k =
     let P : List Event → Type 0 = λ j. IsOwnList sizes caller x (node_in sizes front x).tag j (state sizes j) in
     let end : P journal = kept_beyond sizes P caller last
-    (λ past e before c other ok. subst (IsOwnList sizes caller x (node_in sizes front x).tag (past ++ e ∷ [])) (sym (state-snoc sizes past e)) (own_step sizes z past e before caller x (node_in sizes front x).tag c other e.kind refl ok.as_kind))
+    (λ past e before c other ok. subst (IsOwnList sizes caller x (node_in sizes front x).tag (past ++ e ∷ [])) (sym (state-snoc sizes past e)) (own_step sizes z past e before caller x (node_in sizes front x).tag c (λ _. other) e.kind refl ok.as_kind))
     front journal p kept quiet old record {
       there = k.there;
       spent = spent.spent;
@@ -175,3 +181,30 @@ own_list_stays sizes z caller last x front journal p kept quiet old spent k =
       },
       end.life,
     )
+
+-- and while the caller stores no node for the free list and gives none back
+pub own_list_steps : (sizes : Sizes) → IsLayout sizes → (past : List Event) (e : Event) (caller x : ℕ) → IsKept sizes past → Allowed sizes past e → e.kind ≢ StoreFree → e.kind ≢ PushFree → IsSpentVertex sizes past caller x → KeepsList sizes past x
+    → IsSpentVertex sizes (past ++ e ∷ []) caller x × KeepsList sizes (past ++ e ∷ []) x
+own_list_steps sizes z past e caller x kept ok unstored unpushed spent k =
+    let end : IsOwnList sizes caller x (node_in sizes past x).tag (past ++ e ∷ []) (state sizes (past ++ e ∷ [])) =
+    subst (IsOwnList sizes caller x (node_in sizes past x).tag (past ++ e ∷ [])) (sym (state-snoc sizes past e)) (own_step sizes z past e kept caller x (node_in sizes past x).tag record {
+      there = k.there;
+      spent = spent.spent;
+      vertex = spent.vertex;
+      mine = spent.mine;
+      life = refl;
+      edges = λ l link is from stays. let d = k.edges l record { link = link; is = is; from = from; stays = stays } in record { life = d.life; used = d.used; unstored = d.unstored };
+    } (none e.kind refl) e.kind refl ok.as_kind) in (
+      record { spent = end.spent; vertex = end.vertex; mine = end.mine },
+      record {
+        there = end.there;
+        used = subst IsUsed (sym end.spent) tt;
+        vertex = end.vertex;
+        edges = λ y f. let h = end.edges y f.link f.is f.from f.stays in record { life = h.life; used = h.used; unstored = h.unstored };
+      },
+    )
+  where
+    none : (k : Kind) → e.kind ≡ k → gives k ≡ true → e.caller ≢ caller
+    none StoreFree is h = absurd (unstored is)
+    none PushFree is h = absurd (unpushed is)
+    none _ is h = absurd (cc)

@@ -66,3 +66,6 @@ pub mod KeptLists
 pub mod KnownSteps
 pub mod HandsKept
 pub mod Beside
+pub mod FrozenOn
+pub mod FoundFrozen
+pub mod EndsBefore

@@ -2,7 +2,8 @@
 //!
 //! core_journal says what each kind of event does to the graph where its premises hold (its `specs/Changes.antt`).
 
-ghost use Rattle.std.specs.Prelude.{◌≡◌, List};
+ghost use Rattle.std.specs.Prelude.{◌≡◌, ◌≢◌, ℕ, List, Some, None, slice_get, take};
+ghost use Rattle.core_journal.specs.Life.{key_of};
 ghost use Rattle.packed_link.specs.Layout.{IsLayout, Sizes};
 ghost use Rattle.core_journal.specs.Changes.{IsFrozenEdge, IsNewEdge, IsNewVertex};
 ghost use Rattle.core_journal.specs.declared.event.Event.{Event};
@@ -15,7 +16,10 @@ ghost use Rattle.core_rule.specs.Vertices.{IsLinkVertex};
 
 /// The source and the target of each edge were linked as vertices before it, the target with the edge's key.
 pub fn edges_have_ends()
-    ensures { (sizes : Sizes) → IsLayout sizes → (journal : List Event) → IsKept sizes journal → Ends journal }
+    ensures keys { (sizes : Sizes) → IsLayout sizes → (journal : List Event) → IsKept sizes journal → Ends journal }
+    ensures before { (sizes : Sizes) → IsLayout sizes → (journal : List Event) → IsKept sizes journal
+        → (k : ℕ) (link : Event) → slice_get journal k ≡ Some link → link.kind ≡ LinkEdge
+        → (key_of (take k journal) link.source ≢ None) × (key_of (take k journal) link.target ≡ Some link.key) }
 {}
 
 /// A vertex or an edge that is linked next is new, and the source of an edge that is frozen next is marked.

@@ -30,6 +30,7 @@ ghost use Rattle.core_rule.specs.OwnEvents.{link_vertex_event, store_free_event}
 ghost use Rattle.core_rule.specs.OwnEvents.{mark_edge_event, mark_vertex_event, move_event, pop_event, push_event};
 ghost use Rattle.core_rule.specs.OwnEvents.{raise_event, store_event, unlink_edge_event, unlink_vertex_event, withdraw_event};
 ghost use Rattle.core_rule.specs.Owes.{Reaches};
+ghost use Rattle.core_rule.specs.Standings.{IsSpentWith};
 ghost use Rattle.core_rule.specs.TwoLives.{two_lives};
 
 /// A node is taken where the word of the free list is the one seen; a word of a fresh node is stored; the link of a ripe node is
@@ -97,6 +98,9 @@ pub fn steps_on_closed_lists_are_allowed()
     ensures edge { (v : View) → IsLayout v.sizes → (source : Life) (place : ℕ) (x : Life) → MayFreezeEdge v source place x
         → (journal : List Event) → Reaches v journal → mark_of (word_at v.sizes journal (link_at v.sizes x.index)) ≡ 0
         → AllowedAs FreezeEdge v.sizes journal (freeze_edge_event v x (word_at v.sizes journal (link_at v.sizes x.index))) }
+    ensures found { (v : View) → IsLayout v.sizes → (source : Life) (place : ℕ) (x : Life) → MayFreezeEdge v source place x
+        → (journal : List Event) → Reaches v journal → mark_of (word_at v.sizes journal (link_at v.sizes x.index)) ≡ 1
+        → IsSpentWith v.sizes journal v.number x.index }
 {}
 
 /// None of these conditions is empty: for each there is an event of the worked journal with all kinds of events (`two_lives`

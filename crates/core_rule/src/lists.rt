@@ -4,7 +4,7 @@
 //! `specs/Chains.antt`). An edge joins the list of its source with its link and leaves it when it's unlinked; marked, or
 //! handed over with the frozen part, it's on it in between. Since keys rise strictly along a list, it has one edge a key.
 
-ghost use Rattle.std.specs.Prelude.{◌≡◌, ◌≢◌, ◌⊎◌, ◌↔◌, ℕ, ◌<◌, ◌≤◌, false, true, List, Some, length};
+ghost use Rattle.std.specs.Prelude.{◌≡◌, ◌≢◌, ◌⊎◌, ◌↔◌, ℕ, ◌<◌, ◌≤◌, false, true, List, [], ◌∷◌, ◌++◌, Some, length};
 ghost use Rattle.packed_link.specs.Link.{index_of, nowhere};
 ghost use Rattle.packed_link.specs.Layout.{IsLayout, Sizes};
 ghost use Rattle.packed_link.specs.declared.link.Life.{Life};
@@ -17,8 +17,9 @@ ghost use Rattle.core_journal.specs.State.{Fresh, Spent, state};
 ghost use Rattle.core_rule.specs.Chains.{EdgeLists, FrozenParts, HasList, IsAtSource, IsEdgeOf, IsInList, KeepsList};
 ghost use Rattle.core_rule.specs.Chains.{Sources, edge_chain, is_frozen, is_listed, life_in};
 ghost use Rattle.core_rule.specs.Freezing.{IsFrozenWord, IsSpentVertex};
-ghost use Rattle.core_rule.specs.Kept.{IsKept, IsQuiet};
-ghost use Rattle.core_rule.specs.Nodes.{IsFrozenToEnd, IsLinkedEdge, IsUsed, node_in};
+ghost use Rattle.core_rule.specs.Kept.{Allowed, IsKept, IsQuiet};
+ghost use Rattle.core_journal.specs.declared.event.Kind.TheVariants.{StoreFree, PushFree};
+ghost use Rattle.core_rule.specs.Nodes.{IsFrozenToEnd, IsLinkedEdge, IsLinkedVertex, IsUsed, node_in};
 
 /// From the second word of each vertex that has a list, link after link, one meets the edges of its list, each once, by
 /// strictly rising keys. They are the lives that were linked as edges of the vertex's life, and not unlinked.
@@ -28,6 +29,11 @@ pub fn lists_hold_their_edges()
     ensures lives { (sizes : Sizes) → IsLayout sizes → (journal : List Event) → IsKept sizes journal
         → (x : ℕ) → HasList sizes journal x → (l : Life)
         → IsInList sizes journal x l ↔ IsEdgeOf journal (life_in sizes journal x) l }
+    ensures linked { (sizes : Sizes) → IsLayout sizes → (journal : List Event) → IsKept sizes journal
+        → (x : ℕ) → x < sizes.nodes → IsLinkedVertex sizes journal x → HasList sizes journal x }
+    ensures on { (sizes : Sizes) → IsLayout sizes → (journal : List Event) → IsKept sizes journal
+        → (x y : ℕ) → is_listed (state sizes journal) x y ≡ true
+        → IsEdgeOf journal (life_in sizes journal x) (life_in sizes journal y) }
 {}
 
 /// The frozen part of a list holds exactly its edges that were handed over, and the others are linked. A frozen word leads
@@ -58,6 +64,17 @@ pub fn a_closed_list_is_a_list()
         → (x place : ℕ) → KeepsList sizes journal x → IsFrozenWord sizes journal x place
         → (index_of (word_at sizes journal place) ≡ nowhere)
         ⊎ (is_listed (state sizes journal) x (index_of (word_at sizes journal place)) ≡ true) }
+    ensures own { (sizes : Sizes) → IsLayout sizes → (past : List Event) (e : Event) (caller x : ℕ)
+        → IsKept sizes past → Allowed sizes past e → e.kind ≢ StoreFree → e.kind ≢ PushFree
+        → IsSpentVertex sizes past caller x → KeepsList sizes past x
+        → IsSpentVertex sizes (past ++ e ∷ []) caller x × KeepsList sizes (past ++ e ∷ []) x }
+    ensures next { (sizes : Sizes) → IsLayout sizes → (journal : List Event) → IsKept sizes journal
+        → (x place y : ℕ) → KeepsList sizes journal x → IsFrozenWord sizes journal x place
+        → index_of (word_at sizes journal place) ≡ y → y ≢ nowhere → (node_in sizes journal y).marked ≡ true
+        → is_frozen (state sizes journal) x y ≡ true }
+    ensures end { (sizes : Sizes) → IsLayout sizes → (journal : List Event) → IsKept sizes journal
+        → (x place : ℕ) → KeepsList sizes journal x → IsFrozenWord sizes journal x place
+        → index_of (word_at sizes journal place) ≡ nowhere → IsFrozenToEnd sizes journal x }
     ensures stays { (sizes : Sizes) → IsLayout sizes → (caller last x : ℕ) (front journal : List Event)
         → IsPrefix front journal → IsKept sizes journal → IsQuiet journal caller last → last ≤ length front
         → IsSpentVertex sizes front caller x → KeepsList sizes front x

@@ -1,7 +1,8 @@
 //! The laws of reuse: when a node is given again, in which state each node is, and what an open pass may rely on.
 
 ghost use Rattle.std.specs.Prelude.{◌≡◌, ℕ, ◌<◌, ◌≤◌, false, Contains, List, length};
-ghost use Rattle.packed_link.specs.Layout.{Sizes, IsLayout, key_at, second_at, third_at};
+ghost use Rattle.packed_link.specs.Layout.{Sizes, IsLayout, key_at, link_at, second_at, third_at};
+ghost use Rattle.packed_link.specs.Link.{mark_of};
 ghost use Rattle.core_journal.specs.declared.event.Event.{Event};
 ghost use Rattle.core_journal.specs.Prefix.{IsPrefix};
 ghost use Rattle.core_journal.specs.Machine.{word_at};
@@ -67,6 +68,12 @@ pub fn what_is_met_keeps_its_words()
         → (caller x : ℕ) → x < sizes.nodes → IsSamePass sizes front journal caller → IsMet sizes front caller x
         → (node_in sizes front x).vertex ≡ false
         → word_at sizes journal (third_at sizes x) ≡ word_at sizes front (third_at sizes x) }
+    ensures unstored { (sizes : Sizes) → IsLayout sizes → (journal : List Event) → IsKept sizes journal
+        → (caller x : ℕ) → x < sizes.nodes → IsMet sizes journal caller x → (node_in sizes journal x).stored ≡ false }
+    ensures link { (sizes : Sizes) → IsLayout sizes → (front journal : List Event) → IsKept sizes journal
+        → (caller x : ℕ) → x < sizes.nodes → IsSamePass sizes front journal caller → IsMet sizes front caller x
+        → mark_of (word_at sizes front (link_at sizes x)) ≡ 1
+        → word_at sizes journal (link_at sizes x) ≡ word_at sizes front (link_at sizes x) }
     ensures source { (sizes : Sizes) → IsLayout sizes → (front journal : List Event) → IsKept sizes journal
         → (caller x : ℕ) → IsSamePass sizes front journal caller → IsMet sizes front caller x
         → (node_in sizes journal x).source ≡ (node_in sizes front x).source }

@@ -1,5 +1,6 @@
 use Rattle.core_rule.proofs.ClosedLists.{kept_met, kept_lives, kept_leads, has_keeps}
-use Rattle.core_rule.proofs.KeptLists.{own_list_stays}
+use Rattle.core_rule.proofs.FrozenOn.{frozen_next, frozen_finished}
+use Rattle.core_rule.proofs.KeptLists.{own_list_stays, own_list_steps}
 use Rattle.core_rule.proofs.lists.a_closed_list_is_a_list.Goals as goal
 
 pub returns-clause-list : goal.returns-clause-list
@@ -16,3 +17,12 @@ returns-clause-leads c = λ sizes z journal kept x place k f. kept_leads sizes z
 
 pub returns-clause-stays : goal.returns-clause-stays
 returns-clause-stays c = λ sizes z caller last x front journal p kept quiet old spent k. own_list_stays sizes z caller last x front journal p kept quiet old spent k
+
+pub returns-clause-next : goal.returns-clause-next
+returns-clause-next c = λ sizes z journal kept x place y k f leads some t. frozen_next sizes z journal kept x place k f y leads some t
+
+pub returns-clause-end : goal.returns-clause-end
+returns-clause-end c = λ sizes z journal kept x place k f none. frozen_finished sizes z journal kept x place k f none
+
+pub returns-clause-own : goal.returns-clause-own
+returns-clause-own c = λ sizes z past e caller x kept ok unstored unpushed spent k. own_list_steps sizes z past e caller x kept ok unstored unpushed spent k

@@ -1,3 +1,5 @@
+use Rattle.core_rule.proofs.Counted.{unstored_met}
+use Rattle.core_rule.proofs.MarkedWords.{marked_link_stays}
 use Rattle.core_rule.proofs.MetWords.{still_met, key_stays, edge_stays}
 use Rattle.core_rule.proofs.reuse.what_is_met_keeps_its_words.Goals as goal
 
@@ -21,3 +23,11 @@ returns-clause-weight c = λ sizes z front journal kept caller x there p m edge.
 
 pub returns-clause-source : goal.returns-clause-source
 returns-clause-source c = λ sizes z front journal kept caller x p m. (still_met sizes z front journal kept caller x p m).1.source
+
+pub returns-clause-unstored : goal.returns-clause-unstored
+returns-clause-unstored c = λ sizes z journal kept caller x there m. unstored_met sizes z journal kept caller x there m
+
+pub returns-clause-link : goal.returns-clause-link
+returns-clause-link c = λ sizes z front journal kept caller x there p m marked.
+    let s = still_met sizes z front journal kept caller x p m in
+    marked_link_stays sizes z x front journal p.before kept m.fresh marked s.1.tag (unstored_met sizes z journal kept caller x there s.0)
