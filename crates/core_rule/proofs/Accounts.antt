@@ -7,7 +7,7 @@ use Rattle.core_journal.specs.State.{Mode, Free, Fresh, Linked, Spent, state}
 use Rattle.core_rule.specs.Free.{is_free}
 use Rattle.core_rule.specs.Kept.{IsKept}
 use Rattle.core_rule.specs.Nodes.{node_in}
-use Rattle.core_rule.specs.Standings.{Standing, OnFreeList, FreshWith, InGraph, SpentBy, StandsAs}
+use Rattle.core_rule.specs.Standings.{Standing, OnFreeList, FreshWith, OnChain, SpentBy, StandsAs}
 use Rattle.core_rule.proofs.FreeList.{free_is, free_list}
 use Rattle.core_rule.proofs.LinkWords.{link_words}
 
@@ -18,13 +18,13 @@ some_standing sizes z journal kept x t = by (node_in sizes journal x).mode refl
     by : (m : Mode) → (node_in sizes journal x).mode ≡ m → (standing : Standing) × StandsAs sizes journal x standing
     by Free is = (OnFreeList, record { mode = is; listed = (free_list sizes z journal kept).all x t (ap is_free is); link = ((link_words sizes z journal kept).each x t).free is })
     by Fresh is = (FreshWith (node_in sizes journal x).who, record { mode = is; with = refl; link = ((link_words sizes z journal kept).each x t).fresh is })
-    by Linked is = (InGraph, record { mode = is; link = ((link_words sizes z journal kept).each x t).linked is })
+    by Linked is = (OnChain, record { mode = is; link = ((link_words sizes z journal kept).each x t).linked is })
     by Spent is = (SpentBy (node_in sizes journal x).who, record { mode = is; by = refl; link = ((link_words sizes z journal kept).each x t).spent is })
 
 -- and no other
 pub one_standing : (sizes : Sizes) (journal : List Event) (x : ℕ) (a b : Standing) → StandsAs sizes journal x a → StandsAs sizes journal x b → a ≡ b
 one_standing sizes journal x OnFreeList OnFreeList p q = refl
-one_standing sizes journal x InGraph InGraph p q = refl
+one_standing sizes journal x OnChain OnChain p q = refl
 one_standing sizes journal x (FreshWith i) (FreshWith j) p q = ap FreshWith (sym p.with ∙ q.with)
 one_standing sizes journal x (SpentBy i) (SpentBy j) p q = ap SpentBy (sym p.by ∙ q.by)
 one_standing sizes journal x a b p q = let m = sym p.mode ∙ q.mode in absurd (cc)

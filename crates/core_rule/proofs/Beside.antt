@@ -128,7 +128,6 @@ kept_41 = next 40 kept_40 (record {
     fresh = record { fresh = refl; mine = refl };
     filled = record { key_word = refl; key_fits = lit< tt; link_word = refl; second_word = refl; third_word = refl; some = lit≤ tt; weight_fits = lit< tt };
     target = refl;
-    target_there = lit< tt;
     pass = refl;
   };
 })
@@ -249,7 +248,6 @@ kept_54 = next 53 kept_53 (record {
     fresh = record { fresh = refl; mine = refl };
     filled = record { key_word = refl; key_fits = lit< tt; link_word = refl; second_word = refl; third_word = refl; some = lit≤ tt; weight_fits = lit< tt };
     target = refl;
-    target_there = lit< tt;
     pass = refl;
   };
 })

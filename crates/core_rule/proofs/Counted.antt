@@ -92,7 +92,7 @@ pub allowed_at : (sizes : Sizes) (journal : List Event) (p : ℕ) (e : Event) �
 allowed_at sizes journal p e kept at = allowed_from sizes [] journal p e kept.steps at
 
 -- an edge that was linked has its event
-edge_event : (journal : List Event) (x : Life) (link : Event) → link_of journal x ≡ Some link → (k : ℕ) × (slice_get journal k ≡ Some link) × (links_edge link.kind ≡ true)
+pub edge_event : (journal : List Event) (x : Life) (link : Event) → link_of journal x ≡ Some link → (k : ℕ) × (slice_get journal k ≡ Some link) × (links_edge link.kind ≡ true)
 unfolding link_of
 edge_event journal x link h =
     let r = found_at (λ (e : Event). links_edge e.kind && same_life x e.life) journal link h in

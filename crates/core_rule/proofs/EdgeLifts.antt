@@ -93,7 +93,6 @@ module _ (v : View) (z : IsLayout v.sizes) (journal : List Event) (r : Reaches v
         fresh = still_fresh v journal x.index h m.fresh;
         filled = filled;
         target = end_key;
-        target_there = end.there;
         pass = pass;
       })
       (λ (b : (y : Life) × IsEdgeBelow v source key place y).
@@ -117,7 +116,6 @@ module _ (v : View) (z : IsLayout v.sizes) (journal : List Event) (r : Reaches v
         fresh = still_fresh v journal x.index h m.fresh;
         filled = filled;
         target = end_key;
-        target_there = end.there;
         pass = pass;
       })
       m.before

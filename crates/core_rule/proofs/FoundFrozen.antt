@@ -6,12 +6,11 @@ use Rattle.packed_link.specs.declared.link.Life.{Life}
 use Rattle.core_journal.specs.declared.event.Event.{Event}
 use Rattle.core_journal.specs.Machine.{word_at}
 use Rattle.core_journal.specs.State.{Mode, Free, Fresh, Linked, Spent, state}
-use Rattle.core_rule.specs.Nodes.{node_in, IsUsed, IsVertex}
+use Rattle.core_rule.specs.Nodes.{node_in, IsUsed, IsVertex, IsSpentWith}
 use Rattle.core_rule.specs.Chains.{is_listed, life_in}
 use Rattle.core_rule.specs.Fronts.{MayFreezeEdge}
 use Rattle.core_rule.specs.Kept.{IsKept}
 use Rattle.core_rule.specs.Owes.{Reaches}
-use Rattle.core_rule.specs.Standings.{IsSpentWith}
 use Rattle.core_rule.specs.declared.view.View.{View}
 use Rattle.core_rule.proofs.ClosedLists.{edge_on, kept_leads}
 use Rattle.core_rule.proofs.FreezeLifts.{same_word, handed_at}

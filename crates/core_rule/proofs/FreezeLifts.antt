@@ -14,8 +14,9 @@ use Rattle.core_journal.specs.Machine.{word_at}
 use Rattle.core_journal.specs.State.{Mode, Free, Fresh, Linked, Spent, Node as Nodes, State, put, handed, unlinked_from, state_by, state}
 use Rattle.core_journal.proofs.Lists.{prefix_trans, prefix_snoc, prefix_refl}
 use Rattle.core_journal.proofs.States.{state-snoc}
+use Rattle.core_rule.specs.Facts.{IsKeptSpent}
 use Rattle.core_rule.specs.Kept.{AllowedAs, IsKept, IsQuiet}
-use Rattle.core_rule.specs.Nodes.{node_in, IsUsed, IsVertex}
+use Rattle.core_rule.specs.Nodes.{node_in, IsUsed, IsVertex, IsSpentWith}
 use Rattle.core_rule.specs.Edges.{IsUnlinkEdge}
 use Rattle.core_rule.specs.FreeNodes.{IsPushFree, IsStoreFree}
 use Rattle.core_rule.specs.Freezing.{IsSpentVertex, IsFrozenWord, IsFreezeEdge}
@@ -23,7 +24,6 @@ use Rattle.core_rule.specs.Chains.{list_word, edge_chain, is_listed, is_frozen, 
 use Rattle.core_rule.specs.Fronts.{MayFreezeEdge, MayStoreFree}
 use Rattle.core_rule.specs.OwnEvents.{freeze_edge_event, store_free_event}
 use Rattle.core_rule.specs.Owes.{Reaches}
-use Rattle.core_rule.specs.Standings.{IsSpentWith, IsKeptSpent}
 use Rattle.core_rule.specs.declared.view.View.{View}
 use Rattle.core_rule.proofs.Called.{quiet_more, quiet_front}
 use Rattle.core_rule.proofs.ClosedLists.{edge_on, kept_leads}
@@ -71,9 +71,6 @@ abbrev IsIn : ℕ → Nodes → Type 0
 IsIn tag v = (v.tag ≡ tag) × IsUsed v.mode
 
 module _ (tag source x : ℕ) where
-  behind_by : (s : State) (node : ℕ → Nodes) (edges : ℕ → List ℕ) (s' : State) → IsIn tag (s'.node x) → is_listed s' source x ≡ true → IsBehind tag source x s'
-  behind_by s node edges s' i on = record { life = i.0; used = i.1; on = on }
-
   in_put : (s : State) (i : ℕ) (u : Nodes) → IsIn tag (s.node x) → (x ≡ i → IsIn tag (s.node i) → IsIn tag u) → IsIn tag (put i u s.node x)
   in_put s i u c new = put_case (λ (y : Nodes). IsIn tag y) i u s.node x (λ same. new same (subst (λ (y : ℕ). IsIn tag (s.node y)) same c)) (λ _. c)
 

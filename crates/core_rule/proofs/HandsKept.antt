@@ -111,7 +111,6 @@ kept_30 = next 29 kept_29 (record {
     fresh = record { fresh = refl; mine = refl };
     filled = record { key_word = refl; key_fits = lit< tt; link_word = refl; second_word = refl; third_word = refl; some = lit≤ tt; weight_fits = lit< tt };
     target = refl;
-    target_there = lit< tt;
     pass = refl;
   };
 })

@@ -10,7 +10,7 @@ use Rattle.core_journal.specs.Life.{key_of, link_of}
 use Rattle.core_journal.specs.Machine.{machine, word_at}
 use Rattle.core_journal.specs.State.{state}
 use Rattle.core_journal.specs.Worked.{small}
-use Rattle.core_rule.specs.Standings.{StandsAs, OnFreeList, FreshWith, InGraph, SpentBy}
+use Rattle.core_rule.specs.Standings.{StandsAs, OnFreeList, FreshWith, OnChain, SpentBy}
 use Rattle.core_rule.specs.TwoLives.{two_lives, with_edge, without_edge, with_other, without_source, two_keys, key_two, lives_words}
 
 pub small_layout : IsLayout small
@@ -59,7 +59,7 @@ pub fresh_again : StandsAs small two_lives 0 (FreshWith 0)
 unfolding machine word_at state
 fresh_again = record { mode = refl; with = refl; link = inl (refl, refl) }
 
-pub linked_still : StandsAs small two_lives 1 InGraph
+pub linked_still : StandsAs small two_lives 1 OnChain
 unfolding machine word_at state
 linked_still = record { mode = refl; link = record { life = refl; mark = refl } }
 

@@ -8,10 +8,9 @@ use Rattle.core_journal.specs.Reuse.{pass_in}
 use Rattle.core_journal.specs.State.{Mode, Free, Fresh, Linked, Spent, Node, State, state}
 use Rattle.core_journal.proofs.Lists.{prefix_snoc}
 use Rattle.core_journal.proofs.States.{state-nil}
-use Rattle.core_rule.specs.Facts.{IsMet}
+use Rattle.core_rule.specs.Facts.{IsMet, IsSamePass}
 use Rattle.core_rule.specs.Kept.{Allowed, IsKept}
 use Rattle.core_rule.specs.Nodes.{node_in, IsUsed, IsRipe}
-use Rattle.core_rule.specs.Standings.{IsSamePass}
 use Rattle.core_rule.specs.Walks.{LeadsTo, IsMetBehind, IsMetIn, IsMetFirst}
 use Rattle.core_rule.proofs.Induction.{kept_all, kept_snoc}
 use Rattle.core_rule.proofs.LeadsOn.{IsLinkedBehind, IsLinkedIn, IsLinkedFirst, leads_same, bucket_leads, head_leads}

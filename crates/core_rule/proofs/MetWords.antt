@@ -6,10 +6,9 @@ use Rattle.packed_link.specs.declared.link.Life.{Life}
 use Rattle.core_journal.specs.declared.event.Event.{Event}
 use Rattle.core_journal.specs.Machine.{word_at}
 use Rattle.core_journal.specs.State.{Mode, Free, Fresh, Linked, Spent}
-use Rattle.core_rule.specs.Facts.{IsMet}
+use Rattle.core_rule.specs.Facts.{IsMet, IsSamePass}
 use Rattle.core_rule.specs.Kept.{IsKept}
 use Rattle.core_rule.specs.Nodes.{node_in, IsUsed, IsRipe}
-use Rattle.core_rule.specs.Standings.{IsSamePass}
 use Rattle.core_rule.proofs.Contents.{contents}
 use Rattle.core_rule.proofs.Induction.{kept_front}
 use Rattle.core_rule.proofs.Ripe.{ripe_before}

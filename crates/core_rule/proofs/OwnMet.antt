@@ -9,8 +9,7 @@ use Rattle.core_journal.specs.State.{Mode, Free, Fresh, Linked, Spent, Pass}
 use Rattle.core_journal.specs.Reuse.{pass_in}
 use Rattle.core_rule.specs.Kept.{IsKept, IsQuiet}
 use Rattle.core_rule.specs.Nodes.{node_in, IsUsed}
-use Rattle.core_rule.specs.Facts.{IsMet}
-use Rattle.core_rule.specs.Standings.{IsSamePass}
+use Rattle.core_rule.specs.Facts.{IsMet, IsSamePass}
 use Rattle.core_rule.proofs.Contents.{contents}
 use Rattle.core_rule.proofs.LinkWords.{link_words}
 use Rattle.core_rule.proofs.MetWords.{met_used, still_met, key_stays}

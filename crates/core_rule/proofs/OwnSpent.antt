@@ -7,9 +7,9 @@ use Rattle.core_journal.specs.declared.event.Event.{Event}
 use Rattle.core_journal.specs.Prefix.{IsPrefix}
 use Rattle.core_journal.specs.State.{Mode, Free, Fresh, Linked, Spent, Node, State, handed, state_by, state}
 use Rattle.core_journal.proofs.States.{state-snoc}
+use Rattle.core_rule.specs.Facts.{IsKeptSpent}
 use Rattle.core_rule.specs.Kept.{Allowed, AllowedAs, IsKept, IsQuiet}
-use Rattle.core_rule.specs.Nodes.{node_in}
-use Rattle.core_rule.specs.Standings.{IsSpentWith, IsKeptSpent}
+use Rattle.core_rule.specs.Nodes.{node_in, IsSpentWith}
 use Rattle.core_rule.proofs.Induction.{kept_beyond}
 use Rattle.core_rule.proofs.Steps.{after_event, put_other, handed_case, marked_state, closed_state}
 use Rattle.core_rule.proofs.FreeList.{first_is_free}

@@ -1,32 +1,129 @@
 -- Each refused event breaks one part of its condition.
-use Rattle.std.proofs.Common.{◌≡◌, ℕ, ◌≤◌, true≢false, List, [], ◌∷◌, ◌++◌, take, get_or, refl, sym, ap, subst, arith, inl, inr, lit<, lit≤}
+use Rattle.std.proofs.Common.{◌≡◌, ℕ, ◌+◌, ◌<◌, ◌≤◌, Bool, true, false, true≢false, List, [], ◌∷◌, ◌++◌, take, get_or, refl, ◌∙◌, sym, ap, subst, arith, inl, inr, lit<, lit≤}
+use Rattle.std.specs.Prelude.{Some, slice_get}
+use Rattle.graph_kinds.specs.History.{Every}
 use Rattle.packed_link.specs.Link.{pack, nowhere}
 use Rattle.packed_link.specs.Layout.{epoch_at}
 use Rattle.core_journal.specs.declared.event.Event.{Event}
-use Rattle.core_journal.specs.Event.{blank}
+use Rattle.core_journal.specs.declared.event.Kind.{Kind}
+use Rattle.core_journal.specs.declared.event.Kind.TheVariants.{DrawNumber, PopFree, StorePrivate, LinkVertex, MarkVertex, UnlinkVertex, LinkEdge, Raise, MarkEdge, UnlinkEdge, Announce, Withdraw, MoveEpoch, FreezeHead, FreezeEdge, StoreFree, PushFree}
+use Rattle.core_journal.specs.Event.{blank, links_edge}
+use Rattle.core_journal.specs.Life.{link_of}
+use Rattle.core_journal.specs.Reuse.{pass_in}
 use Rattle.core_journal.specs.Machine.{machine, word_at}
 use Rattle.core_journal.specs.State.{state}
 use Rattle.core_journal.specs.TwoHands.{announces, takes, withdraws}
 use Rattle.core_journal.specs.Worked.{small}
 use Rattle.core_rule.specs.Counts.{raises}
-use Rattle.core_rule.specs.Edges.{IsLinkEdge, IsMarkEdge}
+use Rattle.core_rule.specs.Edges.{IsLinkEdge, IsMarkEdge, IsRaise}
 use Rattle.core_rule.specs.FreeNodes.{IsPopFree, IsStoreFree}
-use Rattle.core_rule.specs.Kept.{Allowed, IsKept}
+use Rattle.core_rule.specs.Kept.{Allowed, AllowedAs, IsKept}
 use Rattle.core_rule.specs.Passes.{IsChecked, IsMoveEpoch}
-use Rattle.core_rule.specs.Refused.{IsRefused, holding, unraised, closed, lagging, early, unclosed}
-use Rattle.core_rule.specs.TwoLives.{links_new, marks_first, stores_link, moves_epoch, with_other, removes_vertex}
+use Rattle.core_rule.specs.Refused.{IsRefused, holding, outside, made_in_a_pass, event_of, inside, moves_own, edgeless, unraised, closed, lagging, early, unclosed}
+use Rattle.core_rule.specs.TwoLives.{raises_source, links_new, marks_first, stores_link, moves_epoch, with_other, removes_vertex}
 use Rattle.core_rule.proofs.Announcements.{epoch_was}
-use Rattle.core_rule.proofs.Counted.{allowed_at}
+use Rattle.core_journal.proofs.KeptLives.{link_more}
+use Rattle.core_rule.proofs.Counted.{allowed_at, edge_event}
 use Rattle.core_rule.proofs.Epochs.{checked}
 use Rattle.core_rule.proofs.Induction.{kept_snoc}
 use Rattle.core_rule.proofs.SmallSteps.{none_such, none_fresh, announced, filled, withdrawn, moved}
-use Rattle.core_rule.proofs.TwoLives.{before, kept_3, kept_4, kept_27, kept_32, kept_42, kept_46}
+use Rattle.core_rule.proofs.TwoLives.{before, kept_3, kept_4, kept_8, kept_16, kept_19, kept_24, kept_27, kept_28, kept_29, kept_32, kept_37, kept_40, kept_41, kept_42, kept_46}
 
 pub refused_holding : IsRefused small holding (takes 0 1 2)
 unfolding state
 refused_holding = record {
   front = kept_4;
   whole = λ kept. let a : IsPopFree small holding (takes 0 1 2) = (allowed_at small (holding ++ takes 0 1 2 ∷ []) 4 (takes 0 1 2) kept refl).as_kind in a.holds_none 0 (lit< tt) (record { fresh = refl; mine = refl });
+}
+
+-- whether an event of this kind is made in a pass
+abbrev in_a_pass : Kind → Bool
+in_a_pass LinkVertex = true
+in_a_pass MarkVertex = true
+in_a_pass UnlinkVertex = true
+in_a_pass LinkEdge = true
+in_a_pass Raise = true
+in_a_pass MarkEdge = true
+in_a_pass UnlinkEdge = true
+in_a_pass _ = false
+
+passes : (k : Kind) (past : List Event) (e : Event) → AllowedAs k small past e → in_a_pass k ≡ true → (pass_in small past e.caller).is_open ≡ true
+passes LinkVertex past e a t = a.pass
+passes MarkVertex past e a t = a.pass
+passes UnlinkVertex past e a t = a.pass
+passes LinkEdge past e a t = a.pass
+passes Raise past e a t = a.pass
+passes MarkEdge past e a t = a.pass
+passes UnlinkEdge past e a t = a.pass
+passes DrawNumber past e a t = absurd (true≢false (sym t))
+passes PopFree past e a t = absurd (true≢false (sym t))
+passes StorePrivate past e a t = absurd (true≢false (sym t))
+passes Announce past e a t = absurd (true≢false (sym t))
+passes Withdraw past e a t = absurd (true≢false (sym t))
+passes MoveEpoch past e a t = absurd (true≢false (sym t))
+passes FreezeHead past e a t = absurd (true≢false (sym t))
+passes FreezeEdge past e a t = absurd (true≢false (sym t))
+passes StoreFree past e a t = absurd (true≢false (sym t))
+passes PushFree past e a t = absurd (true≢false (sym t))
+
+refused_at : (n : ℕ) → IsKept small (before n) → 0 < (state small (before n)).drawn → (pass_in small (before n) 0).is_open ≡ true → slice_get (outside n ++ event_of n ∷ []) (n + 1) ≡ Some (event_of n) → take (n + 1) (outside n ++ event_of n ∷ []) ≡ outside n
+    → in_a_pass (event_of n).kind ≡ true → (pass_in small (outside n) (event_of n).caller).is_open ≡ false → IsRefused small (outside n) (event_of n)
+refused_at n kept drawn runs at front is shut = record {
+  front = kept_snoc small (before n) (withdraws 0) kept (withdrawn (before n) drawn runs);
+  whole = λ now.
+      let a = allowed_at small (outside n ++ event_of n ∷ []) (n + 1) (event_of n) now at in
+      let b : Allowed small (outside n) (event_of n) = subst (λ (l : List Event). Allowed small l (event_of n)) front a in
+      true≢false (sym (passes (event_of n).kind (outside n) (event_of n) b.as_kind is) ∙ shut);
+}
+
+pub refused_outside : Every (λ (n : ℕ). IsRefused small (outside n) (event_of n)) made_in_a_pass
+unfolding state
+refused_outside = (
+  refused_at 8 kept_8 (lit< tt) refl refl refl refl refl,
+  (
+    refused_at 16 kept_16 (lit< tt) refl refl refl refl refl,
+    (
+      refused_at 24 kept_24 (lit< tt) refl refl refl refl refl,
+      (
+        refused_at 27 kept_27 (lit< tt) refl refl refl refl refl,
+        (
+          refused_at 28 kept_28 (lit< tt) refl refl refl refl refl,
+          (
+            refused_at 29 kept_29 (lit< tt) refl refl refl refl refl,
+            (
+              refused_at 37 kept_37 (lit< tt) refl refl refl refl refl,
+              (
+                refused_at 40 kept_40 (lit< tt) refl refl refl refl refl,
+                (
+                  refused_at 41 kept_41 (lit< tt) refl refl refl refl refl,
+                  tt,
+                ),
+              ),
+            ),
+          ),
+        ),
+      ),
+    ),
+  ),
+)
+
+pub refused_inside : IsRefused small inside moves_own
+unfolding state
+refused_inside = record {
+  front = kept_3;
+  whole = λ kept.
+      let a : IsMoveEpoch small inside moves_own = (allowed_at small (inside ++ moves_own ∷ []) 3 moves_own kept refl).as_kind in
+      true≢false a.closed;
+}
+
+pub refused_edgeless : IsRefused small edgeless raises_source
+refused_edgeless = record {
+  front = kept_19;
+  whole = λ kept.
+      let a : IsRaise small edgeless raises_source = (allowed_at small (edgeless ++ raises_source ∷ []) 19 raises_source kept refl).as_kind in
+      let linked : link_of edgeless a.edge ≡ Some a.link = subst (λ (l : List Event). link_of l a.edge ≡ Some a.link) a.before.whole (link_more a.moment a.before.rest a.edge a.link a.linked) in
+      let e = edge_event edgeless a.edge a.link linked in
+      none_such (λ d. links_edge d.kind) edgeless refl e.0 a.link e.1 e.2;
 }
 
 pub refused_unraised : IsRefused small unraised marks_first

@@ -73,7 +73,7 @@ kept_7 : IsKept small (before 7)
 unfolding state
 kept_7 = next 6 kept_6 (filled (before 6) 0 2 (pack nowhere 0 1) (lit< tt) (lit< tt) (lit< tt) (lit< tt) (λ h. absurd (omega (arith, h))) refl (record { fresh = refl; mine = refl }))
 
-kept_8 : IsKept small (before 8)
+pub kept_8 : IsKept small (before 8)
 unfolding state
 kept_8 = next 7 kept_7 (filled (before 7) 0 3 0 (lit< tt) (lit< tt) (lit< tt) (lit< tt) (λ h. absurd (omega (arith, h))) refl (record { fresh = refl; mine = refl }))
 
@@ -121,7 +121,7 @@ kept_15 : IsKept small (before 15)
 unfolding state
 kept_15 = next 14 kept_14 (filled (before 14) 1 2 (pack nowhere 0 1) (lit< tt) (lit< tt) (lit< tt) (lit< tt) (λ h. absurd (omega (arith, h))) refl (record { fresh = refl; mine = refl }))
 
-kept_16 : IsKept small (before 16)
+pub kept_16 : IsKept small (before 16)
 unfolding state
 kept_16 = next 15 kept_15 (filled (before 15) 1 3 0 (lit< tt) (lit< tt) (lit< tt) (lit< tt) (λ h. absurd (omega (arith, h))) refl (record { fresh = refl; mine = refl }))
 
@@ -156,7 +156,7 @@ kept_18 = next 17 kept_17 (withdrawn (before 17) (lit< tt) refl)
 
 -- the first edge is added: events 18 to 25
 
-kept_19 : IsKept small (before 19)
+pub kept_19 : IsKept small (before 19)
 unfolding machine word_at state
 kept_19 = next 18 kept_18 (announced (before 18) 0 (lit< tt) refl refl)
 
@@ -176,7 +176,7 @@ kept_23 : IsKept small (before 23)
 unfolding state
 kept_23 = next 22 kept_22 (filled (before 22) 2 2 (pack 1 0 1) (lit< tt) (lit< tt) (lit< tt) (lit< tt) (λ h. absurd (omega (arith, h))) refl (record { fresh = refl; mine = refl }))
 
-kept_24 : IsKept small (before 24)
+pub kept_24 : IsKept small (before 24)
 unfolding state
 kept_24 = next 23 kept_23 (filled (before 23) 2 3 5 (lit< tt) (lit< tt) (lit< tt) (lit< tt) (λ h. absurd (omega (arith, h))) refl (record { fresh = refl; mine = refl }))
 
@@ -197,7 +197,6 @@ kept_25 = next 24 kept_24 (record {
     fresh = record { fresh = refl; mine = refl };
     filled = record { key_word = refl; key_fits = lit< tt; link_word = refl; second_word = refl; third_word = refl; some = lit≤ tt; weight_fits = lit< tt };
     target = refl;
-    target_there = lit< tt;
     pass = refl;
   };
 })
@@ -212,7 +211,7 @@ pub kept_27 : IsKept small (before 27)
 unfolding machine word_at state
 kept_27 = next 26 kept_26 (announced (before 26) 0 (lit< tt) refl refl)
 
-kept_28 : IsKept small (before 28)
+pub kept_28 : IsKept small (before 28)
 unfolding machine word_at state link_of
 kept_28 = next 27 kept_27 (record {
   by = λ _. lit< tt;
@@ -235,7 +234,7 @@ kept_28 = next 27 kept_27 (record {
   };
 })
 
-kept_29 : IsKept small (before 29)
+pub kept_29 : IsKept small (before 29)
 unfolding machine word_at state
 kept_29 = next 28 kept_28 (record {
   by = λ _. lit< tt;
@@ -297,7 +296,7 @@ kept_36 : IsKept small (before 36)
 unfolding state
 kept_36 = next 35 kept_35 (filled (before 35) 3 2 (pack 1 0 1) (lit< tt) (lit< tt) (lit< tt) (lit< tt) (λ h. absurd (omega (arith, h))) refl (record { fresh = refl; mine = refl }))
 
-kept_37 : IsKept small (before 37)
+pub kept_37 : IsKept small (before 37)
 unfolding state
 kept_37 = next 36 kept_36 (filled (before 36) 3 3 6 (lit< tt) (lit< tt) (lit< tt) (lit< tt) (λ h. absurd (omega (arith, h))) refl (record { fresh = refl; mine = refl }))
 
@@ -318,7 +317,6 @@ kept_38 = next 37 kept_37 (record {
     fresh = record { fresh = refl; mine = refl };
     filled = record { key_word = refl; key_fits = lit< tt; link_word = refl; second_word = refl; third_word = refl; some = lit≤ tt; weight_fits = lit< tt };
     target = refl;
-    target_there = lit< tt;
     pass = refl;
   };
 })
@@ -329,11 +327,11 @@ kept_39 = next 38 kept_38 (withdrawn (before 38) (lit< tt) refl)
 
 -- its source is removed: events 39 to 44
 
-kept_40 : IsKept small (before 40)
+pub kept_40 : IsKept small (before 40)
 unfolding machine word_at state
 kept_40 = next 39 kept_39 (announced (before 39) 0 (lit< tt) refl refl)
 
-kept_41 : IsKept small (before 41)
+pub kept_41 : IsKept small (before 41)
 unfolding machine word_at state
 kept_41 = next 40 kept_40 (record { by = λ _. lit< tt; as_kind = record { life = refl; there = lit< tt; place = refl; linked = record { linked = refl; vertex = refl }; unmarked = refl; word = refl; pass = refl } })
 

@@ -47,7 +47,6 @@ pub record IsLinkEdge (sizes : Sizes) (past : List Event) (e : Event) : Type 0 w
   pub fresh : IsFreshWith sizes past e.caller e.life.index
   pub filled : IsFilledEdge sizes past e.life.index e.key (index_of (word_at sizes past e.place)) e.target e.weight
   pub target : key_of past e.target ≡ Some e.key
-  pub target_there : e.target.index < sizes.nodes
   pub pass : (pass_in sizes past e.caller).is_open ≡ true
 
 -- in its pass a caller raises the counter of a vertex, of which an edge was linked and unmarked at a moment of this pass
@@ -68,7 +67,7 @@ pub record IsRaise (sizes : Sizes) (past : List Event) (e : Event) : Type 0 wher
   pub pass : (pass_in sizes past e.caller).is_open ≡ true
   pub limit : made raises e.caller past < most_raises
 
--- in its open pass a caller raised the counter of the source of an edge that was linked by then
+-- since its last pass began a caller raised the counter of the source of an edge that was linked by then
 pub record IsRaisedFor (sizes : Sizes) (past : List Event) (caller : ℕ) (edge source : Life) : Type 0 where
   pub number : ℕ
   pub since : (pass_in sizes past caller).since < number

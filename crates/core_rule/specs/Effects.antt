@@ -11,12 +11,12 @@ use Rattle.core_journal.specs.GraphOf.{graph_of, call_of, present_key, present_p
 use Rattle.core_rule.specs.Nodes.{node_in}
 use Rattle.core_rule.specs.Chains.{bucket_word, list_word, bucket_chain, edge_chain, HasList}
 
--- the chains of other buckets than one, and all lists of edges, stay as they are
+-- the chains of other buckets than one stay as they are, and so do all lists of edges that aren't frozen to their end
 pub record OthersThanBucket (sizes : Sizes) (past : List Event) (e : Event) (bucket : ℕ) : Type 0 where
   pub buckets : (j : ℕ) → j < sizes.buckets → j ≢ bucket → Untouched (bucket_chain sizes past j) (bucket_chain sizes (past ++ e ∷ []) j)
   pub lists : (x : ℕ) → HasList sizes past x → Untouched (edge_chain sizes past x) (edge_chain sizes (past ++ e ∷ []) x)
 
--- the chains of all buckets, and the lists of other vertices than one, stay as they are
+-- the chains of all buckets stay as they are, and so do the lists of other vertices than one that aren't frozen to their end
 pub record OthersThanList (sizes : Sizes) (past : List Event) (e : Event) (vertex : ℕ) : Type 0 where
   pub buckets : (j : ℕ) → j < sizes.buckets → Untouched (bucket_chain sizes past j) (bucket_chain sizes (past ++ e ∷ []) j)
   pub lists : (x : ℕ) → HasList sizes past x → x ≢ vertex → Untouched (edge_chain sizes past x) (edge_chain sizes (past ++ e ∷ []) x)
@@ -94,7 +94,7 @@ pub record FreezesEdge (sizes : Sizes) (past : List Event) (e : Event) : Type 0 
   pub others : OthersThanList sizes past e source
   pub graph : graph_of (past ++ e ∷ []) ≡ graph_of past
 
--- all chains stay as they are, and the graph too
+-- the chains of all buckets stay as they are, all lists of edges that aren't frozen to their end, and the graph too
 pub record ChangesNone (sizes : Sizes) (past : List Event) (e : Event) : Type 0 where
   pub buckets : (j : ℕ) → j < sizes.buckets → Untouched (bucket_chain sizes past j) (bucket_chain sizes (past ++ e ∷ []) j)
   pub lists : (x : ℕ) → HasList sizes past x → Untouched (edge_chain sizes past x) (edge_chain sizes (past ++ e ∷ []) x)

@@ -3,11 +3,12 @@ use Rattle.std.specs.Prelude.{List, ◌≡◌, ◌≢◌, ℕ, ◌+◌, ◌<◌,
 use Rattle.packed_link.specs.Link.{pack, index_of, mark_of, tag_of, mark_bit, nowhere}
 use Rattle.packed_link.specs.Layout.{Sizes, number_at, epoch_at, key_at, link_at, second_at, third_at}
 use Rattle.packed_link.specs.declared.link.Life.{Life}
-use Rattle.core_journal.specs.State.{Free, Fresh, Linked, Spent, Node, State}
+use Rattle.core_journal.specs.State.{Free, Fresh, Linked, Spent, Node, State, state}
 use Rattle.core_journal.specs.declared.event.Kind.{Kind}
 use Rattle.core_journal.specs.declared.event.Event.{Event}
 use Rattle.core_journal.specs.Life.{key_of, link_of, vertex_marked, edge_marked}
 use Rattle.core_journal.specs.Machine.{word_at}
+use Rattle.core_journal.specs.Prefix.{IsPrefix}
 use Rattle.core_journal.specs.Reuse.{pass_in}
 use Rattle.core_rule.specs.Counts.{about, links, raised}
 use Rattle.core_rule.specs.Nodes.{node_in, IsUsed}
@@ -103,6 +104,13 @@ pub record IsHeld (sizes : Sizes) (front journal : List Event) (x : ℕ) : Type 
   pub second : word_at sizes journal (second_at sizes x) ≡ word_at sizes front (second_at sizes x)
   pub third : word_at sizes journal (third_at sizes x) ≡ word_at sizes front (third_at sizes x)
 
+-- a node, its key, its link and whether its list is closed are after a journal what they were after a front of it
+pub record IsKeptSpent (sizes : Sizes) (front journal : List Event) (x : ℕ) : Type 0 where
+  pub node : node_in sizes journal x ≡ node_in sizes front x
+  pub key : word_at sizes journal (key_at sizes x) ≡ word_at sizes front (key_at sizes x)
+  pub link : word_at sizes journal (link_at sizes x) ≡ word_at sizes front (link_at sizes x)
+  pub closed : (state sizes journal).frozen x ≡ (state sizes front).frozen x
+
 -- an edge life was linked with the source, target, key and weight that its node has
 pub record IsLinkOf (journal : List Event) (x : Life) (source target : Life) (key weight : ℕ) : Type 0 where
   pub link : Event
@@ -130,14 +138,21 @@ pub record IsNamed (journal : List Event) (v : Node) (x : ℕ) : Type 0 where
 pub record Named (sizes : Sizes) (journal : List Event) (s : State) : Type 0 where
   pub each : (x : ℕ) → x < sizes.nodes → IsNamed journal (s.node x) x
 
--- the source and the target of each edge that was linked were linked as vertices before, the target with the edge's key
+-- the source and the target of each edge that was linked were linked as vertices, the target with the edge's key
 pub record Ends (journal : List Event) : Type 0 where
   pub source : (x : Life) (link : Event) → link_of journal x ≡ Some link → key_of journal link.source ≢ None
   pub target : (x : Life) (link : Event) → link_of journal x ≡ Some link → key_of journal link.target ≡ Some link.key
 
--- an open pass has met a node: it's linked, or it was spent after the pass began
+-- an open pass has met a node: it's linked, or it was spent after the pass began. So each linked node counts as met, whether a
+-- walk came to it or not: it's what a walk in this pass may come to
 pub record IsMet (sizes : Sizes) (journal : List Event) (caller x : ℕ) : Type 0 where
   pub pass : (pass_in sizes journal caller).is_open ≡ true
   pub free : (node_in sizes journal x).mode ≢ Free
   pub fresh : (node_in sizes journal x).mode ≢ Fresh
   pub spent : (node_in sizes journal x).mode ≡ Spent → (pass_in sizes journal caller).since < (node_in sizes journal x).ended
+
+-- a caller's pass that was open at a front is open still
+pub record IsSamePass (sizes : Sizes) (front journal : List Event) (caller : ℕ) : Type 0 where
+  pub before : IsPrefix front journal
+  pub open_still : (pass_in sizes journal caller).is_open ≡ true
+  pub since : (pass_in sizes journal caller).since ≡ (pass_in sizes front caller).since

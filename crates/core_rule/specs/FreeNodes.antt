@@ -1,7 +1,6 @@
 -- When a node may be taken and filled, and a spent node be given back.
-use Rattle.std.specs.Prelude.{◌≡◌, ℕ, ◌+◌, ◌<◌, ◌^◌, ◌⊎◌, true, List}
+use Rattle.std.specs.Prelude.{◌≡◌, ℕ, ◌+◌, ◌<◌, ◌^◌, ◌⊎◌, ◌==◌, true, List}
 use Rattle.std.specs.List.{list_any}
-use Rattle.std.specs.Prelude.{◌==◌}
 use Rattle.packed_link.specs.Link.{pack, index_of, mark_of, tag_of, nowhere}
 use Rattle.packed_link.specs.Layout.{Sizes, free_at, key_at, link_at}
 use Rattle.core_journal.specs.declared.event.Event.{Event}

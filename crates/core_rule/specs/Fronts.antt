@@ -1,5 +1,6 @@
 -- What a token must know by its front, so that its next step of a kind is allowed wherever it wins: one condition a kind.
--- "Met" is what an open pass has met (`IsMet`); nothing is said of what the token loaded.
+-- "Met" is what an open pass has met (`IsMet`). An earlier moment, at which the token loaded a word, stands only in those for
+-- taking a node, announcing, moving the epoch on, raising, marking an edge, and where the node is ripe.
 use Rattle.std.specs.Prelude.{◌≡◌, ◌≢◌, ℕ, ◌+◌, ◌%◌, ◌<◌, ◌^◌, ◌⊎◌, ◌==◌, true, false, List, Some, length}
 use Rattle.std.specs.List.{list_any}
 use Rattle.packed_link.specs.Link.{index_of, mark_of, tag_of, nowhere}

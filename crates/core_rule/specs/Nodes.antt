@@ -23,6 +23,11 @@ pub record IsFreshWith (sizes : Sizes) (past : List Event) (caller x : ℕ) : Ty
   pub fresh : (node_in sizes past x).mode ≡ Fresh
   pub mine : (node_in sizes past x).who ≡ caller
 
+-- a node is spent with a caller
+pub record IsSpentWith (sizes : Sizes) (past : List Event) (caller x : ℕ) : Type 0 where
+  pub spent : (node_in sizes past x).mode ≡ Spent
+  pub mine : (node_in sizes past x).who ≡ caller
+
 -- a life is that of a vertex which is linked or spent
 pub record IsVertex (sizes : Sizes) (past : List Event) (x : Life) : Type 0 where
   pub there : x.index < sizes.nodes

@@ -1,11 +1,14 @@
 -- Kept journals, each with an event in mind that is refused behind it.
-use Rattle.std.specs.Prelude.{List, [], ◌∷◌, ◌++◌}
+use Rattle.std.specs.Prelude.{ℕ, List, [], ◌∷◌, ◌++◌, take, get_or}
 use Rattle.packed_link.specs.Link.{nowhere}
-use Rattle.packed_link.specs.Layout.{Sizes}
+use Rattle.packed_link.specs.Layout.{Sizes, epoch_at}
 use Rattle.core_journal.specs.declared.event.Event.{Event}
-use Rattle.core_journal.specs.TwoHands.{draws, announces, withdraws, takes}
+use Rattle.core_journal.specs.declared.event.Kind.TheVariants.{MoveEpoch}
+use Rattle.core_journal.specs.Event.{blank}
+use Rattle.core_journal.specs.TwoHands.{draws, announces, withdraws, takes, two_vertices}
+use Rattle.core_journal.specs.Worked.{small}
 use Rattle.core_rule.specs.Kept.{IsKept}
-use Rattle.core_rule.specs.TwoLives.{takes_edge, removes_vertex, closes_head, moves_epoch, with_edge, without_edge, with_other, without_source}
+use Rattle.core_rule.specs.TwoLives.{takes_edge, removes_vertex, closes_head, moves_epoch, with_edge, without_edge, with_other, without_source, two_lives}
 
 -- a journal is kept, and with this event behind it no longer
 pub record IsRefused (sizes : Sizes) (past : List Event) (e : Event) : Type 0 where
@@ -15,6 +18,30 @@ pub record IsRefused (sizes : Sizes) (past : List Event) (e : Event) : Type 0 wh
 -- caller 0 holds a node that it took and hasn't linked: it may not take another one
 abbrev pub holding : List Event
 holding = draws 0 1 ∷ draws 1 2 ∷ announces 0 ∷ takes 0 0 1 ∷ []
+
+-- caller 0 has closed its pass before event n of the worked journal: where that event is made in a pass, it may not be made now
+abbrev pub outside : ℕ → List Event
+outside n = take n two_lives ++ withdraws 0 ∷ []
+
+-- the events of the worked journal that are made in a pass: vertices are linked, an edge is, its counter is raised, it's marked and
+-- unlinked, and a vertex is marked and unlinked
+abbrev pub made_in_a_pass : List ℕ
+made_in_a_pass = 8 ∷ 16 ∷ 24 ∷ 27 ∷ 28 ∷ 29 ∷ 37 ∷ 40 ∷ 41 ∷ []
+
+-- event n of the worked journal
+abbrev pub event_of : ℕ → Event
+event_of n = get_or two_lives n blank
+
+-- caller 0 has a pass: it may not move the epoch on to 1
+abbrev pub inside : List Event
+inside = draws 0 1 ∷ draws 1 2 ∷ announces 0 ∷ []
+
+abbrev pub moves_own : Event
+moves_own = record blank { kind = MoveEpoch; place = epoch_at small; word = 1 }
+
+-- two vertices stand, and no edge was linked: no counter may be raised
+abbrev pub edgeless : List Event
+edgeless = two_vertices ++ announces 0 ∷ []
 
 -- caller 0 has opened a pass and raised no counter: it may not mark the edge
 abbrev pub unraised : List Event

@@ -1,10 +1,8 @@
 -- Where each node is: on the free list, with a caller who fills it, linked, or with the caller who unlinked it.
-use Rattle.std.specs.Prelude.{◌≡◌, ℕ, true, List, Contains}
-use Rattle.packed_link.specs.Layout.{Sizes, key_at, link_at}
+use Rattle.std.specs.Prelude.{◌≡◌, ℕ, List, Contains}
+use Rattle.packed_link.specs.Layout.{Sizes, link_at}
 use Rattle.core_journal.specs.declared.event.Event.{Event}
-use Rattle.core_journal.specs.Prefix.{IsPrefix}
 use Rattle.core_journal.specs.Machine.{word_at}
-use Rattle.core_journal.specs.Reuse.{pass_in}
 use Rattle.core_journal.specs.State.{Free, Fresh, Linked, Spent, state}
 use Rattle.core_rule.specs.Facts.{IsDeadLink, IsFreshLink, IsLiveLink}
 use Rattle.core_rule.specs.Nodes.{node_in}
@@ -13,7 +11,7 @@ use Rattle.core_rule.specs.Nodes.{node_in}
 pub data Standing : Type 0 where
   OnFreeList : Standing
   FreshWith : ℕ → Standing
-  InGraph : Standing
+  OnChain : Standing
   SpentBy : ℕ → Standing
 
 -- its link word is marked, and still that of its last life
@@ -43,23 +41,5 @@ pub record IsSpentNode (sizes : Sizes) (journal : List Event) (caller x : ℕ) :
 abbrev pub StandsAs : Sizes → List Event → ℕ → Standing → Type 0
 StandsAs sizes journal x OnFreeList = IsFreeNode sizes journal x
 StandsAs sizes journal x (FreshWith caller) = IsFreshNode sizes journal caller x
-StandsAs sizes journal x InGraph = IsLinkedNode sizes journal x
+StandsAs sizes journal x OnChain = IsLinkedNode sizes journal x
 StandsAs sizes journal x (SpentBy caller) = IsSpentNode sizes journal caller x
-
--- a caller's pass that was open at a front is open still
-pub record IsSamePass (sizes : Sizes) (front journal : List Event) (caller : ℕ) : Type 0 where
-  pub before : IsPrefix front journal
-  pub open_still : (pass_in sizes journal caller).is_open ≡ true
-  pub since : (pass_in sizes journal caller).since ≡ (pass_in sizes front caller).since
-
--- a node is spent with a caller
-pub record IsSpentWith (sizes : Sizes) (past : List Event) (caller x : ℕ) : Type 0 where
-  pub spent : (node_in sizes past x).mode ≡ Spent
-  pub mine : (node_in sizes past x).who ≡ caller
-
--- a node, its key, its link and whether its list is closed are after a journal what they were after a front of it
-pub record IsKeptSpent (sizes : Sizes) (front journal : List Event) (x : ℕ) : Type 0 where
-  pub node : node_in sizes journal x ≡ node_in sizes front x
-  pub key : word_at sizes journal (key_at sizes x) ≡ word_at sizes front (key_at sizes x)
-  pub link : word_at sizes journal (link_at sizes x) ≡ word_at sizes front (link_at sizes x)
-  pub closed : (state sizes journal).frozen x ≡ (state sizes front).frozen x

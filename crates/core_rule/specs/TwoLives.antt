@@ -33,11 +33,15 @@ links_new x weight = record blank { kind = LinkEdge; place = second_at small 0; 
 abbrev pub marks_first : Event
 marks_first = record blank { kind = MarkEdge; place = link_at small 2; word = pack nowhere 1 1; life = first_life 2 }
 
+-- the counter of its source, the vertex of node 0, is raised for the first time
+abbrev pub raises_source : Event
+raises_source = record blank { kind = Raise; place = third_at small 0; word = 1; life = first_life 0 }
+
 -- in a new pass caller 0 removes it: it raises the counter of the edge's source first
 abbrev pub removes_edge : List Event
 removes_edge =
     announces 0
-    ∷ record blank { kind = Raise; place = third_at small 0; word = 1; life = first_life 0 }
+    ∷ raises_source
     ∷ marks_first
     ∷ record blank { kind = UnlinkEdge; place = second_at small 0; word = pack nowhere 0 1; life = first_life 2 }
     ∷ withdraws 0

@@ -4,7 +4,8 @@
 //! of another caller keeps goes on from a front with all events of its caller: `proofs/Induction.antt` has these for all
 //! facts at once.
 
-ghost use Rattle.std.specs.Prelude.{◌≡◌, List, [], ◌∷◌, ◌++◌, Contains, map};
+ghost use Rattle.std.specs.Prelude.{◌≡◌, ℕ, List, [], ◌∷◌, ◌++◌, Contains, map};
+ghost use Rattle.graph_kinds.specs.History.{Every};
 ghost use Rattle.packed_link.specs.Layout.{Sizes, IsLayout};
 ghost use Rattle.core_journal.specs.declared.event.Event.{Event};
 ghost use Rattle.core_journal.specs.declared.event.Kind.{Kind};
@@ -19,10 +20,10 @@ ghost use Rattle.core_journal.specs.Worked.{small};
 ghost use Rattle.core_rule.specs.Beside.{beside_others};
 ghost use Rattle.core_rule.specs.Kept.{Allowed, IsKept};
 ghost use Rattle.core_rule.specs.Nodes.{node_in};
-ghost use Rattle.core_rule.specs.Refused.{IsRefused, closed, early, holding, lagging, unclosed, unraised};
-ghost use Rattle.core_rule.specs.Standings.{FreshWith, InGraph, OnFreeList, SpentBy, StandsAs};
+ghost use Rattle.core_rule.specs.Refused.{IsRefused, closed, early, edgeless, event_of, holding, inside, lagging, made_in_a_pass, moves_own, outside, unclosed, unraised};
+ghost use Rattle.core_rule.specs.Standings.{FreshWith, OnChain, OnFreeList, SpentBy, StandsAs};
 ghost use Rattle.core_rule.specs.TwoLives.{two_lives, with_edge, without_edge, with_other, without_source};
-ghost use Rattle.core_rule.specs.TwoLives.{key_two, links_new, lives_words, marks_first, moves_epoch};
+ghost use Rattle.core_rule.specs.TwoLives.{key_two, links_new, lives_words, marks_first, moves_epoch, raises_source};
 ghost use Rattle.core_rule.specs.TwoLives.{stores_link, two_keys};
 
 /// The empty journal is kept, one more allowed event keeps it so, and a front of a kept journal is kept.
@@ -52,7 +53,7 @@ pub fn a_node_has_two_lives()
     ensures gone { graph_of two_lives ≡ key_two }
     ensures handed { StandsAs small without_source 3 (SpentBy 0) }
     ensures fresh { StandsAs small two_lives 0 (FreshWith 0) }
-    ensures linked { StandsAs small two_lives 1 InGraph }
+    ensures linked { StandsAs small two_lives 1 OnChain }
     ensures spent { StandsAs small two_lives 2 (SpentBy 0) }
     ensures freed { StandsAs small two_lives 3 OnFreeList }
     ensures second { (node_in small two_lives 0).tag ≡ 2 }
@@ -72,11 +73,16 @@ pub fn nodes_are_linked_beside_others()
     ensures { IsKept small beside_others }
 {}
 
-/// Six events that are refused behind kept journals. A second node is taken while one is held; an edge is marked without a
-/// raise; an edge is linked into a closed list; the epoch is moved on past an open pass; a node is stored for the free list
-/// one epoch too early; and so is one whose list isn't closed.
+/// Events that are refused behind kept journals, each for one part of its condition. A second node is taken while one is held;
+/// a vertex or an edge is linked, marked or unlinked, or a counter raised, outside a pass; the epoch is moved on by a caller with
+/// a pass; a counter is raised where there is no edge; an edge is marked without a raise; an edge is linked into a closed list;
+/// the epoch is moved on past an open pass; a node is stored for the free list one epoch too early; and so is one whose list
+/// isn't closed.
 pub fn wrong_events_are_refused()
     ensures greedy { IsRefused small holding (takes 0 1 2) }
+    ensures outside { Every (λ (n : ℕ). IsRefused small (outside n) (event_of n)) made_in_a_pass }
+    ensures inside { IsRefused small inside moves_own }
+    ensures edgeless { IsRefused small edgeless raises_source }
     ensures unraised { IsRefused small unraised marks_first }
     ensures late { IsRefused small closed (links_new 3 6) }
     ensures hurried { IsRefused small lagging (moves_epoch 2) }

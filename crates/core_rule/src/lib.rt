@@ -34,8 +34,8 @@ pub use lifts::{
 };
 pub use lists::{
     a_closed_list_is_a_list, a_present_edge_is_on_its_list, closed_lists_stay,
-    edges_of_a_pair_differ, frozen_parts_are_handed_over, linked_edges_are_at_their_source,
-    lists_hold_their_edges,
+    frozen_parts_are_handed_over, linked_edges_are_at_their_source, lists_hold_their_edges,
+    one_edge_has_a_pair,
 };
 pub use own::{callers_have_numbers, own_events_are_counted, own_facts_stay};
 pub use raises::marked_edges_were_linked_at_a_lower_counter;

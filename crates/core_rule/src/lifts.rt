@@ -3,8 +3,10 @@
 //! There is one condition a kind, over the token's front (`specs/Fronts.antt`), and one event (`specs/OwnEvents.antt`). Where
 //! the word is as the step wants it, the event is allowed in each journal that goes on from the front without an event of the
 //! token's own (`Reaches` of `specs/Owes.antt`). That is all that a step owes by `Owes` beside the word that it writes. "In
-//! this pass" is one word: what an open pass has met (`IsMet`) stays met, so nothing is said of what was loaded. The draw of
-//! a number is `a_draw_keeps_the_rule`, since it changes what its token is.
+//! this pass" is one word: what an open pass has met (`IsMet`) stays met, so these speak of no load. Where a load matters all the
+//! same, the condition has the earlier moment: for taking a node, announcing a pass and moving the epoch, for raising a counter
+//! and marking an edge, and for the two kinds that need a ripe node. The draw of a number is `a_draw_keeps_the_rule`, since it
+//! changes what its token is.
 
 ghost use Rattle.std.specs.Prelude.{◌≡◌, ℕ, List};
 ghost use Rattle.packed_link.specs.Link.{pack, mark_of, nowhere};
@@ -17,6 +19,7 @@ ghost use Rattle.core_journal.specs.declared.event.Kind.TheVariants.{Raise, Stor
 ghost use Rattle.core_journal.specs.Machine.{word_at};
 ghost use Rattle.core_journal.specs.TwoHands.{hands_journal};
 ghost use Rattle.core_journal.specs.Worked.{small, first_life};
+ghost use Rattle.core_rule.specs.Nodes.{IsSpentWith};
 ghost use Rattle.core_rule.specs.declared.view.View.{View};
 ghost use Rattle.core_rule.specs.Fronts.{MayAnnounce, MayFreezeEdge, MayFreezeHead, MayLinkEdge, MayLinkVertex};
 ghost use Rattle.core_rule.specs.Fronts.{MayMarkEdge, MayMarkVertex};
@@ -30,7 +33,6 @@ ghost use Rattle.core_rule.specs.OwnEvents.{link_vertex_event, store_free_event}
 ghost use Rattle.core_rule.specs.OwnEvents.{mark_edge_event, mark_vertex_event, move_event, pop_event, push_event};
 ghost use Rattle.core_rule.specs.OwnEvents.{raise_event, store_event, unlink_edge_event, unlink_vertex_event, withdraw_event};
 ghost use Rattle.core_rule.specs.Owes.{Reaches};
-ghost use Rattle.core_rule.specs.Standings.{IsSpentWith};
 ghost use Rattle.core_rule.specs.TwoLives.{two_lives};
 
 /// A node is taken where the word of the free list is the one seen; a word of a fresh node is stored; the link of a ripe node is
@@ -90,7 +92,7 @@ pub fn steps_on_edges_are_allowed()
 {}
 
 /// A list is closed at its head where the vertex's second word is unmarked, and an edge to which a frozen word of it leads is
-/// frozen where its link is unmarked.
+/// frozen where its link is unmarked. Where it's marked, that edge is spent with the token's caller (`found`).
 pub fn steps_on_closed_lists_are_allowed()
     ensures head { (v : View) → IsLayout v.sizes → (x : Life) → MayFreezeHead v x → (journal : List Event) → Reaches v journal
         → mark_of (word_at v.sizes journal (second_at v.sizes x.index)) ≡ 0

@@ -22,7 +22,8 @@ ghost use Rattle.core_journal.specs.declared.event.Kind.TheVariants.{StoreFree, 
 ghost use Rattle.core_rule.specs.Nodes.{IsFrozenToEnd, IsLinkedEdge, IsLinkedVertex, IsUsed, node_in};
 
 /// From the second word of each vertex that has a list, link after link, one meets the edges of its list, each once, by
-/// strictly rising keys. They are the lives that were linked as edges of the vertex's life, and not unlinked.
+/// strictly rising keys. They are the lives that were linked as edges of the vertex's life, and not unlinked. Each linked vertex
+/// has a list; and what stands on any list, also one that is frozen to its end, was linked so and not unlinked.
 pub fn lists_hold_their_edges()
     ensures lists { (sizes : Sizes) → IsLayout sizes → (journal : List Event) → IsKept sizes journal
         → EdgeLists sizes journal }
@@ -50,8 +51,10 @@ pub fn frozen_parts_are_handed_over()
 
 /// A list that is frozen to its end is one still while no edge of its vertex's life is stored for the free list: one meets
 /// its edges from the second word of the vertex, they are all edges of the vertex's life that weren't unlinked, and a frozen
-/// word leads to none or to one of them. Each list that isn't frozen to its end is such a list, and that of a vertex which a
-/// caller spent stays one while others act.
+/// word leads to none or to one of them. Where it leads to none, the list is frozen to its end; where it leads to a marked edge,
+/// that edge is of the frozen part. Each list that isn't frozen to its end is such a list. That of a vertex which a caller spent
+/// stays one while others act, and behind each event of anyone that neither stores a link for the free list nor gives a node
+/// back.
 pub fn a_closed_list_is_a_list()
     ensures list { (sizes : Sizes) → IsLayout sizes → (journal : List Event) → IsKept sizes journal
         → (x : ℕ) → HasList sizes journal x → KeepsList sizes journal x }
@@ -127,9 +130,9 @@ pub fn a_present_edge_is_on_its_list()
         → IsAtSource sizes journal x.index }
 {}
 
-/// Two edges of one source and one key are one, where neither was unlinked, and the source has a list or one of them isn't
-/// marked; and so are two that aren't marked.
-pub fn edges_of_a_pair_differ()
+/// No two edges have one pair of source and key: two of one source and one key are one, where neither was unlinked, and the
+/// source has a list or one of them isn't marked; and so are two that aren't marked.
+pub fn one_edge_has_a_pair()
     ensures listed { (sizes : Sizes) → IsLayout sizes → (journal : List Event) → IsKept sizes journal
         → (source : ℕ) → HasList sizes journal source → (x y : Life)
         (a : IsEdgeOf journal (life_in sizes journal source) x) (b : IsEdgeOf journal (life_in sizes journal source) y)

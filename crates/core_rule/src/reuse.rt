@@ -8,10 +8,10 @@ ghost use Rattle.core_journal.specs.Prefix.{IsPrefix};
 ghost use Rattle.core_journal.specs.Machine.{word_at};
 ghost use Rattle.core_journal.specs.Reuse.{ReusesSafely};
 ghost use Rattle.core_journal.specs.State.{Free, state};
-ghost use Rattle.core_rule.specs.Facts.{IsMet};
+ghost use Rattle.core_rule.specs.Facts.{IsMet, IsKeptSpent, IsSamePass};
 ghost use Rattle.core_rule.specs.Kept.{IsKept, IsQuiet};
-ghost use Rattle.core_rule.specs.Nodes.{IsRipe, node_in};
-ghost use Rattle.core_rule.specs.Standings.{IsKeptSpent, IsSamePass, IsSpentWith, Standing, StandsAs};
+ghost use Rattle.core_rule.specs.Nodes.{IsRipe, node_in, IsSpentWith};
+ghost use Rattle.core_rule.specs.Standings.{Standing, StandsAs};
 
 /// No node is given again while an older pass is open: whenever a node is taken, each life for which it was taken before has
 /// ended, and each pass that is open then was announced after that end.
@@ -45,8 +45,9 @@ pub fn ripe_nodes_are_not_met()
         → (caller i x : ℕ) → IsRipe sizes journal caller x → IsMet sizes journal i x → ⊥ }
 {}
 
-/// What an open pass has met it has met still while the pass is open: the node is in the same life, with the same key, and
-/// an edge with the same target and weight.
+/// What an open pass has met it has met still while the pass is open: the node is in the same life, a vertex or an edge as it
+/// was, with the same key, and an edge with the same source, target and weight. It isn't stored for the free list, and its link
+/// stays once it's marked.
 pub fn what_is_met_keeps_its_words()
     ensures met { (sizes : Sizes) → IsLayout sizes → (front journal : List Event) → IsKept sizes journal
         → (caller x : ℕ) → IsSamePass sizes front journal caller → IsMet sizes front caller x

@@ -1,8 +1,17 @@
-use Rattle.core_rule.proofs.Refusals.{refused_holding, refused_unraised, refused_late, refused_lagging, refused_early, refused_unclosed}
+use Rattle.core_rule.proofs.Refusals.{refused_holding, refused_outside, refused_inside, refused_edgeless, refused_unraised, refused_late, refused_lagging, refused_early, refused_unclosed}
 use Rattle.core_rule.proofs.journals.wrong_events_are_refused.Goals as goal
 
 pub returns-clause-greedy : goal.returns-clause-greedy
 returns-clause-greedy c = refused_holding
+
+pub returns-clause-outside : goal.returns-clause-outside
+returns-clause-outside c = refused_outside
+
+pub returns-clause-inside : goal.returns-clause-inside
+returns-clause-inside c = refused_inside
+
+pub returns-clause-edgeless : goal.returns-clause-edgeless
+returns-clause-edgeless c = refused_edgeless
 
 pub returns-clause-unraised : goal.returns-clause-unraised
 returns-clause-unraised c = refused_unraised

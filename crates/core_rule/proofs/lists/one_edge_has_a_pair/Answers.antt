@@ -1,5 +1,5 @@
 use Rattle.core_rule.proofs.EdgeLives.{one_listed, one_unmarked, one_present_edge}
-use Rattle.core_rule.proofs.lists.edges_of_a_pair_differ.Goals as goal
+use Rattle.core_rule.proofs.lists.one_edge_has_a_pair.Goals as goal
 
 pub returns-clause-listed : goal.returns-clause-listed
 returns-clause-listed c = λ sizes z journal kept source has x y a b same. one_listed sizes z journal kept source has x y a b same
