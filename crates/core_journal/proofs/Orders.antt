@@ -14,6 +14,7 @@ use Rattle.core_journal.specs.Right.{StandsAt, is_silent, FramedFrom, CallersApa
 use Rattle.core_journal.proofs.Turns.{all_since, BookIn, each_at, BooksIn, or_running_each}
 use Rattle.core_journal.proofs.Places.{none_filtered}
 use Rattle.core_journal.proofs.Lists.{every_append, every_map, every_both, every_none, every_all, every_filter, every_mapped, get_here}
+use Rattle.std.proofs.lemmas.List.{map-append}
 
 filter_append : {A : Type 0} (test : A → Bool) (xs ys : List A) → filter test (xs ++ ys) ≡ filter test xs ++ filter test ys
 filter_append test [] ys = refl
@@ -21,10 +22,6 @@ filter_append test (x ∷ xs) ys = elim (test x) as (λ b. cond b (x ∷ filter 
   | true ↦ ap (λ l. x ∷ l) (filter_append test xs ys)
   | false ↦ filter_append test xs ys
 ]
-
-map_append : {A B : Type 0} (f : A → B) (xs ys : List A) → map f (xs ++ ys) ≡ map f xs ++ map f ys
-map_append f [] ys = refl
-map_append f (x ∷ xs) ys = ap (λ l. f x ∷ l) (map_append f xs ys)
 
 own_items : (caller : ℕ) (es : List Entry) → items_of caller (map (item caller) es) ≡ map (item caller) es
 own_items caller [] = refl
@@ -147,8 +144,8 @@ own_at ts books b p t k at fits = by (entries_at Own p books) fits
         (λ c is same. omega (arith, k.covers p t c at same is, one_list [] (filter (stands Own p) b.entries) (item b.caller) h refl))) ∙ h
 
 items_in : (f : Entry → Item) (p : ℕ) (es : List Entry) → map f (parts p es) ≡ map f (filter (stands Silent p) es) ++ (map f (filter (stands Late p) es) ++ map f (filter (stands Own p) es))
-items_in f p es = map_append f (filter (stands Silent p) es) (filter (stands Late p) es ++ filter (stands Own p) es)
-    ∙ ap (λ (l : List Item). map f (filter (stands Silent p) es) ++ l) (map_append f (filter (stands Late p) es) (filter (stands Own p) es))
+items_in f p es = map-append f (filter (stands Silent p) es) (filter (stands Late p) es ++ filter (stands Own p) es)
+    ∙ ap (λ (l : List Item). map f (filter (stands Silent p) es) ++ l) (map-append f (filter (stands Late p) es) (filter (stands Own p) es))
 
 three : (caller : ℕ) (silent late own : List Item) → items_of caller (silent ++ (late ++ own)) ≡ items_of caller silent ++ (items_of caller late ++ items_of caller own)
 three caller silent late own = filter_append (λ (i : Item). i.caller == caller) silent (late ++ own)
@@ -169,7 +166,7 @@ walk_items ts books b k fits past (s ∷ ss) p here whole =
     filter_append (λ (i : Item). i.caller == b.caller) (items_at p s books) (history_from (p + 1) ss books)
     ∙ ((λ i. (three b.caller (entries_at Silent p books) (entries_at Late p books) (or_running s (entries_at Own p books))
     ∙ ((λ j. fits Silent p j ++ (fits Late p j ++ own_at ts books b p s k at (fits Own p) j)) ∙ sym (items_in (item b.caller) p b.entries))) i ++ rest i)
-    ∙ (sym (map_append (item b.caller) (parts p b.entries) (behind (p + 1) b.entries)) ∙ ap (map (item b.caller)) (sym (split (length ts) 0 p b.entries k.framed))))
+    ∙ (sym (map-append (item b.caller) (parts p b.entries) (behind (p + 1) b.entries)) ∙ ap (map (item b.caller)) (sym (split (length ts) 0 p b.entries k.framed))))
 
 -- a caller's items are the entries of its book
 pub items_turns : (ts : List Turn) (books : List Book) (b : Book) → BookIn ts b → ((c : Class) (p : ℕ) → items_of b.caller (entries_at c p books) ≡ map (item b.caller) (filter (stands c p) b.entries))

@@ -10,23 +10,20 @@ use Rattle.core_journal.specs.History.{Turn, stands, item, running, entries_at, 
 use Rattle.core_journal.specs.Right.{StandsAt}
 use Rattle.core_journal.proofs.Lists.{every_append, every_map, every_all, every_mapped}
 use Rattle.core_journal.proofs.Turns.{each_at}
+use Rattle.std.proofs.lemmas.List.{map-append}
 
 items_placed_at : (p : ℕ) (c : Class) (items : List Item) → map (λ (x : Placed). x.item) (placed p c items) ≡ items
 items_placed_at p c [] = refl
 items_placed_at p c (i ∷ items) = ap (λ l. i ∷ l) (items_placed_at p c items)
 
-map_append : {A B : Type 0} (f : A → B) (xs ys : List A) → map f (xs ++ ys) ≡ map f xs ++ map f ys
-map_append f [] ys = refl
-map_append f (x ∷ xs) ys = ap (λ l. f x ∷ l) (map_append f xs ys)
-
 items_three : (p : ℕ) (silent late own : List Item) → map (λ (x : Placed). x.item) (placed p Silent silent ++ (placed p Late late ++ placed p Own own)) ≡ silent ++ (late ++ own)
-items_three p silent late own = map_append (λ (x : Placed). x.item) (placed p Silent silent) (placed p Late late ++ placed p Own own)
-    ∙ (λ i. items_placed_at p Silent silent i ++ (map_append (λ (x : Placed). x.item) (placed p Late late) (placed p Own own) ∙ (λ j. items_placed_at p Late late j ++ items_placed_at p Own own j)) i)
+items_three p silent late own = map-append (λ (x : Placed). x.item) (placed p Silent silent) (placed p Late late ++ placed p Own own)
+    ∙ (λ i. items_placed_at p Silent silent i ++ (map-append (λ (x : Placed). x.item) (placed p Late late) (placed p Own own) ∙ (λ j. items_placed_at p Late late j ++ items_placed_at p Own own j)) i)
 
 -- the placed items are those of the history
 pub items_placed : (p : ℕ) (ts : List Turn) (books : List Book) → map (λ (x : Placed). x.item) (placed_from p ts books) ≡ history_from p ts books
 items_placed p [] books = items_three p (entries_at Silent p books) (entries_at Late p books) (entries_at Own p books)
-items_placed p (t ∷ ts) books = map_append (λ (x : Placed). x.item) _ (placed_from (p + 1) ts books)
+items_placed p (t ∷ ts) books = map-append (λ (x : Placed). x.item) _ (placed_from (p + 1) ts books)
     ∙ (λ i. items_three p (entries_at Silent p books) (entries_at Late p books) (or_running t (entries_at Own p books)) i ++ items_placed (p + 1) ts books i)
 
 order_append : (xs ys : List Placed) → InOrder xs → InOrder ys → Every (λ (x : Placed). Every (Before x) ys) xs → InOrder (xs ++ ys)

@@ -20,7 +20,7 @@ pub state-snoc : (sizes : Sizes) (journal : List Event) (e : Event) → state si
 unfolding state
 state-snoc sizes journal e = from-append sizes (opening sizes) journal (e ∷ [])
 
-counted_by : (k : Kind) (sizes : Sizes) (e : Event) (s : State) → (state_by k sizes e s).count ≡ s.count + 1
+pub counted_by : (k : Kind) (sizes : Sizes) (e : Event) (s : State) → (state_by k sizes e s).count ≡ s.count + 1
 counted_by DrawNumber sizes e s = refl
 counted_by PopFree sizes e s = refl
 counted_by StorePrivate sizes e s = refl

@@ -27,7 +27,7 @@ use Rattle.core_rule.specs.Kept.{AllowedAs, IsKept}
 use Rattle.core_rule.specs.Nodes.{node_in, IsUsed, IsLinkedVertex}
 use Rattle.core_rule.specs.Vertices.{IsLinkVertex, IsMarkVertex, IsUnlinkVertex}
 use Rattle.core_rule.specs.Chains.{bucket_word, bucket_places, is_of_bucket, bucket_chain, BucketChains}
-use Rattle.core_rule.proofs.Steps.{IsAfter, Keeps, put_case, put_same, put_other, marked_state, closed_state, holds_all}
+use Rattle.core_rule.proofs.Steps.{IsAfter, Keeps, put_case, put_same, put_other, marked_state, closed_state, holds_all, writes_at}
 use Rattle.core_rule.proofs.LinkWords.{taken}
 use Rattle.core_rule.proofs.Contents.{contents}
 use Rattle.core_rule.proofs.Placed.{on_lists, used_there, marked_lists, handed_bucket}
@@ -122,10 +122,6 @@ stands_alone sizes j (Node n) low = record { words = λ p ne h. word p ne h; key
     word : (p : Position) → p ≢ Node n → bucket_word sizes j p ≢ link_at sizes n
     word Head ne h = omega arith
     word (Node x) ne h = ne (ap Node (omega arith))
-
--- an event writes one word of a bucket
-writes_at : (sizes : Sizes) (past : List Event) (e : Event) (w : ℕ → ℕ) (place word : ℕ) → IsAfter sizes past e w → place ≡ e.place → e.place < word_count sizes → e.word ≡ word → Writes (word_at sizes past) w place word
-writes_at sizes past e w place word a at near is = record { written = ap w at ∙ (a.here near ∙ is); others = λ i ne. a.else i (λ h. ne (h ∙ sym at)) }
 
 module _ (sizes : Sizes) (z : IsLayout sizes) (past : List Event) (kept : IsKept sizes past) where
   -- the key word of a vertex on a chain is its key

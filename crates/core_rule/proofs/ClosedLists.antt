@@ -30,8 +30,8 @@ use Rattle.core_rule.proofs.Ends.{new_edge}
 use Rattle.core_rule.proofs.Living.{unlinked_skip, unlinked_other, life_of}
 use Rattle.core_rule.proofs.Placed.{used_there}
 use Rattle.core_rule.proofs.Meets.{stands}
-use Rattle.core_rule.proofs.ListParts.{unlinked_was, linked_was}
-use Rattle.core_rule.proofs.Listed.{IsFinished, value_of, open_mode}
+use Rattle.core_rule.proofs.ListParts.{unlinked_was, linked_was, yes_no}
+use Rattle.core_rule.proofs.Listed.{IsFinished, open_mode}
 use Rattle.core_rule.proofs.ListSteps.{listing, link_only, link_joins, joins_unfinished, popped_was, not_closed, IsOpenIn, has_open}
 use Rattle.core_rule.proofs.EdgeChains.{IsList, lists, list_after, untouched, stays, idle_stays, off_link, same_link, off_unlink, same_unlink, off_mark, off_close}
 use Rattle.core_rule.proofs.EdgeLives.{still_life, not_cut, of_edge, StandsAll, stands_after, all_edges}
@@ -184,8 +184,8 @@ unbroken_before sizes z past e kept k is ok x b used vertex = record {
 }
   where
     held : (l : Life) → unlinked past l ≡ false → unlinked (past ++ e ∷ []) l ≡ true → IsHeldIn (state sizes past) l
-    held l old new = value_of (IsHeldIn (state sizes past) l) (unlinks k)
-        (λ u. value_of (IsHeldIn (state sizes past) l) (same_life l e.life)
+    held l old new = yes_no (IsHeldIn (state sizes past) l) (unlinks k)
+        (λ u. yes_no (IsHeldIn (state sizes past) l) (same_life l e.life)
         (λ same. subst (IsHeldIn (state sizes past)) (sym (same_is l e.life same)) (cut_held sizes z past e kept k u ok))
         (λ other. let t = sym (unlinked_other past e l other) ∙ new in absurd (cc)))
         (λ u. let t = sym (unlinked_skip past e (ap unlinks is ∙ u) l) ∙ new in absurd (cc))

@@ -19,8 +19,8 @@ use Rattle.core_rule.proofs.LinkedOnce.{fresh_before}
 use Rattle.core_rule.proofs.Lives.{same_tag}
 use Rattle.core_rule.proofs.Placed.{used_there}
 use Rattle.core_rule.proofs.Meets.{stands}
-use Rattle.core_rule.proofs.ListParts.{stands_case, stands_here, stands_later, unlinked_was, unlinked_keeps, linked_was, linked_keeps, part_all}
-use Rattle.core_rule.proofs.Listed.{IsFinished, value_of, part_listed}
+use Rattle.core_rule.proofs.ListParts.{stands_case, stands_here, stands_later, unlinked_was, unlinked_keeps, linked_was, linked_keeps, part_all, yes_no}
+use Rattle.core_rule.proofs.Listed.{IsFinished, part_listed}
 use Rattle.core_rule.proofs.ListSteps.{listing, popped_was, finished_after}
 
 -- what holds while two nodes are in their lives
@@ -89,14 +89,14 @@ finished_stays sizes z x front journal p kept tag f =
 all_marked : (node : ℕ → Node) (xs : List ℕ) → ((y : ℕ) → stands y xs ≡ true → (node y).marked ≡ true) ⊎ (((y : ℕ) → stands y xs ≡ true → (node y).marked ≡ true) → ⊥)
 all_marked node [] = inl (λ y h. absurd (cc))
 all_marked node (x ∷ xs) = ⊎_elim
-    (λ (rest : (y : ℕ) → stands y xs ≡ true → (node y).marked ≡ true). value_of (((y : ℕ) → stands y (x ∷ xs) ≡ true → (node y).marked ≡ true) ⊎ (((y : ℕ) → stands y (x ∷ xs) ≡ true → (node y).marked ≡ true) → ⊥)) (node x).marked
+    (λ (rest : (y : ℕ) → stands y xs ≡ true → (node y).marked ≡ true). yes_no (((y : ℕ) → stands y (x ∷ xs) ≡ true → (node y).marked ≡ true) ⊎ (((y : ℕ) → stands y (x ∷ xs) ≡ true → (node y).marked ≡ true) → ⊥)) (node x).marked
     (λ is. inl (λ y h. stands_case ((node y).marked ≡ true) x y xs h (λ same. subst (λ (u : ℕ). (node u).marked ≡ true) same is) (λ _ later. rest y later)))
     (λ isnt. inr (λ all. let t = all x (stands_here x x xs refl) in absurd (cc))))
     (λ (none : ((y : ℕ) → stands y xs ≡ true → (node y).marked ≡ true) → ⊥). inr (λ all. none (λ y h. all y (stands_later x y xs h))))
     (all_marked node xs)
 
 pub finished_or : (node : ℕ → Node) (edges : ℕ → List ℕ) (frozen : ℕ → Bool) (x : ℕ) → IsFinished node edges frozen x ⊎ (IsFinished node edges frozen x → ⊥)
-finished_or node edges frozen x = value_of (IsFinished node edges frozen x ⊎ (IsFinished node edges frozen x → ⊥)) (frozen x)
+finished_or node edges frozen x = yes_no (IsFinished node edges frozen x ⊎ (IsFinished node edges frozen x → ⊥)) (frozen x)
     (λ is. ⊎_elim (λ (all : (y : ℕ) → stands y (edges x) ≡ true → (node y).marked ≡ true). inl record { head = is; each = all }) (λ (none : ((y : ℕ) → stands y (edges x) ≡ true → (node y).marked ≡ true) → ⊥). inr (λ f. none f.each)) (all_marked node (edges x)))
     (λ isnt. inr (λ f. let t = f.head in absurd (cc)))
 
@@ -249,7 +249,7 @@ part_stays sizes z x y front journal p kept tx ty h u =
     ⊎_elim
     (λ (f : IsFinished s.node s.edges s.frozen x). subst (λ (b : Bool). stands y (cond b (take_while (λ v. (s.node v).marked) (s.edges x)) []) ≡ true) (sym head) (part_all (λ v. (s.node v).marked) y (s.edges x) f.each c.on))
     (λ (n : IsFinished s.node s.edges s.frozen x → ⊥). ⊎_elim (λ (f : IsFinished s.node s.edges s.frozen x). absurd (n f))
-    (λ (q : IsUsed (s.node x).mode × ((s.node x).vertex ≡ true)). value_of (is_frozen s x y ≡ true) (is_frozen s x y) (λ t. t)
+    (λ (q : IsUsed (s.node x).mode × ((s.node x).vertex ≡ true)). yes_no (is_frozen s x y ≡ true) (is_frozen s x y) (λ t. t)
     (λ f. let l = (listing sizes z journal kept).linked x y record { there = used_there sizes journal x kept (λ m. subst IsUsed m q.0); used = q.0; vertex = q.1; unfinished = n } c.on f in let t = c.spent u in absurd (cc)))
     ((closed_used sizes z journal kept).each x head))
     (finished_or s.node s.edges s.frozen x)

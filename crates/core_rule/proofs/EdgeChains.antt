@@ -26,11 +26,11 @@ use Rattle.core_rule.specs.Nodes.{node_in, IsUsed}
 use Rattle.core_rule.specs.Edges.{IsLinkEdge, IsUnlinkEdge}
 use Rattle.core_rule.specs.Vertices.{IsLinkVertex}
 use Rattle.core_rule.specs.Chains.{list_word, list_places, is_listed, edge_chain, EdgeLists}
-use Rattle.core_rule.proofs.Steps.{IsAfter, Keeps, put_other, holds_all}
+use Rattle.core_rule.proofs.Steps.{IsAfter, Keeps, put_other, holds_all, writes_at}
 use Rattle.core_rule.proofs.LinkWords.{taken}
 use Rattle.core_rule.proofs.Meets.{AreLinks, stands, meets_inserted, meets_unlinked, meets_marked, meets_untouched, joins_linked, leaves_unlinked}
-use Rattle.core_rule.proofs.ListParts.{linked_none, unlinked_none}
-use Rattle.core_rule.proofs.Listed.{ListingOf, value_of, open_mode}
+use Rattle.core_rule.proofs.ListParts.{linked_none, unlinked_none, yes_no}
+use Rattle.core_rule.proofs.Listed.{ListingOf, open_mode}
 use Rattle.core_rule.proofs.ListSteps.{listing, link_only, IsOpenIn, open_before, open_linked, has_open}
 
 -- the list of a vertex, by a state and the words
@@ -95,10 +95,6 @@ untouched sizes past e w s' x a off same = record {
     word Head on = a.else (second_at sizes x) (λ h. off.head (sym h))
     word (Node y) on = a.else (link_at sizes y) (λ h. off.links y on (sym h))
 
--- an event writes one word of a list
-writes_at : (sizes : Sizes) (past : List Event) (e : Event) (w : ℕ → ℕ) (place word : ℕ) → IsAfter sizes past e w → place ≡ e.place → e.place < word_count sizes → e.word ≡ word → Writes (word_at sizes past) w place word
-writes_at sizes past e w place word a at near is = record { written = ap w at ∙ (a.here near ∙ is); others = λ i ne. a.else i (λ h. ne (h ∙ sym at)) }
-
 -- the kinds that change no list of edges
 abbrev pub IsOffLists : Kind → Type 0
 IsOffLists LinkEdge = ⊥
@@ -162,7 +158,7 @@ module _ (sizes : Sizes) (z : IsLayout sizes) (past : List Event) (e : Event) (k
   same_idle PopFree n ok =
       let free = (taken sizes z past e kept ok).free in
       put_other e.life.index [] (λ y. unlinked_from e.life.index ((state sizes past).edges y)) x (λ same. subst IsUsed (ap (λ (i : ℕ). (node_in sizes past i).mode) same ∙ free) used)
-      ∙ unlinked_none e.life.index ((state sizes past).edges x) (value_of (stands e.life.index ((state sizes past).edges x) ≡ false) (stands e.life.index ((state sizes past).edges x)) (λ t. absurd (unfree free t)) (λ f. f))
+      ∙ unlinked_none e.life.index ((state sizes past).edges x) (yes_no (stands e.life.index ((state sizes past).edges x) ≡ false) (stands e.life.index ((state sizes past).edges x)) (λ t. absurd (unfree free t)) (λ f. f))
   same_idle _ n ok = refl
 
   -- so it leaves the list untouched
@@ -214,7 +210,7 @@ module _ (sizes : Sizes) (z : IsLayout sizes) (past : List Event) (e : Event) (k
 
   pub same_unlink : x ≢ (node_in sizes past e.life.index).source.index → unlinked_from e.life.index ((state sizes past).edges x) ≡ (state sizes past).edges x
   same_unlink ne = unlinked_none e.life.index ((state sizes past).edges x)
-      (value_of (stands e.life.index ((state sizes past).edges x) ≡ false) (stands e.life.index ((state sizes past).edges x)) (λ t. absurd (ne (sym (of_source e.life.index t)))) (λ f. f))
+      (yes_no (stands e.life.index ((state sizes past).edges x) ≡ false) (stands e.life.index ((state sizes past).edges x)) (λ t. absurd (ne (sym (of_source e.life.index t)))) (λ f. f))
 
   -- what is marked on another list
   pub off_mark : e.place ≡ link_at sizes e.life.index → x ≢ (node_in sizes past e.life.index).source.index → IsOff sizes past e x

@@ -25,7 +25,7 @@ use Rattle.core_rule.proofs.Induction.{kept_all, kept_snoc}
 use Rattle.core_rule.proofs.Steps.{put_case, put_same, handed_case, part_marked, marked_state, closed_state, after_event}
 use Rattle.core_rule.proofs.LinkWords.{taken}
 use Rattle.core_rule.proofs.Lives.{lives, other_index}
-use Rattle.core_rule.proofs.Named.{named, life_is}
+use Rattle.core_rule.proofs.Named.{named, life_is, none_any}
 use Rattle.core_rule.proofs.OnLists.{On, Closed, part_on, listed, closed}
 use Rattle.core_rule.proofs.Ripe.{end_by, ended, IsOver, over_step}
 
@@ -66,15 +66,6 @@ any_at test (e ∷ es) h = by (any_at test es) (test e) refl h
     by : (list_any test es ≡ true → IsFound test es) → (b : Bool) → test e ≡ b → (b || list_any test es) ≡ true → IsFound test (e ∷ es)
     by more true is h = record { number = 0; event = e; at = refl; passes = is }
     by more false is h = let f = more h in record { number = suc f.number; event = f.event; at = f.at; passes = f.passes }
-
--- where no event of some kinds is about a life, none passes
-none_passes : (test : Kind → Bool) (x : Life) (journal : List Event) → about test x journal ≡ 0 → list_any (λ (e : Event). test e.kind && same_life x e.life) journal ≡ false
-none_passes test x [] h = refl
-none_passes test x (e ∷ es) h = by (none_passes test x es) (test e.kind && same_life x e.life) h
-  where
-    by : (about test x es ≡ 0 → list_any (λ (e : Event). test e.kind && same_life x e.life) es ≡ false) → (b : Bool) → length (cond b (e ∷ filter (λ (e : Event). test e.kind && same_life x e.life) es) (filter (λ (e : Event). test e.kind && same_life x e.life) es)) ≡ 0 → (b || list_any (λ (e : Event). test e.kind && same_life x e.life) es) ≡ false
-    by more true h = absurd (omega (arith, h))
-    by more false h = more h
 
 -- an event of a longer journal is one of the shorter, or the new one
 at_last : (past : List Event) (e : Event) (k : ℕ) (a : Event) → slice_get (past ++ e ∷ []) k ≡ Some a → (slice_get past k ≡ Some a) ⊎ (e ≡ a)
@@ -307,7 +298,7 @@ module _ (sizes : Sizes) (z : IsLayout sizes) (past : List Event) (e : Event) (k
   begun : e.kind ≡ PopFree → Fate (past ++ e ∷ []) e.life ((state_by PopFree sizes e (state sizes past)).node e.life.index)
   begun is =
       let allowed : AllowedAs PopFree sizes past e = subst (λ (k : Kind). AllowedAs k sizes past e) is ok.as_kind in
-      let stays : unlinked (past ++ e ∷ []) e.life ≡ false = any_skip (λ (d : Event). unlinks d.kind && same_life e.life d.life) past e (skips PopFree is refl e.life) ∙ none_passes unlinks e.life past ((lives sizes z past kept).later unlinks e.life (omega (arith, (taken sizes z past e kept allowed).tag))) in
+      let stays : unlinked (past ++ e ∷ []) e.life ≡ false = any_skip (λ (d : Event). unlinks d.kind && same_life e.life d.life) past e (skips PopFree is refl e.life) ∙ none_any unlinks e.life past ((lives sizes z past kept).later unlinks e.life (omega (arith, (taken sizes z past e kept allowed).tag))) in
       subst (λ (v : Node). Fate (past ++ e ∷ []) e.life v) (sym (put_same e.life.index _ (state sizes past).node)) (inr record { tag = refl; free = λ h. absurd (cc); spent = λ h. absurd (cc); stays = stays })
 
 -- each life for which a node was taken

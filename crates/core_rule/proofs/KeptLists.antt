@@ -21,10 +21,11 @@ use Rattle.core_rule.proofs.Steps.{put_case, put_same, put_other, handed_case, m
 use Rattle.core_rule.proofs.LinkWords.{link_words, taken}
 use Rattle.core_rule.proofs.Living.{life_of}
 use Rattle.core_rule.proofs.Meets.{stands}
-use Rattle.core_rule.proofs.Listed.{value_of, part_listed, handed_split}
+use Rattle.core_rule.proofs.Listed.{part_listed, handed_split}
 use Rattle.core_rule.proofs.ListSteps.{listing}
 use Rattle.core_rule.proofs.ClosedLists.{IsHeldIn, kept_lives}
 use Rattle.core_rule.proofs.Spenders.{spenders}
+use Rattle.core_rule.proofs.ListParts.{yes_no}
 
 -- a caller's spent vertex and its list
 record IsOwnList (sizes : Sizes) (caller x tag : ℕ) (journal : List Event) (s : State) : Type 0 where
@@ -132,7 +133,7 @@ module _ (sizes : Sizes) (z : IsLayout sizes) (past : List Event) (e : Event) (k
       value a b p = cc
 
       was : unlinked past l ≡ false
-      was = value_of (unlinked past l ≡ false) (unlinked past l) (λ t. let u = unlinked_more past (e ∷ []) l t in absurd (cc)) (λ f. f)
+      was = yes_no (unlinked past l ≡ false) (unlinked past l) (λ t. let u = unlinked_more past (e ∷ []) l t in absurd (cc)) (λ f. f)
 
       by : (o : Option Event) → link_of past l ≡ o → IsHeldIn (state_by k sizes e (state sizes past)) l
       by (Some d) q =
@@ -140,8 +141,8 @@ module _ (sizes : Sizes) (z : IsLayout sizes) (past : List Event) (e : Event) (k
           let f : IsEdgeOf past (life_in sizes past x) l = record { link = d; is = q; from = ap (λ (y : Event). y.source) same ∙ from; stays = was } in
           let i = (kept_lives sizes z past kept x as_keeps l).1 f in
           held_after l (c.edges l d q f.from was) i.on k is ok
-      by None q = value_of (IsHeldIn (state_by k sizes e (state sizes past)) l) (same_life l e.life)
-          (λ one. value_of (IsHeldIn (state_by k sizes e (state sizes past)) l) (links_edge k)
+      by None q = yes_no (IsHeldIn (state_by k sizes e (state sizes past)) l) (same_life l e.life)
+          (λ one. yes_no (IsHeldIn (state_by k sizes e (state sizes past)) l) (links_edge k)
           (λ links. subst (IsHeldIn (state_by k sizes e (state sizes past))) (sym (same_is l e.life one)) (new_held k links ok))
           (λ none. let t = sym q ∙ (sym (link_skip past e (ap links_edge is ∙ none) l) ∙ h) in absurd (cc)))
           (λ else. let t = sym q ∙ (sym (link_else past e l else) ∙ h) in absurd (cc))

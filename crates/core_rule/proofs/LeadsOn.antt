@@ -23,8 +23,7 @@ use Rattle.core_rule.proofs.BucketSteps.{is_in, home_in, home_low, key_word, buc
 use Rattle.core_rule.proofs.Contents.{contents}
 use Rattle.core_rule.proofs.EdgeChains.{lists}
 use Rattle.core_rule.proofs.LinkWords.{mark_isnt}
-use Rattle.core_rule.proofs.Listed.{value_of}
-use Rattle.core_rule.proofs.ListParts.{stands_case, stands_here, stands_later}
+use Rattle.core_rule.proofs.ListParts.{stands_case, stands_here, stands_later, yes_no}
 use Rattle.core_rule.proofs.ListSteps.{listing, sources, has_open}
 use Rattle.core_rule.proofs.Meets.{stands}
 use Rattle.core_rule.proofs.Placed.{used_there}
@@ -51,7 +50,7 @@ before_part c is test p on q (a ∷ rest) here met before some h =
     let there = is.leads q here (λ none. met.1 (sym leads ∙ none)) in
     let on_a : IsOn c (Node a) = subst (λ (y : ℕ). IsOn c (Node y)) leads there.0 in
     let next : Precedes c (Node a) (Node p) → stands (c.next (Node p)) (take_while test rest) ≡ true → stands p (take_while test rest) ≡ true = λ low. before_part c is test p on (Node a) rest on_a met.2 low some in
-    value_of (stands p (take_while test (a ∷ rest)) ≡ true) (test a)
+    yes_no (stands p (take_while test (a ∷ rest)) ≡ true) (test a)
     (λ t. ap (λ (l : List ℕ). stands p l) (take_while-cons test a rest ∙ ap (λ (b : Bool). cond b (a ∷ take_while test rest) []) t)
     ∙ stands_case (stands p (a ∷ take_while test rest) ≡ true) a (c.next (Node p)) (take_while test rest) (sym (ap (λ (l : List ℕ). stands (c.next (Node p)) l) (take_while-cons test a rest ∙ ap (λ (b : Bool). cond b (a ∷ take_while test rest) []) t)) ∙ h)
     (λ same. let one : Node p ≡ q = one_leads c (Node p) q is on here some (sym same ∙ sym leads) in absurd (let r : rank_of c (Node p) ≡ rank_of c q = ap (rank_of c) one in omega (arith, r, before)))
@@ -99,7 +98,7 @@ module _ (sizes : Sizes) (z : IsLayout sizes) (journal : List Event) (kept : IsK
       let c = (lists sizes z journal kept).each x (has_open sizes journal x at.list) in
       let some : (edge_chain sizes journal x).next (Node p) ≢ nowhere = λ h. omega (arith, h, next, there, z.few_nodes) in
       edge_of x y at.list (on_list x y (Node p) at.list at.on next there)
-      (value_of (is_frozen (state sizes journal) x y ≡ false) (is_frozen (state sizes journal) x y)
+      (yes_no (is_frozen (state sizes journal) x y ≡ false) (is_frozen (state sizes journal) x y)
       (λ t. let part = frozen_before x p at.on c.chain c.met some (subst (λ (i : ℕ). is_frozen (state sizes journal) x i ≡ true) (sym next) t) in
       let spent = (listing sizes z journal kept).handed x p (has_open sizes journal x at.list) part in
       let linked = from.linked.linked in

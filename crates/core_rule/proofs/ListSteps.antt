@@ -21,8 +21,8 @@ use Rattle.core_rule.proofs.Steps.{Keeps, put_case, put_same, put_other, marked_
 use Rattle.core_rule.proofs.LinkWords.{link_words, taken, mark_is, mark_isnt}
 use Rattle.core_rule.proofs.Contents.{contents}
 use Rattle.core_rule.proofs.Meets.{stands}
-use Rattle.core_rule.proofs.ListParts.{unlinked_was, unlinked_keeps, unlinked_none, IsWordOf, linked_was, linked_keeps, linked_joins, linked_none, part_unlinked, part_linked, part_same}
-use Rattle.core_rule.proofs.Listed.{part_of, IsEdgeOn, IsFinished, IsOpenList, IsOnSource, Listing, ListingOf, value_of, part_listed, open_mode, IsMoved, moved_open, moved_back, moved_finish, moved, IsGrown, then_finished, then_open, handed_over}
+use Rattle.core_rule.proofs.ListParts.{unlinked_was, unlinked_keeps, unlinked_none, IsWordOf, linked_was, linked_keeps, linked_joins, linked_none, part_unlinked, part_linked, part_same, yes_no}
+use Rattle.core_rule.proofs.Listed.{part_of, IsEdgeOn, IsFinished, IsOpenList, IsOnSource, Listing, ListingOf, part_listed, open_mode, IsMoved, moved_open, moved_back, moved_finish, moved, IsGrown, then_finished, then_open, handed_over}
 
 -- a node is taken: it leaves the lists, and has an empty one
 module _ (sizes : Sizes) (node : ℕ → Node) (edges : ℕ → List ℕ) (frozen : ℕ → Bool) (c : Listing sizes node edges frozen) (i : ℕ) (v : Node) (free : (node i).mode ≡ Free) (fresh : v.mode ≡ Fresh) where
@@ -47,7 +47,7 @@ module _ (sizes : Sizes) (node : ℕ → Node) (edges : ℕ → List ℕ) (froze
 
   -- a list that isn't frozen to its end doesn't have the node
   pub popped_not : (x : ℕ) → IsOpenList sizes node edges frozen x → stands i (edges x) ≡ false
-  popped_not x o = value_of (stands i (edges x) ≡ false) (stands i (edges x)) (λ t. ⊎_elim (λ (l : (node i).mode ≡ Linked). absurd (cc)) (λ (l : (node i).mode ≡ Spent). absurd (cc)) (open_mode sizes node edges frozen x i c o t)) (λ f. f)
+  popped_not x o = yes_no (stands i (edges x) ≡ false) (stands i (edges x)) (λ t. ⊎_elim (λ (l : (node i).mode ≡ Linked). absurd (cc)) (λ (l : (node i).mode ≡ Spent). absurd (cc)) (open_mode sizes node edges frozen x i c o t)) (λ f. f)
 
   pub popped_list : (x : ℕ) → IsOpenList sizes node edges frozen x → popped x ≡ edges x
   popped_list x o = put_other i [] (λ y. unlinked_from i (edges y)) x (not_free x o.used) ∙ unlinked_none i (edges x) (popped_not x o)
@@ -169,7 +169,7 @@ module _ (sizes : Sizes) (node : ℕ → Node) (edges : ℕ → List ℕ) (froze
     where
       by : (b : Bool) → (stands i (cond b (take_while (λ y. (node y).marked) (edges x)) []) ≡ true → (node i).mode ≡ Spent) → cond b (take_while (λ y. (node y).marked) (cut x)) [] ≡ cond b (take_while (λ y. (node y).marked) (edges x)) []
       by true h = part_unlinked (λ y. (node y).marked) i (edges x) marked
-          (value_of (stands i (take_while (λ y. (node y).marked) (edges x)) ≡ false) (stands i (take_while (λ y. (node y).marked) (edges x))) (λ t. let s = h t in absurd (cc)) (λ f. f))
+          (yes_no (stands i (take_while (λ y. (node y).marked) (edges x)) ≡ false) (stands i (take_while (λ y. (node y).marked) (edges x))) (λ t. let s = h t in absurd (cc)) (λ f. f))
       by false h = refl
 
   cut_source : (y : ℕ) → y < sizes.nodes → (put i v node y).mode ≡ Linked → (put i v node y).vertex ≡ false → IsOnSource sizes (put i v node) cut frozen y

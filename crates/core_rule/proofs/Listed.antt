@@ -10,7 +10,7 @@ use Rattle.core_journal.specs.State.{Mode, Fresh, Linked, Spent, Node, State, is
 use Rattle.core_rule.specs.Nodes.{IsUsed}
 use Rattle.core_rule.proofs.Steps.{put_case}
 use Rattle.core_rule.proofs.Meets.{stands}
-use Rattle.core_rule.proofs.ListParts.{part_was, part_all, part_grows, part_same}
+use Rattle.core_rule.proofs.ListParts.{part_was, part_all, part_grows, part_same, yes_no}
 
 -- the frozen part of the list of a vertex
 abbrev pub part_of : (ℕ → Node) → (ℕ → List ℕ) → (ℕ → Bool) → ℕ → List ℕ
@@ -55,11 +55,6 @@ pub record Listing (sizes : Sizes) (node : ℕ → Node) (edges : ℕ → List �
 abbrev pub ListingOf : Sizes → State → Type 0
 ListingOf sizes s = Listing sizes s.node s.edges s.frozen
 
--- by the value of a test
-pub value_of : (P : Type 0) (b : Bool) → (b ≡ true → P) → (b ≡ false → P) → P
-value_of P true is isnt = is refl
-value_of P false is isnt = isnt refl
-
 -- the frozen part is a part of the list
 pub part_listed : (node : ℕ → Node) (edges : ℕ → List ℕ) (frozen : ℕ → Bool) (x y : ℕ) → stands y (part_of node edges frozen x) ≡ true → stands y (edges x) ≡ true
 part_listed node edges frozen x y h = by (frozen x) h
@@ -70,7 +65,7 @@ part_listed node edges frozen x y h = by (frozen x) h
 
 -- what is on a list that isn't frozen to its end is linked or spent
 pub open_mode : (sizes : Sizes) (node : ℕ → Node) (edges : ℕ → List ℕ) (frozen : ℕ → Bool) (x y : ℕ) → Listing sizes node edges frozen → IsOpenList sizes node edges frozen x → stands y (edges x) ≡ true → ((node y).mode ≡ Linked) ⊎ ((node y).mode ≡ Spent)
-open_mode sizes node edges frozen x y c o h = value_of (((node y).mode ≡ Linked) ⊎ ((node y).mode ≡ Spent)) (stands y (part_of node edges frozen x)) (λ t. inr (c.handed x y o t)) (λ f. inl (c.linked x y o h f))
+open_mode sizes node edges frozen x y c o h = yes_no (((node y).mode ≡ Linked) ⊎ ((node y).mode ≡ Spent)) (stands y (part_of node edges frozen x)) (λ t. inr (c.handed x y o t)) (λ f. inl (c.linked x y o h f))
 
 -- a change of one node that keeps the lists
 pub record IsMoved (sizes : Sizes) (node : ℕ → Node) (edges : ℕ → List ℕ) (frozen : ℕ → Bool) (i : ℕ) (v : Node) : Type 0 where
@@ -289,7 +284,7 @@ module _ (sizes : Sizes) (node : ℕ → Node) (frozen : ℕ → Bool) (s : Stat
   then_linked : (x y : ℕ) → IsOpenList sizes then s.edges s.frozen x → stands y (s.edges x) ≡ true → stands y (part_of then s.edges s.frozen x) ≡ false → (then y).mode ≡ Linked
   then_linked x y o h f =
       let p : stands y (frozen_part s x) ≡ false = subst (λ (l : List ℕ). stands y l ≡ false) (then_part x) f in
-      let before : stands y (part_of node s.edges frozen x) ≡ false = value_of (stands y (part_of node s.edges frozen x) ≡ false) (stands y (part_of node s.edges frozen x)) (λ t. let u = part_more x y t in absurd (cc)) (λ e. e) in
+      let before : stands y (part_of node s.edges frozen x) ≡ false = yes_no (stands y (part_of node s.edges frozen x) ≡ false) (stands y (part_of node s.edges frozen x)) (λ t. let u = part_more x y t in absurd (cc)) (λ e. e) in
       let m : (node y).mode ≡ Linked = c.linked x y (then_open x o) h before in
       handed_split (λ (u : Node). u.mode ≡ Linked) s v y (λ _. g.mode y ∙ m)
       (λ at _. dite (ℕ_discrete x v) (λ same. let u : stands y (frozen_part s x) ≡ true = subst (λ (z : ℕ). stands y (frozen_part s z) ≡ true) (sym same) at in absurd (cc)) (λ other. absurd (not_here x y other h at)))

@@ -14,13 +14,13 @@ use Rattle.core_rule.specs.Nodes.{node_in, IsUsed, IsRipe}
 use Rattle.core_rule.specs.Walks.{LeadsTo, IsMetBehind, IsMetIn, IsMetFirst}
 use Rattle.core_rule.proofs.Induction.{kept_all, kept_snoc}
 use Rattle.core_rule.proofs.LeadsOn.{IsLinkedBehind, IsLinkedIn, IsLinkedFirst, leads_same, bucket_leads, head_leads}
-use Rattle.core_rule.proofs.Listed.{value_of}
 use Rattle.core_rule.proofs.LinkWords.{link_words}
 use Rattle.core_rule.proofs.MarkedWords.{marked_link_stays, marked_head_stays}
 use Rattle.core_rule.proofs.MetWords.{ripe_not_met, still_met, key_stays}
 use Rattle.core_rule.proofs.Modes.{Turn, stays, spends, links, takes, frees, IsGoingOn, IsBeginning, turn, closing, stored_was, pass_was}
 use Rattle.core_rule.proofs.Ripe.{ended}
 use Rattle.core_rule.proofs.SpentLinks.{unclosed, linked_leads, head_marked}
+use Rattle.core_rule.proofs.ListParts.{yes_no}
 
 module _ (sizes : Sizes) (journal : List Event) (i : ℕ) (open_ : (pass_in sizes journal i).is_open ≡ true) where
   -- an open pass has met each linked node
@@ -87,7 +87,7 @@ abbrev IsUnstored : Sizes → List Event → Type 0
 IsUnstored sizes journal = (i x : ℕ) → x < sizes.nodes → IsMet sizes journal i x → (node_in sizes journal x).mode ≡ Spent → (node_in sizes journal x).stored ≡ false
 
 unstored_step : (sizes : Sizes) → IsLayout sizes → (past : List Event) (e : Event) → IsKept sizes past → IsUnstored sizes past → Allowed sizes past e → IsUnstored sizes (past ++ e ∷ [])
-unstored_step sizes z past e kept c ok i x within m spent = value_of ((node_in sizes (past ++ e ∷ []) x).stored ≡ false) (node_in sizes (past ++ e ∷ []) x).stored
+unstored_step sizes z past e kept c ok i x within m spent = yes_no ((node_in sizes (past ++ e ∷ []) x).stored ≡ false) (node_in sizes (past ++ e ∷ []) x).stored
     (λ h.
     let b = met_before sizes z past e kept ok i x m spent in
     ⊎_elim
@@ -140,7 +140,7 @@ module _ (sizes : Sizes) (z : IsLayout sizes) (past : List Event) (e : Event) (k
       by b (frees _ h) = absurd (cc)
 
   met_list : (i x : ℕ) → x < sizes.nodes → IsMet sizes after i x → (node_in sizes after x).mode ≡ Spent → (node_in sizes after x).vertex ≡ true → LeadsTo (word_at sizes after (second_at sizes x)) (IsMetIn sizes after i x)
-  met_list i x within m spent vertex = value_of (LeadsTo (word_at sizes after (second_at sizes x)) (IsMetIn sizes after i x)) ((state sizes after).frozen x)
+  met_list i x within m spent vertex = yes_no (LeadsTo (word_at sizes after (second_at sizes x)) (IsMetIn sizes after i x)) ((state sizes after).frozen x)
       (λ h. by h (met_before sizes z past e kept ok i x m spent) (turn sizes z past e kept ok x))
       (λ open_. leads_same (word_at sizes after (second_at sizes x)) (word_at sizes after (second_at sizes x)) (IsLinkedIn sizes after x) (IsMetIn sizes after i x) refl (met_inside sizes after i m.pass x) (head_leads sizes z after kept_after x within (subst IsUsed (sym spent) tt) vertex open_))
     where
@@ -148,7 +148,7 @@ module _ (sizes : Sizes) (z : IsLayout sizes) (past : List Event) (e : Event) (k
       by h b (stays k _ t v) =
           let was : (node_in sizes past x).mode ≡ Spent = sym k ∙ spent in
           let kind : (node_in sizes past x).vertex ≡ true = sym v ∙ vertex in
-          value_of (LeadsTo (word_at sizes after (second_at sizes x)) (IsMetIn sizes after i x)) ((state sizes past).frozen x)
+          yes_no (LeadsTo (word_at sizes after (second_at sizes x)) (IsMetIn sizes after i x)) ((state sizes past).frozen x)
           (λ closed.
           let same = marked_head_stays sizes z x past after (prefix_snoc past e) kept_after (λ f. absurd (cc)) (head_marked sizes z past kept x within was kind closed) t in
           leads_same (word_at sizes past (second_at sizes x)) (word_at sizes after (second_at sizes x)) (IsMetIn sizes past i x) (IsMetIn sizes after i x) (ap index_of same)

@@ -13,19 +13,19 @@ use Rattle.core_rule.specs.Walks.{LeadsTo, IsNoEarlier, SpentLinks}
 use Rattle.core_rule.proofs.Contents.{contents}
 use Rattle.core_rule.proofs.Induction.{kept_all, kept_snoc}
 use Rattle.core_rule.proofs.LeadsOn.{IsLinkedBehind, IsLinkedIn, leads_same, vertex_leads, edge_leads, head_leads}
-use Rattle.core_rule.proofs.Listed.{value_of}
 use Rattle.core_rule.proofs.LinkWords.{link_words}
 use Rattle.core_rule.proofs.MarkedWords.{marked_link_stays, marked_head_stays}
 use Rattle.core_rule.proofs.Modes.{Turn, stays, spends, links, takes, frees, turn, closing, unstored_was, ends_on}
 use Rattle.core_rule.proofs.Placed.{used_there}
 use Rattle.core_rule.proofs.Ripe.{ended}
+use Rattle.core_rule.proofs.ListParts.{yes_no}
 
 -- the list of a linked vertex isn't closed
 abbrev IsUnclosed : Sizes → List Event → Type 0
 IsUnclosed sizes journal = (x : ℕ) → (node_in sizes journal x).mode ≡ Linked → (state sizes journal).frozen x ≡ false
 
 unclosed_step : (sizes : Sizes) → IsLayout sizes → (past : List Event) (e : Event) → IsKept sizes past → IsUnclosed sizes past → Allowed sizes past e → IsUnclosed sizes (past ++ e ∷ [])
-unclosed_step sizes z past e kept c ok x linked = value_of ((state sizes (past ++ e ∷ [])).frozen x ≡ false) ((state sizes (past ++ e ∷ [])).frozen x)
+unclosed_step sizes z past e kept c ok x linked = yes_no ((state sizes (past ++ e ∷ [])).frozen x ≡ false) ((state sizes (past ++ e ∷ [])).frozen x)
     (λ h. absurd (by h (turn sizes z past e kept ok x))) (λ h. h)
   where
     not_spent : (state sizes past).frozen x ≡ false → (state sizes (past ++ e ∷ [])).frozen x ≡ true → (node_in sizes past x).mode ≢ Spent → ⊥
@@ -46,7 +46,7 @@ unclosed sizes z journal kept = kept_all sizes (IsUnclosed sizes) (unclosed_step
 
 -- the link of a linked node
 pub linked_leads : (sizes : Sizes) → IsLayout sizes → (journal : List Event) → IsKept sizes journal → (x : ℕ) → x < sizes.nodes → (node_in sizes journal x).mode ≡ Linked → LeadsTo (word_at sizes journal (link_at sizes x)) (IsLinkedBehind sizes journal x)
-linked_leads sizes z journal kept x within linked = value_of (LeadsTo (word_at sizes journal (link_at sizes x)) (IsLinkedBehind sizes journal x)) (node_in sizes journal x).vertex
+linked_leads sizes z journal kept x within linked = yes_no (LeadsTo (word_at sizes journal (link_at sizes x)) (IsLinkedBehind sizes journal x)) (node_in sizes journal x).vertex
     (λ t. vertex_leads sizes z journal kept x record { linked = linked; vertex = t })
     (λ f. edge_leads sizes z journal kept x within record { linked = linked; edge = f })
 
@@ -103,7 +103,7 @@ module _ (sizes : Sizes) (z : IsLayout sizes) (past : List Event) (e : Event) (k
       leads_same (word_at sizes past (second_at sizes x)) (word_at sizes after (second_at sizes x)) (IsLinkedIn sizes past x) (IsNoEarlier sizes after x) d.leads (λ y d. linked_later x y d.there d.linked) (head_leads sizes z past kept x within (subst IsUsed (sym d.spent) tt) vertex open_)
 
   spent_list : SpentLinks sizes past → (x : ℕ) → x < sizes.nodes → (node_in sizes after x).mode ≡ Spent → (node_in sizes after x).vertex ≡ true → LeadsTo (word_at sizes after (second_at sizes x)) (IsNoEarlier sizes after x)
-  spent_list c x within spent vertex = value_of (LeadsTo (word_at sizes after (second_at sizes x)) (IsNoEarlier sizes after x)) ((state sizes after).frozen x)
+  spent_list c x within spent vertex = yes_no (LeadsTo (word_at sizes after (second_at sizes x)) (IsNoEarlier sizes after x)) ((state sizes after).frozen x)
       (λ h. by h (turn sizes z past e kept ok x))
       (λ open_. leads_same (word_at sizes after (second_at sizes x)) (word_at sizes after (second_at sizes x)) (IsLinkedIn sizes after x) (IsNoEarlier sizes after x) refl (λ y d. record { there = d.there; later = inl d.linked }) (head_leads sizes z after kept_after x within (subst IsUsed (sym spent) tt) vertex open_))
     where
@@ -111,7 +111,7 @@ module _ (sizes : Sizes) (z : IsLayout sizes) (past : List Event) (e : Event) (k
       by h (stays m q t v) =
           let was : (node_in sizes past x).mode ≡ Spent = sym m ∙ spent in
           let kind : (node_in sizes past x).vertex ≡ true = sym v ∙ vertex in
-          value_of (LeadsTo (word_at sizes after (second_at sizes x)) (IsNoEarlier sizes after x)) ((state sizes past).frozen x)
+          yes_no (LeadsTo (word_at sizes after (second_at sizes x)) (IsNoEarlier sizes after x)) ((state sizes past).frozen x)
           (λ closed.
           let same = marked_head_stays sizes z x past after (prefix_snoc past e) kept_after (λ f. absurd (cc)) (head_marked sizes z past kept x within was kind closed) t in
           leads_same (word_at sizes past (second_at sizes x)) (word_at sizes after (second_at sizes x)) (IsNoEarlier sizes past x) (IsNoEarlier sizes after x) (ap index_of same) (λ y d. still_later x y q d) (c.list x within was kind))

@@ -15,6 +15,7 @@ use Rattle.core_rule.proofs.Steps.{Keeps, put_case, handed_case, marked_state, c
 use Rattle.core_rule.proofs.Announcements.{announcements}
 use Rattle.core_rule.proofs.LinkWords.{taken}
 use Rattle.core_rule.proofs.Ripe.{ripe_before}
+use Rattle.core_journal.proofs.States.{counted_by}
 
 -- a node says what another says of a life: its tag, and what was linked in it
 pub record IsSameLinked (n v : Node) : Type 0 where
@@ -71,13 +72,6 @@ record IsStaying (caller x : ℕ) (n : Node) (since : ℕ) (s : State) : Type 0 
   pub low : since < s.count
   pub here : (s.pass caller).is_open ≡ true → (s.pass caller).since ≡ since → IsHere n since (s.node x)
 
-counts_on : (k : Kind) (sizes : Sizes) (e : Event) (s : State) → (state_by k sizes e s).count ≡ s.count + 1
-counts_on PopFree sizes e s = refl
-counts_on MarkEdge sizes e s = refl
-counts_on FreezeEdge sizes e s = refl
-counts_on FreezeHead sizes e s = refl
-counts_on _ sizes e s = refl
-
 staying_step : (sizes : Sizes) → IsLayout sizes → (caller x : ℕ) (n : Node) (since : ℕ) → Keeps sizes (λ (s : State) (w : ℕ → ℕ). IsStaying caller x n since s)
 staying_step sizes z caller x n since past e kept c Announce by ok w a = record {
   low = omega (arith, c.low);
@@ -88,7 +82,7 @@ staying_step sizes z caller x n since past e kept c Withdraw by ok w a = record 
   here = put_case (λ (q : Pass). q.is_open ≡ true → q.since ≡ since → IsHere n since (node_in sizes past x)) e.caller _ (state sizes past).pass caller (λ _ o _. absurd (cc)) (λ _. c.here);
 }
 staying_step sizes z caller x n since past e kept c k by ok w a = record {
-  low = omega (arith, c.low, counts_on k sizes e (state sizes past));
+  low = omega (arith, c.low, counted_by k sizes e (state sizes past));
   here = λ o is. here_by n since k sizes z past e kept ok caller x o is c.low (c.here o is);
 }
 
