@@ -31,7 +31,7 @@ const CALLERS: u32 = 16;
 /// Runs the words on the source and writes to the sink. `run` and `replay` read the source to its end and
 /// write one line per row, in input order, and then the lines of the final graph. O(n log n) for n rows
 /// that add, remove and look up, beside one look-up for each vertex at each removal of a vertex where edges
-/// are left, and O((vertices + edges) log vertices) for each row of `reach` or `levels`.
+/// are left, and O((vertices + edges) log vertices) for each row of `reach`, `levels` or `cheapest`.
 ///
 /// # Errors
 /// `Usage` exactly where the words are no command, with the first fault from the left, or with

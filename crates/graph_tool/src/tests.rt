@@ -37,16 +37,17 @@ fn run_on<R: Threads + Sync + AllocGlobal>(
     Ok((status, sink))
 }
 
-const ROW_2: &[u8] = b"0,add-vertex,5,,\n0,add-vertex,5,,\n0,has-vertex,5,,\n0,remove-vertex,5,,\n\
+const VERTEX_ROWS: &[u8] =
+    b"0,add-vertex,5,,\n0,add-vertex,5,,\n0,has-vertex,5,,\n0,remove-vertex,5,,\n\
     0,remove-vertex,5,,\n0,has-vertex,5,,\n";
 
-const ROW_2_TEXT: &[u8] = b"added\npresent\nyes\nremoved\nabsent\nno\nvertices\n";
+const VERTEX_ROWS_TEXT: &[u8] = b"added\npresent\nyes\nremoved\nabsent\nno\nvertices\n";
 
 #[test]
 fn worked_rows_give_their_lines(rt: HostRuntime) -> Result<(), Fail> {
     let rows = [
         (b"".as_slice(), b"vertices\n".as_slice()),
-        (ROW_2, ROW_2_TEXT),
+        (VERTEX_ROWS, VERTEX_ROWS_TEXT),
         (
             b"0,add-edge,1,2,5\n0,add-vertex,2,,\n0,add-edge,1,2,5\n0,add-edge,2,1,5\n".as_slice(),
             b"no vertex\nadded\nno vertex\nno vertex\nvertices 2\n".as_slice(),
@@ -264,9 +265,11 @@ fn four_callers_ask_for_their_chains(rt: HostRuntime) -> Result<(), Fail> {
         text.as_bytes().iter().filter(|b| **b == b'\n').count(),
         217
     );
-    let (status, sink) = run_on(&rt, &["replay"], input.as_bytes())?;
-    assert_eq!(rt; status, Status::Done);
-    assert_eq!(rt; sink.bytes(), text.as_bytes());
+    for command in ["run", "replay"] {
+        let (status, sink) = run_on(&rt, &[command], input.as_bytes())?;
+        assert_eq!(rt; status, Status::Done);
+        assert_eq!(rt; sink.bytes(), text.as_bytes());
+    }
     Ok(())
 }
 
@@ -315,7 +318,7 @@ fn faulty_words_are_refused(rt: HostRuntime) -> Result<(), Fail> {
         ),
     ];
     for (words, cause) in &cases {
-        let (status, sink) = run_on(&rt, words, ROW_2)?;
+        let (status, sink) = run_on(&rt, words, VERTEX_ROWS)?;
         assert_eq!(rt; status, Status::Usage(*cause), "{words:?}");
         assert_eq!(rt; sink.bytes(), b"".as_slice());
     }
@@ -403,18 +406,21 @@ fn failing_streams_end_the_run(rt: HostRuntime) -> Result<(), Fail> {
     let alloc = rt.alloc();
     let words = words_of(&rt, &["run"])?;
     for failing in 1..29u32 {
-        let mut source = MemSource::new(ROW_2.to_vec(alloc)?, 4, [failing].to_vec(alloc)?);
+        let mut source = MemSource::new(VERTEX_ROWS.to_vec(alloc)?, 4, [failing].to_vec(alloc)?);
         let mut sink = MemSink::new(alloc, ROOM, ROOM, Vec::new(alloc))?;
         let status = graph_main(&rt, alloc, words.as_slice(), &mut source, &mut sink);
         assert_eq!(rt; status, Status::ReadFault, "at read {failing}");
         assert_eq!(rt; sink.bytes(), b"".as_slice());
     }
     for failing in 1..46u32 {
-        let mut source = MemSource::new(ROW_2.to_vec(alloc)?, ROOM, Vec::new(alloc));
+        let mut source = MemSource::new(VERTEX_ROWS.to_vec(alloc)?, ROOM, Vec::new(alloc));
         let mut sink = MemSink::new(alloc, ROOM, 1, [failing].to_vec(alloc)?)?;
         let status = graph_main(&rt, alloc, words.as_slice(), &mut source, &mut sink);
         assert_eq!(rt; status, Status::WriteFault, "at write {failing}");
-        assert!(rt; ROW_2_TEXT.starts_with(sink.bytes()), "at write {failing}");
+        assert!(rt;
+            VERTEX_ROWS_TEXT.starts_with(sink.bytes()),
+            "at write {failing}"
+        );
         assert_eq!(rt; sink.bytes().len() as u32 + 1, failing);
     }
     Ok(())
@@ -424,11 +430,11 @@ fn failing_streams_end_the_run(rt: HostRuntime) -> Result<(), Fail> {
 fn the_third_write_and_the_second_read_fail(rt: HostRuntime) -> Result<(), Fail> {
     let alloc = rt.alloc();
     let words = words_of(&rt, &["run"])?;
-    let mut source = MemSource::new(ROW_2.to_vec(alloc)?, ROOM, Vec::new(alloc));
+    let mut source = MemSource::new(VERTEX_ROWS.to_vec(alloc)?, ROOM, Vec::new(alloc));
     let mut sink = MemSink::new(alloc, ROOM, 1, [3].to_vec(alloc)?)?;
     let status = graph_main(&rt, alloc, words.as_slice(), &mut source, &mut sink);
     assert_eq!(rt; (status.number(), sink.bytes()), (5, b"ad".as_slice()));
-    let mut source = MemSource::new(ROW_2.to_vec(alloc)?, 16, [2].to_vec(alloc)?);
+    let mut source = MemSource::new(VERTEX_ROWS.to_vec(alloc)?, 16, [2].to_vec(alloc)?);
     let mut sink = MemSink::new(alloc, ROOM, ROOM, Vec::new(alloc))?;
     let status = graph_main(&rt, alloc, words.as_slice(), &mut source, &mut sink);
     assert_eq!(rt; (status.number(), sink.bytes()), (4, b"".as_slice()));

@@ -1,4 +1,5 @@
 -- A search by cost (Dijkstra 1959): rows are settled by rising cost, and the edges of a settled row are followed.
+-- The states are those of `states_of`: 0 not met, 1 settled, 2 waiting.
 use Rattle.std.specs.Prelude.{◌≡◌, ◌≢◌, ℕ, ◌+◌, ◌-◌, ◌*◌, ◌^◌, ◌<◌, ◌≤◌, List, Some, length, slice_index}
 use Rattle.graph_kinds.specs.Graph.{IsGraph, weight_of}
 use Rattle.graph_kinds.specs.Path.{IsPath, cost_of, least_cost, IsKeyBefore}
@@ -49,7 +50,7 @@ pub record IsReached (s : ScanValue) (y : ℕ) : Type 0 where
 -- the state of a search: row 0 is met and costs nothing; each row that is met is reached, and but for row 0 has a
 -- parent; a settled row costs no more than one that waits; no row costs more than the greatest weight for each row
 -- that is settled; and each pair of a settled row was followed, but for the pairs of one row
-pub record IsSearchBut (s : ScanValue) (open_row : ℕ) : Type 0 where
+pub record IsSearchBut (s : ScanValue) (left_out : ℕ) : Type 0 where
   pub graph : IsGraph (graph_of_scan s)
   pub root : 1 ≤ state_of s 0
   pub root_cost : row_cost s 0 ≡ 0
@@ -57,7 +58,7 @@ pub record IsSearchBut (s : ScanValue) (open_row : ℕ) : Type 0 where
   pub parents : (y : ℕ) → 0 < y → y < length s.rows → 1 ≤ state_of s y → HasParent s y
   pub ordered : (x y : ℕ) → x < length s.rows → y < length s.rows → state_of s x ≡ 1 → state_of s y ≡ 2 → row_cost s x ≤ row_cost s y
   pub below : (y : ℕ) → y < length s.rows → 1 ≤ state_of s y → row_cost s y ≤ settled_count s * greatest_weight
-  pub followed : (x y w : ℕ) → x < length s.rows → y < length s.rows → state_of s x ≡ 1 → x ≢ open_row → HasPair s x y w → IsFollowed s x y w
+  pub followed : (x y w : ℕ) → x < length s.rows → y < length s.rows → state_of s x ≡ 1 → x ≢ left_out → HasPair s x y w → IsFollowed s x y w
 
 -- the same, with no row left out
 abbrev pub IsSearch : ScanValue → Type 0

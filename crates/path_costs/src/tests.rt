@@ -112,7 +112,7 @@ const TIE: (&[u32], &[(u32, u32, u32)]) = (
 );
 
 /// 10 leads to 20 over 3, 5 and 4, each way of cost 8, and 3 and 5 are reached over 7 as cheaply as by one pair; the
-/// dearest first pair comes last.
+/// pair from 10 that costs most is listed first, and its row is settled last.
 const THREE_WAYS: (&[u32], &[(u32, u32, u32)]) = (
     &[10, 3, 5, 4, 7, 20],
     &[

@@ -1,6 +1,6 @@
 -- What is answered to each call, by look-ups, and what then stands after it.
-use Rattle.std.proofs.Common.{◌≡◌, ℕ, ◌&&◌, Bool, true, false, cond, Option, Result, Ok, Err, refl, sym, ap}
-use Rattle.std.specs.Prelude.{OnOk}
+use Rattle.std.proofs.Common.{◌≡◌, ℕ, ◌<◌, ◌&&◌, Bool, true, false, cond, Option, Some, None, List, Result, Ok, Err, refl, sym, ap, subst}
+use Rattle.std.specs.Prelude.{IfOk, OnOk}
 use Rattle.graph_kinds.specs.declared.call.Call.{Call}
 use Rattle.graph_kinds.specs.declared.call.Call.TheVariants.{AddVertex, RemoveVertex, HasVertex, AddEdge, RemoveEdge, HasEdge, Reach, Levels, Cheapest}
 use Rattle.graph_kinds.specs.declared.outcome.Outcome.{Outcome}
@@ -8,7 +8,9 @@ use Rattle.graph_kinds.specs.declared.outcome.Outcome.TheVariants as out
 use Rattle.graph_kinds.specs.Graph.{Graph, has, weight_of}
 use Rattle.graph_kinds.specs.Levels.{levels_of, reach_path}
 use Rattle.graph_kinds.specs.Path.{least_cost, cheapest_path}
+use Rattle.graph_kinds.specs.declared.answer.Answer.{Answer}
 use Rattle.graph_kinds.specs.Answer.{answer, alters, after, change, plain, on_keys, by_weight, by_path, by_levels, by_cost, is_change}
+use Rattle.plain_graph.specs.Calls.{CostIsBelow}
 
 -- by the outcome, the graph is changed or stays
 pub after_outcome : (g : Graph) (c : Call) (o : Outcome) → plain o ≡ answer g c → cond (is_change o) (change g c) g ≡ after g c
@@ -77,3 +79,51 @@ module _ (g : Graph) (a b : ℕ) (t : Bool) (x : Option ℕ) (both : (has g a &&
   pub answer_has_edge : cond t (by_weight x out.Edge out.NoEdge) (plain out.NoVertex) ≡ answer g (HasEdge a b)
   unfolding answer
   answer_has_edge = on_pair out.Edge out.NoEdge
+
+-- only a cheapest path has a cost
+module _ (limit : ℕ) where
+  plain_either : (b : Bool) (x y : Outcome) → CostIsBelow limit x → CostIsBelow limit y → CostIsBelow limit (cond b x y)
+  plain_either true x y p q = p
+  plain_either false x y p q = q
+
+  either : (b : Bool) (x y : Answer) → CostIsBelow limit x.outcome → CostIsBelow limit y.outcome → CostIsBelow limit (cond b x y).outcome
+  either true x y p q = p
+  either false x y p q = q
+
+  weighted : (o : Option ℕ) (there : ℕ → Outcome) (gone : Outcome) → ((w : ℕ) → CostIsBelow limit (there w)) → CostIsBelow limit gone → CostIsBelow limit (by_weight o there gone).outcome
+  weighted None there gone p q = q
+  weighted (Some w) there gone p q = p w
+
+  path_below : (o : Option (List ℕ)) → CostIsBelow limit (by_path o).outcome
+  path_below None = tt
+  path_below (Some p) = tt
+
+  pub reach_below : (g : Graph) (a b : ℕ) → CostIsBelow limit (answer g (Reach a b)).outcome
+  unfolding answer
+  reach_below g a b = either (has g a && has g b) (by_path (reach_path g a b)) (plain out.NoVertex) (path_below (reach_path g a b)) tt
+
+  pub levels_below : (g : Graph) (a : ℕ) → CostIsBelow limit (answer g (Levels a)).outcome
+  unfolding answer
+  levels_below g a = either (has g a) (by_levels (levels_of g a)) (plain out.NoVertex) tt tt
+
+  pub update_below : (g : Graph) (call : Call) → ((a b : ℕ) → call ≡ Reach a b → ⊥) → ((a : ℕ) → call ≡ Levels a → ⊥) → ((a b : ℕ) → call ≡ Cheapest a b → ⊥) → CostIsBelow limit (answer g call).outcome
+  unfolding answer
+  update_below g (AddVertex k) reach levels cheapest = plain_either (has g k) (out.Present 0) out.Added tt tt
+  update_below g (RemoveVertex k) reach levels cheapest = plain_either (has g k) (out.Removed 0) out.Absent tt tt
+  update_below g (HasVertex k) reach levels cheapest = plain_either (has g k) out.Yes out.No tt tt
+  update_below g (AddEdge a b w) reach levels cheapest = either (has g a && has g b) (by_weight (weight_of g a b) out.Present out.Added) (plain out.NoVertex) (weighted (weight_of g a b) out.Present out.Added (λ _. tt) tt) tt
+  update_below g (RemoveEdge a b) reach levels cheapest = either (has g a && has g b) (by_weight (weight_of g a b) out.Removed out.NoEdge) (plain out.NoVertex) (weighted (weight_of g a b) out.Removed out.NoEdge (λ _. tt) tt) tt
+  update_below g (HasEdge a b) reach levels cheapest = either (has g a && has g b) (by_weight (weight_of g a b) out.Edge out.NoEdge) (plain out.NoVertex) (weighted (weight_of g a b) out.Edge out.NoEdge (λ _. tt) tt) tt
+  update_below g (Reach a b) reach levels cheapest = absurd (reach a b refl)
+  update_below g (Levels a) reach levels cheapest = absurd (levels a refl)
+  update_below g (Cheapest a b) reach levels cheapest = absurd (cheapest a b refl)
+
+  -- an outcome whose cost, if it's one, is below the limit
+  pub outcome_below : (o : Outcome) → ((c : ℕ) → o ≡ out.Cost c → c < limit) → CostIsBelow limit o
+  outcome_below (out.Cost c) h = h c refl
+  outcome_below _ h = tt
+
+  -- where a call succeeded with such an answer
+  pub ok_below : {E : Type 0} (r : Result Answer E) (x : Answer) → IfOk r (λ a. a ≡ x) → CostIsBelow limit x.outcome → IfOk r (λ a. CostIsBelow limit a.outcome)
+  ok_below (Ok a) x e h = subst (λ (y : Answer). CostIsBelow limit y.outcome) (sym e) h
+  ok_below (Err e) x is h = tt

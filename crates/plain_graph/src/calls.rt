@@ -3,10 +3,10 @@
 //! Each call is answered by look-ups on the graph before it, and then makes its change: the definitions are `answer`
 //! and `after` of `graph_kinds`.
 
-ghost use Rattle.std.specs.Prelude.{◌≡◌, ◌+◌, ◌≤◌, ◌<◌, ◌&&◌, IfOk, OnOk, OnErr};
+ghost use Rattle.std.specs.Prelude.{◌≡◌, ◌+◌, ◌≤◌, ◌<◌, ◌^◌, ◌&&◌, IfOk, OnOk, OnErr};
 ghost use Rattle.graph_kinds.specs.Graph.{has, key_count, pair_count, IsGraph};
 ghost use Rattle.graph_kinds.specs.Answer.{IsWellMade, plain, answer, after};
-ghost use Rattle.plain_graph.specs.Calls.{IsAdd};
+ghost use Rattle.plain_graph.specs.Calls.{CostIsBelow, IsAdd};
 ghost use Rattle.graph_kinds.specs.Answer.{IsPathCall};
 ghost use Rattle.scan_record.specs.Asked.{answered};
 
@@ -40,7 +40,7 @@ fn copied(alloc: Global, outcome: Outcome, scan: &Scan) -> Result<Answer, Memory
 impl PlainGraph {
     /// Answers a call, and makes its change. O(log V + log E); `RemoveVertex` costs O(log V) and the vertex's
     /// out-degree where no edge is left behind its own, else one look-up for each vertex, O(V log E). `Reach`,
-    /// `Levels` and `Cheapest` cost O((V + E) log V).
+    /// `Levels` and `Cheapest` cost O((V + E) log V). A cost that is answered is below 2^48.
     ///
     /// # Errors
     /// `Memory` where there is no room for a new vertex or edge, or for the search of a path; the graph is
@@ -49,6 +49,7 @@ impl PlainGraph {
         requires well_made { IsWellMade call.now }
         requires room { IsAdd call.now → key_count self.old + pair_count self.old < 65536 }
         ensures answer { IfOk result (λ a. a ≡ answer self.old call.now) }
+        ensures bounded { IfOk result (λ a. CostIsBelow (2 ^ 48) a.outcome) }
         ensures change { OnOk result (self.new ≡ after self.old call.now) }
         ensures stays { OnErr result (self.new ≡ self.old) }
         ensures sound { IsGraph self.new }
@@ -204,6 +205,7 @@ impl PlainGraph {
     /// The cheapest path by least keys, through a scan of the graph.
     fn cheapest(&self, from: u32, to: u32) -> Result<Answer, Memory>
         ensures answer { IfOk result (λ a. a ≡ answer self.now (Call.Cheapest from to)) }
+        ensures bounded { IfOk result (λ a. CostIsBelow (2 ^ 48) a.outcome) }
         ensures change { OnOk result (self.now ≡ after self.now (Call.Cheapest from to)) }
         ensures sound { IsGraph self.now }
     {

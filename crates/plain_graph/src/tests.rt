@@ -238,26 +238,26 @@ fn a_scan_starts_at_its_root(rt: HostRuntime) -> Result<(), Fail> {
 #[test]
 fn paths_and_levels_come_with_their_keys(rt: HostRuntime) -> Result<(), Fail> {
     let mut rows = Vec::new(rt.alloc());
-    for key in 1..5 {
+    for key in 1..6 {
         rows.push(Row {
             caller: 0,
             call: add_vertex(key),
         })?;
     }
-    for (from, to) in [(1, 2), (1, 3), (2, 4), (4, 1)] {
+    for (from, to, weight) in [(1, 2, 8), (1, 3, 4), (2, 4, 2), (3, 4, 5), (4, 1, 1)] {
         rows.push(Row {
             caller: 0,
-            call: add_edge(from, to, 1),
+            call: add_edge(from, to, weight),
         })?;
     }
-    let asked: [(Call, Outcome, &[u32], &[u32]); 7] = [
+    let asked: [(Call, Outcome, &[u32], &[u32]); 11] = [
         (
             Call::Levels { from: 1 },
             Outcome::Levels(3),
             &[1, 2, 3, 4],
             &[1, 3, 4],
         ),
-        (Call::Levels { from: 3 }, Outcome::Levels(1), &[3], &[1]),
+        (Call::Levels { from: 5 }, Outcome::Levels(1), &[5], &[1]),
         (Call::Levels { from: 9 }, Outcome::NoVertex, &[], &[]),
         (
             Call::Reach { from: 1, to: 4 },
@@ -266,8 +266,27 @@ fn paths_and_levels_come_with_their_keys(rt: HostRuntime) -> Result<(), Fail> {
             &[],
         ),
         (Call::Reach { from: 4, to: 4 }, Outcome::Path, &[4], &[]),
-        (Call::Reach { from: 3, to: 1 }, Outcome::NoPath, &[], &[]),
+        (Call::Reach { from: 5, to: 1 }, Outcome::NoPath, &[], &[]),
         (Call::Reach { from: 1, to: 9 }, Outcome::NoVertex, &[], &[]),
+        (
+            Call::Cheapest { from: 1, to: 4 },
+            Outcome::Cost(9),
+            &[1, 3, 4],
+            &[],
+        ),
+        (
+            Call::Cheapest { from: 4, to: 4 },
+            Outcome::Cost(0),
+            &[4],
+            &[],
+        ),
+        (Call::Cheapest { from: 4, to: 5 }, Outcome::NoPath, &[], &[]),
+        (
+            Call::Cheapest { from: 9, to: 1 },
+            Outcome::NoVertex,
+            &[],
+            &[],
+        ),
     ];
     for (call, _, _, _) in &asked {
         rows.push(Row {
@@ -278,7 +297,7 @@ fn paths_and_levels_come_with_their_keys(rt: HostRuntime) -> Result<(), Fail> {
     assert!(rt; rows.len() <= 65_536 && are_fit(&rows));
     let (answers, graph) = replay(rt.alloc(), &rows)?;
     assert_eq!(rt; answers.len(), rows.len());
-    for (answer, (call, outcome, keys, ends)) in answers.iter().skip(8).zip(&asked) {
+    for (answer, (call, outcome, keys, ends)) in answers.iter().skip(10).zip(&asked) {
         assert_eq!(rt; answer.outcome, *outcome, "at {call:?}");
         assert_eq!(rt; answer.keys.as_slice(), *keys, "at {call:?}");
         assert_eq!(rt; answer.ends.as_slice(), *ends, "at {call:?}");
@@ -286,6 +305,6 @@ fn paths_and_levels_come_with_their_keys(rt: HostRuntime) -> Result<(), Fail> {
     assert_text(
         &rt,
         &graph,
-        "vertices 1 2 3 4\nedge 1 2 1\nedge 1 3 1\nedge 2 4 1\nedge 4 1 1\n",
+        "vertices 1 2 3 4 5\nedge 1 2 8\nedge 1 3 4\nedge 2 4 2\nedge 3 4 5\nedge 4 1 1\n",
     )
 }

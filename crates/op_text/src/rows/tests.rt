@@ -74,7 +74,7 @@ fn causes_come_in_their_order(rt: HostRuntime) {
 fn records_are_rows(rt: HostRuntime) -> Result<(), Fail> {
     let input =
         b"\xEF\xBB\xBF0,add-vertex,0,,\r\n\"1\",remove-vertex,\"7\",,\n\n15,has-vertex,4294967295,,\n\
-        2,add-edge,1,2,3\n3,remove-edge,4,5,\n4,has-edge,6,7,\n5,reach,8,9,\n6,levels,10,,";
+        2,add-edge,1,2,3\n3,remove-edge,4,5,\n4,has-edge,6,7,\n5,reach,8,9,\n6,levels,10,,\n7,cheapest,11,12,";
     let wanted = [
         Row {
             caller: 0,
@@ -111,6 +111,10 @@ fn records_are_rows(rt: HostRuntime) -> Result<(), Fail> {
         Row {
             caller: 6,
             call: Call::Levels { from: 10 },
+        },
+        Row {
+            caller: 7,
+            call: Call::Cheapest { from: 11, to: 12 },
         },
     ];
     let rows = read_rows(rt.alloc(), input, 16)?;

@@ -15,10 +15,13 @@ perform-requires-clause-room c = λ add. omega (arith, c.loop-row.invariant.few,
 pub loop-row-preserved : goal.loop-row-preserved
 loop-row-preserved c =
     let pushed : c.push.new.self.items ≡ c.loop-row.answers.items ++ c.in_ok-answer.answer ∷ [] = search rules in
-    rw pushed (replay_row _ _ _ c.loop-row-test.true _ _ c.loop-row.invariant _ _ c.in_ok-answer.ensures.answer c.in_ok-answer.ensures.change)
+    rw pushed (replay_row _ _ _ c.loop-row-test.true _ _ c.loop-row.invariant _ _ c.in_ok-answer.ensures.answer c.in_ok-answer.ensures.change c.in_ok-answer.ensures.bounded)
 
 pub returns-clause-answers : goal.returns-clause-answers
 returns-clause-answers c = c.loop-row.invariant.answers_given ∙ ap (λ rows. answers empty_graph (calls_of rows)) (take_all _ _ c.loop-row-test.false)
+
+pub returns-clause-bounded : goal.returns-clause-bounded
+returns-clause-bounded c = c.loop-row.invariant.bounded
 
 pub returns-clause-graph : goal.returns-clause-graph
 returns-clause-graph c = c.loop-row.invariant.graph ∙ ap (λ rows. after_all empty_graph (calls_of rows)) (take_all _ _ c.loop-row-test.false)

@@ -2,7 +2,7 @@ use Rattle.std.proofs.Common.{◌≡◌, true, false, sym, subst, ◌∙◌}
 use Rattle.std.specs.Prelude.{IfOk}
 use Rattle.graph_kinds.specs.Path.{least_cost, cheapest_path}
 use Rattle.graph_kinds.specs.Answer.{by_cost}
-use Rattle.plain_graph.proofs.Outcomes.{on_ok, after_cheapest, answer_cheapest}
+use Rattle.plain_graph.proofs.Outcomes.{on_ok, after_cheapest, answer_cheapest, ok_below, outcome_below}
 use Rattle.plain_graph.proofs.graph.PlainGraph.cheapest.Goals as goal
 
 pub returns-then-not-has_both-clause-answer : goal.returns-then-not-has_both-clause-answer
@@ -18,3 +18,6 @@ returns-clause-answer c = subst (λ x. IfOk c.copied.result (λ a. a ≡ x))
 
 pub returns-clause-change : goal.returns-clause-change
 returns-clause-change c = on_ok _ _ (sym (after_cheapest _ _ _))
+
+pub returns-clause-bounded : goal.returns-clause-bounded
+returns-clause-bounded c = ok_below _ c.copied.result _ c.copied.ensures (outcome_below _ _ c.cheapest-outcome.ensures.bounded)
