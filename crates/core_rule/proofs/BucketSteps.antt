@@ -10,7 +10,7 @@ use Rattle.packed_link.proofs.Links.{index_of-pack, index_of-bound}
 use Rattle.core_chain.specs.Chain.{Chain, Position, Head, Node, IsOn, IsChain}
 use Rattle.core_chain.specs.Met.{Meets, IsMet}
 use Rattle.core_chain.specs.Steps.{CanInsert, CanUnlink, Inserts, Joins, Leaves, Marks, Unlinks, Untouched}
-use Rattle.core_chain.specs.Table.{StandsAlone, Writes, chain_in}
+use Rattle.core_chain.specs.Table.{StandsAlone, chain_in}
 use Rattle.core_chain.specs.Walk.{IsBelow}
 use Rattle.core_chain.proofs.Inserts.{IsChain-inserted}
 use Rattle.core_chain.proofs.Marks.{IsChain-marked, IsChain-untouched}

@@ -1,5 +1,5 @@
 -- Each life for which a node was taken is the node's present one, or it has ended, before the node's last end.
-use Rattle.std.proofs.Common.{◌≡◌, ◌≢◌, ℕ, zero, suc, ◌+◌, ◌<◌, ◌≤◌, ◌⊎◌, Bool, true, false, cond, ◌&&◌, ◌||◌, List, [], ◌∷◌, ◌++◌, length, filter, max, Some, refl, sym, ap, ◌∙◌, subst, arith, length-append, ⊎_elim, inl, inr}
+use Rattle.std.proofs.Common.{◌≡◌, ◌≢◌, ℕ, zero, suc, ◌+◌, ◌<◌, ◌≤◌, ◌⊎◌, Bool, true, false, ◌&&◌, ◌||◌, List, [], ◌∷◌, ◌++◌, length, max, Some, refl, sym, ap, ◌∙◌, subst, arith, length-append, ⊎_elim, inl, inr}
 use Rattle.std.specs.Prelude.{slice_get}
 use Rattle.std.specs.List.{list_any}
 use Rattle.graph_kinds.proofs.Calls.{and_left, and_right}
@@ -17,7 +17,7 @@ use Rattle.core_journal.proofs.Lists.{get_here, get_front, get_short}
 use Rattle.core_journal.proofs.KeptLives.{link_more}
 use Rattle.core_journal.proofs.Snoc.{any_skip, same_is}
 use Rattle.core_journal.proofs.States.{state-snoc, count-length}
-use Rattle.core_rule.specs.Counts.{draws, about}
+use Rattle.core_rule.specs.Counts.{draws}
 use Rattle.core_rule.specs.Kept.{Allowed, AllowedAs, IsKept}
 use Rattle.core_rule.specs.Nodes.{node_in, IsUsed}
 use Rattle.core_rule.specs.Facts.{IsLinkOf, IsNamed, Named}

@@ -1,5 +1,5 @@
 -- What an open pass has met stays in its life while the pass is open.
-use Rattle.std.proofs.Common.{◌≡◌, ◌≢◌, ℕ, ◌+◌, ◌<◌, List, true, refl, subst, arith}
+use Rattle.std.proofs.Common.{◌≡◌, ◌≢◌, ℕ, ◌<◌, List, true, refl, subst, arith}
 use Rattle.packed_link.specs.Layout.{Sizes, IsLayout}
 use Rattle.core_journal.specs.declared.event.Kind.{Kind}
 use Rattle.core_journal.specs.declared.event.Kind.TheVariants.{PopFree, LinkVertex, MarkVertex, UnlinkVertex, LinkEdge, MarkEdge, UnlinkEdge, Announce, Withdraw, FreezeHead, FreezeEdge, StoreFree, PushFree}

@@ -2,7 +2,7 @@
 use Rattle.std.proofs.Common.{◌≡◌, ℕ, ◌+◌, ◌-◌, ◌≤◌, inl, inr, List, [], ◌++◌, length, take, drop, refl, sym, ap, ◌∙◌, subst, arith, append_assoc, append-nil, take_all, take-append-drop, drop-drop, take-add, length-drop, length-take-le}
 use Rattle.std.specs.Prelude.{Option, Some, None}
 use Rattle.std.proofs.lemmas.List.{take-append-le}
-use Rattle.graph_kinds.specs.Stream.{Rose, Puts, PutsSome, Takes}
+use Rattle.graph_kinds.specs.Stream.{Rose, Puts, Takes}
 
 -- nothing is put
 pub puts-none : (a : Option (List ℕ)) → Puts a a []

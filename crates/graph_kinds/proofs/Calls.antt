@@ -1,7 +1,6 @@
 -- What calls answer and change: plain outcomes, valid graphs, counts, and a replay that is legal.
-use Rattle.std.proofs.Common.{◌≡◌, ◌≢◌, ℕ, ◌+◌, ◌-◌, ◌≤◌, ◌<◌, Bool, true, false, cond, not, ◌&&◌, ◌||◌, ◌==◌, List, [], ◌∷◌, length, Option, Some, None, refl, sym, ap, ◌∙◌, true≢false, arith, ne_eqb, eqb-true, subst}
+use Rattle.std.proofs.Common.{◌≡◌, ℕ, ◌+◌, ◌-◌, ◌≤◌, Bool, true, false, cond, not, ◌&&◌, ◌||◌, ◌==◌, List, [], ◌∷◌, length, Option, Some, None, refl, sym, ap, ◌∙◌, true≢false, arith, eqb-true, subst}
 use Rattle.std.specs.Prelude.{is_some, suc}
-use Rattle.std.specs.Ordering.{nat_cmp}
 use Rattle.std.specs.Cmp.{nat_cmp_total}
 use Rattle.std.specs.FinMap as map
 use Rattle.std.specs.FinSet as set
@@ -15,8 +14,8 @@ use Rattle.graph_kinds.specs.Graph.{Graph, IsGraph, pair_cmp, empty_graph, has, 
 use Rattle.graph_kinds.specs.Answer.{IsWellMade, answer, alters, needs_node, after, change, without, is_change, is_added, plain, by_weight, on_keys, by_path, by_levels, by_cost, answers, after_all}
 use Rattle.graph_kinds.specs.Levels.{reach_path, levels_of}
 use Rattle.graph_kinds.specs.Path.{least_cost, cheapest_path}
-use Rattle.graph_kinds.specs.History.{Item, Demand, Meets, LegalFrom, left_by, next, answered, calls_of, item_by}
-use Rattle.graph_kinds.proofs.Graphs.{pair_total, pair_same, same_graph, has_put, has_cut, weight_put, weight_cut, weight_kept, len-retain_keys}
+use Rattle.graph_kinds.specs.History.{Item, Demand, LegalFrom, left_by, answered, calls_of, item_by}
+use Rattle.graph_kinds.proofs.Graphs.{pair_total, same_graph, has_put, has_cut, weight_put, weight_cut, weight_kept, len-retain_keys}
 
 or_true : (b : Bool) → (b || true) ≡ true
 or_true true = refl

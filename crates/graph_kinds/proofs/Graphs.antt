@@ -1,22 +1,14 @@
 -- What graphs are by their look-ups, and what calls change.
-use Rattle.std.proofs.Common.{◌≡◌, ◌≢◌, ℕ, ◌+◌, ◌-◌, ◌≤◌, ◌<◌, Bool, true, false, cond, not, ◌&&◌, ◌||◌, ◌==◌, List, [], ◌∷◌, length, Option, Some, None, refl, sym, ap, ◌∙◌, true≢false, arith, ne_eqb, eqb-true, subst}
-use Rattle.std.specs.Prelude.{T, is_some, filter}
+use Rattle.std.proofs.Common.{◌≡◌, ℕ, ◌≤◌, Bool, true, false, cond, not, ◌&&◌, ◌||◌, ◌==◌, List, [], ◌∷◌, length, Some, None, refl, sym, ap, ◌∙◌, arith}
+use Rattle.std.specs.Prelude.{filter}
 use Rattle.std.specs.declared.cmp.Ordering.{Ordering}
 use Rattle.std.specs.declared.cmp.Ordering.TheVariants.{Less, Equal, Greater}
 use Rattle.std.specs.Ordering.{nat_cmp, eq_by_cmp, ordering_then, is_eq}
-use Rattle.std.specs.Cmp.{IsTotalOrder, then_total, on_total, nat_cmp_total, tied_itself, Equal-is, unsigned_tied}
+use Rattle.std.specs.Cmp.{IsTotalOrder, then_total, on_total, nat_cmp_total, unsigned_tied}
 use Rattle.std.specs.FinMap as map
 use Rattle.std.specs.FinMap.Entries as entry
 use Rattle.std.specs.FinSet as set
-use Rattle.graph_kinds.specs.declared.call.Call.{Call}
-use Rattle.graph_kinds.specs.declared.call.Call.TheVariants.{AddVertex, RemoveVertex, HasVertex, AddEdge, RemoveEdge, HasEdge, Reach, Levels, Cheapest}
-use Rattle.graph_kinds.specs.declared.outcome.Outcome.{Outcome}
-use Rattle.graph_kinds.specs.declared.outcome.Outcome.TheVariants as out
-use Rattle.graph_kinds.specs.declared.answer.Answer.{Answer}
-use Rattle.graph_kinds.specs.Graph.{Graph, IsGraph, pair_cmp, empty_graph, has, weight_of, key_count, pair_count}
-use Rattle.graph_kinds.specs.Answer.{IsWellMade, answer, alters, needs_node, after, change, without, is_change, is_added, plain, by_weight, on_keys, by_path, by_levels, by_cost}
-use Rattle.graph_kinds.specs.Levels.{reach_path, levels_of}
-use Rattle.graph_kinds.specs.Path.{least_cost, cheapest_path}
+use Rattle.graph_kinds.specs.Graph.{Graph, pair_cmp, has, weight_of}
 
 pub pair_total : IsTotalOrder pair_cmp
 pair_total = then_total (on_total (λ (p : ℕ × ℕ). p.0) nat_cmp_total) (on_total (λ (p : ℕ × ℕ). p.1) nat_cmp_total)

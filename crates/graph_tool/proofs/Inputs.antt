@@ -1,11 +1,9 @@
 -- What was taken of a source that tells its bytes is one list.
-use Rattle.std.proofs.Common.{◌≡◌, ◌≢◌, ℕ, ◌+◌, ◌≤◌, Bool, true, false, List, ◌++◌, length, refl, sym, ap, ◌∙◌, arith, length-append, true≢false}
-use Rattle.std.specs.Prelude.{Option, Some, None, IfSome, Ok, Err}
-use Rattle.graph_kinds.specs.Stream.{Rose, Takes, TakesMany}
-use Rattle.op_text.specs.Rows.{rows}
-use Rattle.op_text.specs.declared.rows.RowCause.{RowCause}
+use Rattle.std.proofs.Common.{◌≡◌, ℕ, ◌+◌, Bool, List, length, sym, ap, ◌∙◌, arith, length-append}
+use Rattle.std.specs.Prelude.{Option, Some, None, IfSome}
+use Rattle.graph_kinds.specs.Stream.{Takes, TakesMany}
 use Rattle.graph_tool.specs.Input.{TakesAtMost, most_bytes}
-use Rattle.graph_tool.specs.Run.{IsRefused, callers}
+use Rattle.graph_tool.specs.Run.{IsRefused}
 use Rattle.graph_tool.specs.Status.{UnlessMemory}
 use Rattle.graph_tool.specs.declared.status.Status.{Status}
 use Rattle.graph_tool.specs.declared.status.Status.TheVariants.{Done, Usage, BadRow, ReadFault, WriteFault, Memory}

@@ -1,14 +1,14 @@
 -- What is written for rows is what their command asks.
-use Rattle.std.proofs.Common.{◌≡◌, ℕ, ◌+◌, ◌<◌, ◌≤◌, List, [], ◌∷◌, length, get_or, refl, sym, ap, ◌∙◌, subst, arith}
-use Rattle.std.specs.Prelude.{Option, Some, None, IfSome, Ok, Err, zero, suc}
+use Rattle.std.proofs.Common.{◌≡◌, ℕ, ◌+◌, ◌<◌, List, [], ◌∷◌, length, get_or, refl, sym, subst, arith}
+use Rattle.std.specs.Prelude.{Option, Some, None, IfSome, Ok, zero, suc}
 use Rattle.std.specs.Prelude.{All}
 use Rattle.graph_kinds.specs.declared.call.Call.{Call}
 use Rattle.graph_kinds.specs.declared.call.Row.{Row}
 use Rattle.graph_kinds.specs.declared.answer.Answer.{Answer}
 use Rattle.graph_kinds.specs.Graph.{Graph, empty_graph}
-use Rattle.graph_kinds.specs.Answer.{answer, after, answers, after_all}
-use Rattle.graph_kinds.specs.History.{IsInterleaving, IsLegal, answered, calls_of}
-use Rattle.graph_kinds.specs.Stream.{Puts, PutsSome, TakesMany}
+use Rattle.graph_kinds.specs.Answer.{after, answers, after_all}
+use Rattle.graph_kinds.specs.History.{answered, calls_of}
+use Rattle.graph_kinds.specs.Stream.{TakesMany}
 use Rattle.graph_kinds.proofs.Calls.{replay_legal, length-answers}
 use Rattle.op_text.specs.Text.{IsShown, text}
 use Rattle.op_text.specs.Rows.{rows}
@@ -17,7 +17,7 @@ use Rattle.std.specs.declared.string.String.{String}
 use Rattle.std.proofs.Common.{Global}
 use Rattle.graph_tool.specs.Command.{command_of}
 use Rattle.graph_tool.specs.Input.{TakesAtMost, most_bytes}
-use Rattle.graph_tool.specs.Run.{Asks, IsRun, Writes, replayed, callers}
+use Rattle.graph_tool.specs.Run.{Asks, Writes, replayed, callers}
 use Rattle.graph_tool.specs.declared.command.Command.{Command}
 use Rattle.graph_tool.specs.declared.command.Command.TheVariants.{Run, Replay}
 use Rattle.graph_tool.proofs.Inputs.{too_many}

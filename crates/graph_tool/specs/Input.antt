@@ -1,8 +1,8 @@
 -- Words on what reading an input answered.
-use Rattle.std.specs.Prelude.{◌≡◌, ℕ, ◌≤◌, List, length, Option, Result, Ok, Err}
+use Rattle.std.specs.Prelude.{ℕ, ◌≤◌, List, length, Option, Result, Err}
 use Rattle.graph_kinds.specs.Stream.{Takes}
 use Rattle.graph_tool.specs.declared.input.InputFault.{InputFault}
-use Rattle.graph_tool.specs.declared.input.InputFault.TheVariants.{TooLong, Failed, Memory}
+use Rattle.graph_tool.specs.declared.input.InputFault.TheVariants.{TooLong, Failed}
 
 -- the most bytes of one input
 abbrev pub most_bytes : ℕ

@@ -1,5 +1,5 @@
 -- What a command writes for the rows of its input.
-use Rattle.std.specs.Prelude.{◌≡◌, ℕ, List, Option, Some, Result, Ok, Err, IsOk, IfSome, true, false, ◌+◌, Bool}
+use Rattle.std.specs.Prelude.{◌≡◌, ℕ, List, Option, Ok, Err, IsOk, IfSome, true, false, ◌+◌, Bool}
 use Rattle.std.specs.declared.string.String.{String}
 use Rattle.std.proofs.Common.{Global}
 use Rattle.graph_kinds.specs.declared.call.Row.{Row}

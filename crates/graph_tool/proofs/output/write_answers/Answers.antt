@@ -1,8 +1,6 @@
-use Rattle.std.proofs.Common.{◌≡◌, ◌+◌, ◌<◌, length, take, drop, get_or, ◌++◌, ap, ◌∙◌, arith, take_all}
+use Rattle.std.proofs.Common.{◌≡◌, ◌+◌, take, drop, ◌++◌, ap, ◌∙◌, arith, take_all}
 use Rattle.graph_kinds.specs.declared.answer.Answer.{Answer}
-use Rattle.op_text.specs.Gives.{Gives}
 use Rattle.op_text.specs.Text.{answer_line, answer_lines}
-use Rattle.op_text.specs.declared.write.WriteFailed.{WriteFailed}
 use Rattle.op_text.proofs.TextWrites.{gives-then, gives-stop, gives-as}
 use Rattle.graph_tool.proofs.Lines.{flat_map-more, flat_map-split}
 use Rattle.graph_tool.proofs.output.write_answers.Goals as goal

@@ -1,4 +1,4 @@
-use Rattle.std.proofs.Common.{◌≤◌, length, take}
+use Rattle.std.proofs.Common.{take}
 use Rattle.std.specs.Prelude.{Ok}
 use Rattle.op_text.specs.Gives.{Gives}
 use Rattle.op_text.specs.Text.{answer_lines}

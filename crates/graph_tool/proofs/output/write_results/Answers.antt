@@ -1,4 +1,3 @@
-use Rattle.op_text.specs.Gives.{Gives}
 use Rattle.op_text.proofs.TextWrites.{gives-then}
 use Rattle.graph_tool.proofs.output.write_results.Goals as goal
 

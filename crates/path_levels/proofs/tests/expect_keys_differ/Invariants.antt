@@ -1,4 +1,4 @@
-use Rattle.std.proofs.Common.{◌≡◌, ◌≢◌, ℕ, ◌<◌}
+use Rattle.std.proofs.Common.{◌≢◌, ℕ, ◌<◌}
 use Rattle.scan_record.specs.Scan.{row_at}
 use Rattle.path_levels.proofs.tests.expect_keys_differ.Given as goal
 

@@ -1,4 +1,4 @@
-use Rattle.std.proofs.Common.{◌≡◌, ℕ, ◌+◌, ◌-◌, ◌<◌, List, [], ◌∷◌, ◌++◌, length, take, reverse, get_or, append-nil, sym, ap, ◌∙◌, arith, length-append}
+use Rattle.std.proofs.Common.{◌≡◌, ℕ, ◌+◌, ◌-◌, ◌<◌, List, [], ◌∷◌, ◌++◌, length, take, reverse, get_or, sym, ap, ◌∙◌, arith, length-append}
 use Rattle.scan_record.specs.Scan.{ScanValue, slot_of}
 use Rattle.scan_record.proofs.Gathered.{written_next, slot_kept, slot_long}
 use Rattle.scan_record.proofs.back.write_back.Goals as goal
