@@ -23,7 +23,7 @@ use Rattle.core_rule.specs.Counts.{raises, raised}
 use Rattle.core_rule.specs.Edges.{IsLinkEdge, IsRaisedFor}
 use Rattle.core_rule.specs.Kept.{Allowed, AllowedAs, KeptFrom, IsKept}
 use Rattle.core_rule.specs.Nodes.{node_in, IsUsed, IsVertex, IsLinkedEdge}
-use Rattle.core_rule.specs.Facts.{IsMet}
+use Rattle.core_rule.specs.Facts.{HasMet}
 use Rattle.core_rule.specs.Raised.{IsLinkedLower}
 use Rattle.core_rule.proofs.MetBehind.{met_unstored}
 use Rattle.core_rule.proofs.Induction.{kept_front}
@@ -246,7 +246,7 @@ counter_rises sizes z x front journal p kept fresh tag =
     (holds_onward sizes P (no_less_step sizes z x (node_in sizes front x).tag (word_at sizes front (third_at sizes x))) front journal p kept record { low = omega arith; fresh = λ _. fresh; no_less = λ _. omega arith }).no_less tag
 
 -- what a pass has met isn't stored for the free list
-pub unstored_met : (sizes : Sizes) → IsLayout sizes → (journal : List Event) → IsKept sizes journal → (caller x : ℕ) → x < sizes.nodes → IsMet sizes journal caller x → (node_in sizes journal x).stored ≡ false
+pub unstored_met : (sizes : Sizes) → IsLayout sizes → (journal : List Event) → IsKept sizes journal → (caller x : ℕ) → x < sizes.nodes → HasMet sizes journal caller x → (node_in sizes journal x).stored ≡ false
 unstored_met sizes z journal kept caller x there m = by (node_in sizes journal x).mode refl
   where
     by : (k : Mode) → (node_in sizes journal x).mode ≡ k → (node_in sizes journal x).stored ≡ false
@@ -257,7 +257,7 @@ unstored_met sizes z journal kept caller x there m = by (node_in sizes journal x
 
 -- in a pass that has met the source, in which a caller raised the counter for an edge
 pub met_lower : (sizes : Sizes) → IsLayout sizes → (journal : List Event) → IsKept sizes journal → (caller : ℕ) (x : Life) (link : Event) → link_of journal x ≡ Some link → IsVertex sizes journal link.source
-    → IsMet sizes journal caller link.source.index → IsRaisedFor sizes journal caller x link.source → IsLinkedLower sizes journal (length journal) link × ((node_in sizes journal link.source.index).stored ≡ false)
+    → HasMet sizes journal caller link.source.index → IsRaisedFor sizes journal caller x link.source → IsLinkedLower sizes journal (length journal) link × ((node_in sizes journal link.source.index).stored ≡ false)
 met_lower sizes z journal kept caller x link is vertex m r =
     let whole : take (length journal) journal ≡ journal = take-length journal in
     let was : link_of (take (length journal) journal) x ≡ Some link = ap (λ (l : List Event). link_of l x) whole ∙ is in (

@@ -10,7 +10,7 @@ use Rattle.core_journal.specs.Prefix.{IsPrefix}
 use Rattle.core_journal.specs.Reuse.{pass_in}
 use Rattle.core_journal.specs.State.{Linked, state}
 use Rattle.core_journal.specs.Worked.{small, first_life}
-use Rattle.core_rule.specs.Facts.{IsMet}
+use Rattle.core_rule.specs.Facts.{HasMet}
 use Rattle.core_rule.specs.Fronts.{MetVertex, MetEdge, MayPopFree, MayStorePrivate, MayLinkVertex, MayMarkVertex, MayUnlinkVertex, MayLinkEdge, MayRaise, MayMarkEdge, MayUnlinkEdge, MayAnnounce, MayWithdraw, MayMoveEpoch, MayFreezeHead, MayFreezeEdge, MayStoreFree, MayPushFree}
 use Rattle.core_rule.specs.Kept.{IsKept}
 use Rattle.core_rule.specs.KnownSteps.{view_of, view_at, Makes}
@@ -76,7 +76,7 @@ unfolding machine word_at
 makes_link_vertex = record { reaches = own_front 0 16 (lit≤ tt) refl; finds = refl; makes = refl }
 
 -- a linked node is met in an open pass
-met : (v : View) (x : ℕ) → (pass_in v.sizes v.front v.number).is_open ≡ true → (node_in v.sizes v.front x).mode ≡ Linked → IsMet v.sizes v.front v.number x
+met : (v : View) (x : ℕ) → (pass_in v.sizes v.front v.number).is_open ≡ true → (node_in v.sizes v.front x).mode ≡ Linked → HasMet v.sizes v.front v.number x
 met v x runs linked = record { pass = runs; free = λ h. absurd (cc); fresh = λ h. absurd (cc); spent = λ h. absurd (cc) }
 
 -- the first life of a linked node is that of a vertex, or of an edge from node 0, that was met

@@ -8,7 +8,7 @@ use Rattle.core_journal.specs.Reuse.{pass_in}
 use Rattle.core_journal.specs.State.{Mode, Free, Fresh, Linked, Spent, Node, State, state}
 use Rattle.core_journal.proofs.Lists.{prefix_snoc}
 use Rattle.core_journal.proofs.States.{state-nil}
-use Rattle.core_rule.specs.Facts.{IsMet, IsSamePass}
+use Rattle.core_rule.specs.Facts.{HasMet, IsSamePass}
 use Rattle.core_rule.specs.Kept.{Allowed, IsKept}
 use Rattle.core_rule.specs.Nodes.{node_in, IsUsed, IsRipe}
 use Rattle.core_rule.specs.Walks.{LeadsTo, IsMetBehind, IsMetIn, IsMetFirst}
@@ -24,7 +24,7 @@ use Rattle.core_rule.proofs.ListParts.{yes_no}
 
 module _ (sizes : Sizes) (journal : List Event) (i : ℕ) (open_ : (pass_in sizes journal i).is_open ≡ true) where
   -- an open pass has met each linked node
-  pub linked_met : (x : ℕ) → (node_in sizes journal x).mode ≡ Linked → IsMet sizes journal i x
+  pub linked_met : (x : ℕ) → (node_in sizes journal x).mode ≡ Linked → HasMet sizes journal i x
   linked_met x linked = record { pass = open_; free = λ h. absurd (cc); fresh = λ h. absurd (cc); spent = λ h. absurd (cc) }
 
   met_behind : (x y : ℕ) → IsLinkedBehind sizes journal x y → IsMetBehind sizes journal i x y
@@ -37,7 +37,7 @@ module _ (sizes : Sizes) (journal : List Event) (i : ℕ) (open_ : (pass_in size
   met_first j y d = record { there = d.there; met = linked_met y d.linked; vertex = d.vertex; bucket = d.bucket }
 
 -- what was met behind a node, and inside it, is so while the pass is open
-module _ (sizes : Sizes) (z : IsLayout sizes) (front journal : List Event) (kept : IsKept sizes journal) (i x : ℕ) (p : IsSamePass sizes front journal i) (m : IsMet sizes front i x) where
+module _ (sizes : Sizes) (z : IsLayout sizes) (front journal : List Event) (kept : IsKept sizes journal) (i x : ℕ) (p : IsSamePass sizes front journal i) (m : HasMet sizes front i x) where
   behind_stays : x < sizes.nodes → (y : ℕ) → IsMetBehind sizes front i x y → IsMetBehind sizes journal i x y
   behind_stays within y d =
       let s = still_met sizes z front journal kept i x p m in
@@ -62,9 +62,9 @@ module _ (sizes : Sizes) (z : IsLayout sizes) (front journal : List Event) (kept
 -- a spent node that a pass has met was met by this pass before an event
 record IsMetBefore (sizes : Sizes) (past journal : List Event) (i x : ℕ) : Type 0 where
   pub same : IsSamePass sizes past journal i
-  pub met : IsMet sizes past i x
+  pub met : HasMet sizes past i x
 
-met_before : (sizes : Sizes) (z : IsLayout sizes) (past : List Event) (e : Event) (kept : IsKept sizes past) → Allowed sizes past e → (i x : ℕ) → IsMet sizes (past ++ e ∷ []) i x → (node_in sizes (past ++ e ∷ []) x).mode ≡ Spent → IsMetBefore sizes past (past ++ e ∷ []) i x
+met_before : (sizes : Sizes) (z : IsLayout sizes) (past : List Event) (e : Event) (kept : IsKept sizes past) → Allowed sizes past e → (i x : ℕ) → HasMet sizes (past ++ e ∷ []) i x → (node_in sizes (past ++ e ∷ []) x).mode ≡ Spent → IsMetBefore sizes past (past ++ e ∷ []) i x
 met_before sizes z past e kept ok i x m spent = ⊎_elim
     (λ (g : IsGoingOn sizes past (state sizes (past ++ e ∷ [])) i). record {
       same = record { before = prefix_snoc past e; open_still = m.pass; since = g.since };
@@ -73,7 +73,7 @@ met_before sizes z past e kept ok i x m spent = ⊎_elim
     (λ (b : IsBeginning sizes past (state sizes (past ++ e ∷ [])) i). absurd (omega (arith, b.since, ap (λ (v : Node). v.ended) (b.nodes x), m.spent spent, (ended sizes past kept).ended x)))
     (pass_was sizes z past e kept ok i m.pass)
   where
-    by : IsGoingOn sizes past (state sizes (past ++ e ∷ [])) i → Turn sizes past (word_at sizes (past ++ e ∷ [])) x (node_in sizes (past ++ e ∷ []) x) → IsMet sizes past i x
+    by : IsGoingOn sizes past (state sizes (past ++ e ∷ [])) i → Turn sizes past (word_at sizes (past ++ e ∷ [])) x (node_in sizes (past ++ e ∷ []) x) → HasMet sizes past i x
     by g (stays h q _ _) =
         let was : (node_in sizes past x).mode ≡ Spent = sym h ∙ spent in
         record { pass = g.open_before; free = λ f. absurd (cc); fresh = λ f. absurd (cc); spent = λ _. omega (arith, m.spent spent, q, g.since) }
@@ -84,7 +84,7 @@ met_before sizes z past e kept ok i x m spent = ⊎_elim
 
 -- no node that an open pass has met is stored for the free list
 abbrev IsUnstored : Sizes → List Event → Type 0
-IsUnstored sizes journal = (i x : ℕ) → x < sizes.nodes → IsMet sizes journal i x → (node_in sizes journal x).mode ≡ Spent → (node_in sizes journal x).stored ≡ false
+IsUnstored sizes journal = (i x : ℕ) → x < sizes.nodes → HasMet sizes journal i x → (node_in sizes journal x).mode ≡ Spent → (node_in sizes journal x).stored ≡ false
 
 unstored_step : (sizes : Sizes) → IsLayout sizes → (past : List Event) (e : Event) → IsKept sizes past → IsUnstored sizes past → Allowed sizes past e → IsUnstored sizes (past ++ e ∷ [])
 unstored_step sizes z past e kept c ok i x within m spent = yes_no ((node_in sizes (past ++ e ∷ []) x).stored ≡ false) (node_in sizes (past ++ e ∷ []) x).stored
@@ -107,14 +107,14 @@ unstored_step sizes z past e kept c ok i x within m spent = yes_no ((node_in siz
 unspent : (sizes : Sizes) {P : Type 0} (x : ℕ) → (node_in sizes [] x).mode ≡ Spent → P
 unspent sizes x m = let free : (node_in sizes [] x).mode ≡ Free = ap (λ (s : State). (s.node x).mode) (state-nil sizes) in absurd (cc)
 
-pub met_unstored : (sizes : Sizes) → IsLayout sizes → (journal : List Event) → IsKept sizes journal → (i x : ℕ) → x < sizes.nodes → IsMet sizes journal i x → (node_in sizes journal x).mode ≡ Spent → (node_in sizes journal x).stored ≡ false
+pub met_unstored : (sizes : Sizes) → IsLayout sizes → (journal : List Event) → IsKept sizes journal → (i x : ℕ) → x < sizes.nodes → HasMet sizes journal i x → (node_in sizes journal x).mode ≡ Spent → (node_in sizes journal x).stored ≡ false
 met_unstored sizes z journal kept = kept_all sizes (IsUnstored sizes) (unstored_step sizes z) (λ i x _ _ m. unspent sizes x m) journal kept
 
 -- the words of a spent node that an open pass has met lead to what the pass has met
 record MetLinks (sizes : Sizes) (journal : List Event) : Type 0 where
-  pub link : (i x : ℕ) → x < sizes.nodes → IsMet sizes journal i x → (node_in sizes journal x).mode ≡ Spent
+  pub link : (i x : ℕ) → x < sizes.nodes → HasMet sizes journal i x → (node_in sizes journal x).mode ≡ Spent
       → LeadsTo (word_at sizes journal (link_at sizes x)) (IsMetBehind sizes journal i x)
-  pub list : (i x : ℕ) → x < sizes.nodes → IsMet sizes journal i x → (node_in sizes journal x).mode ≡ Spent → (node_in sizes journal x).vertex ≡ true
+  pub list : (i x : ℕ) → x < sizes.nodes → HasMet sizes journal i x → (node_in sizes journal x).mode ≡ Spent → (node_in sizes journal x).vertex ≡ true
       → LeadsTo (word_at sizes journal (second_at sizes x)) (IsMetIn sizes journal i x)
 
 module _ (sizes : Sizes) (z : IsLayout sizes) (past : List Event) (e : Event) (kept : IsKept sizes past) (ok : Allowed sizes past e) (c : MetLinks sizes past) where
@@ -124,7 +124,7 @@ module _ (sizes : Sizes) (z : IsLayout sizes) (past : List Event) (e : Event) (k
   kept_after : IsKept sizes after
   kept_after = kept_snoc sizes past e kept ok
 
-  met_link : (i x : ℕ) → x < sizes.nodes → IsMet sizes after i x → (node_in sizes after x).mode ≡ Spent → LeadsTo (word_at sizes after (link_at sizes x)) (IsMetBehind sizes after i x)
+  met_link : (i x : ℕ) → x < sizes.nodes → HasMet sizes after i x → (node_in sizes after x).mode ≡ Spent → LeadsTo (word_at sizes after (link_at sizes x)) (IsMetBehind sizes after i x)
   met_link i x within m spent = by (met_before sizes z past e kept ok i x m spent) (turn sizes z past e kept ok x)
     where
       by : IsMetBefore sizes past after i x → Turn sizes past (word_at sizes after) x (node_in sizes after x) → LeadsTo (word_at sizes after (link_at sizes x)) (IsMetBehind sizes after i x)
@@ -139,7 +139,7 @@ module _ (sizes : Sizes) (z : IsLayout sizes) (past : List Event) (e : Event) (k
       by b (takes _ h) = absurd (cc)
       by b (frees _ h) = absurd (cc)
 
-  met_list : (i x : ℕ) → x < sizes.nodes → IsMet sizes after i x → (node_in sizes after x).mode ≡ Spent → (node_in sizes after x).vertex ≡ true → LeadsTo (word_at sizes after (second_at sizes x)) (IsMetIn sizes after i x)
+  met_list : (i x : ℕ) → x < sizes.nodes → HasMet sizes after i x → (node_in sizes after x).mode ≡ Spent → (node_in sizes after x).vertex ≡ true → LeadsTo (word_at sizes after (second_at sizes x)) (IsMetIn sizes after i x)
   met_list i x within m spent vertex = yes_no (LeadsTo (word_at sizes after (second_at sizes x)) (IsMetIn sizes after i x)) ((state sizes after).frozen x)
       (λ h. by h (met_before sizes z past e kept ok i x m spent) (turn sizes z past e kept ok x))
       (λ open_. leads_same (word_at sizes after (second_at sizes x)) (word_at sizes after (second_at sizes x)) (IsLinkedIn sizes after x) (IsMetIn sizes after i x) refl (met_inside sizes after i m.pass x) (head_leads sizes z after kept_after x within (subst IsUsed (sym spent) tt) vertex open_))
@@ -170,7 +170,7 @@ met_links sizes z journal kept = kept_all sizes (MetLinks sizes) (λ past e k c 
 
 module _ (sizes : Sizes) (z : IsLayout sizes) (journal : List Event) (kept : IsKept sizes journal) (i : ℕ) where
   -- what is met is linked or spent
-  met_modes : (x : ℕ) → IsMet sizes journal i x → ((node_in sizes journal x).mode ≡ Linked) ⊎ ((node_in sizes journal x).mode ≡ Spent)
+  met_modes : (x : ℕ) → HasMet sizes journal i x → ((node_in sizes journal x).mode ≡ Linked) ⊎ ((node_in sizes journal x).mode ≡ Spent)
   met_modes x m = by (node_in sizes journal x).mode m.free m.fresh
     where
       by : (k : Mode) → k ≢ Free → k ≢ Fresh → (k ≡ Linked) ⊎ (k ≡ Spent)
@@ -184,14 +184,14 @@ module _ (sizes : Sizes) (z : IsLayout sizes) (journal : List Event) (kept : IsK
   walk_head open_ j low = leads_same (word_at sizes journal (bucket_at sizes j)) (word_at sizes journal (bucket_at sizes j)) (IsLinkedFirst sizes journal j) (IsMetFirst sizes journal i j) refl (met_first sizes journal i open_ j) (bucket_leads sizes z journal kept j low)
 
   -- from the link of a node that was met
-  pub walk_link : (x : ℕ) → x < sizes.nodes → IsMet sizes journal i x → LeadsTo (word_at sizes journal (link_at sizes x)) (IsMetBehind sizes journal i x)
+  pub walk_link : (x : ℕ) → x < sizes.nodes → HasMet sizes journal i x → LeadsTo (word_at sizes journal (link_at sizes x)) (IsMetBehind sizes journal i x)
   walk_link x within m = ⊎_elim
       (λ (linked : (node_in sizes journal x).mode ≡ Linked). leads_same (word_at sizes journal (link_at sizes x)) (word_at sizes journal (link_at sizes x)) (IsLinkedBehind sizes journal x) (IsMetBehind sizes journal i x) refl (met_behind sizes journal i m.pass x) (linked_leads sizes z journal kept x within linked))
       (λ (spent : (node_in sizes journal x).mode ≡ Spent). (met_links sizes z journal kept).link i x within m spent)
       (met_modes x m)
 
   -- from the second word of a vertex that was met
-  pub walk_list : (x : ℕ) → x < sizes.nodes → IsMet sizes journal i x → (node_in sizes journal x).vertex ≡ true → LeadsTo (word_at sizes journal (second_at sizes x)) (IsMetIn sizes journal i x)
+  pub walk_list : (x : ℕ) → x < sizes.nodes → HasMet sizes journal i x → (node_in sizes journal x).vertex ≡ true → LeadsTo (word_at sizes journal (second_at sizes x)) (IsMetIn sizes journal i x)
   walk_list x within m vertex = ⊎_elim
       (λ (linked : (node_in sizes journal x).mode ≡ Linked). leads_same (word_at sizes journal (second_at sizes x)) (word_at sizes journal (second_at sizes x)) (IsLinkedIn sizes journal x) (IsMetIn sizes journal i x) refl (met_inside sizes journal i m.pass x) (head_leads sizes z journal kept x within (subst IsUsed (sym linked) tt) vertex (unclosed sizes z journal kept x linked)))
       (λ (spent : (node_in sizes journal x).mode ≡ Spent). (met_links sizes z journal kept).list i x within m spent vertex)

@@ -6,7 +6,7 @@ use Rattle.packed_link.specs.declared.link.Life.{Life}
 use Rattle.core_journal.specs.declared.event.Event.{Event}
 use Rattle.core_journal.specs.Machine.{word_at}
 use Rattle.core_journal.specs.State.{Mode, Free, Fresh, Linked, Spent}
-use Rattle.core_rule.specs.Facts.{IsMet, IsSamePass}
+use Rattle.core_rule.specs.Facts.{HasMet, IsSamePass}
 use Rattle.core_rule.specs.Kept.{IsKept}
 use Rattle.core_rule.specs.Nodes.{node_in, IsUsed, IsRipe}
 use Rattle.core_rule.proofs.Contents.{contents}
@@ -15,7 +15,7 @@ use Rattle.core_rule.proofs.Ripe.{ripe_before}
 use Rattle.core_rule.proofs.Staying.{IsSameLinked, met_stays}
 
 -- what is met is linked or spent
-pub met_used : (sizes : Sizes) (journal : List Event) (caller x : ℕ) → IsMet sizes journal caller x → IsUsed (node_in sizes journal x).mode
+pub met_used : (sizes : Sizes) (journal : List Event) (caller x : ℕ) → HasMet sizes journal caller x → IsUsed (node_in sizes journal x).mode
 met_used sizes journal caller x m = by (node_in sizes journal x).mode m.free m.fresh
   where
     by : (k : Mode) → k ≢ Free → k ≢ Fresh → IsUsed k
@@ -25,12 +25,12 @@ met_used sizes journal caller x m = by (node_in sizes journal x).mode m.free m.f
     by Spent f g = tt
 
 -- a ripe node is met in no open pass
-pub ripe_not_met : (sizes : Sizes) → IsLayout sizes → (journal : List Event) → IsKept sizes journal → (caller i x : ℕ) → IsRipe sizes journal caller x → IsMet sizes journal i x → ⊥
+pub ripe_not_met : (sizes : Sizes) → IsLayout sizes → (journal : List Event) → IsKept sizes journal → (caller i x : ℕ) → IsRipe sizes journal caller x → HasMet sizes journal i x → ⊥
 ripe_not_met sizes z journal kept caller i x r m = omega (arith, ripe_before sizes z journal kept caller x i r m.pass, m.spent r.spent)
 
-module _ (sizes : Sizes) (z : IsLayout sizes) (front journal : List Event) (kept : IsKept sizes journal) (caller x : ℕ) (p : IsSamePass sizes front journal caller) (m : IsMet sizes front caller x) where
+module _ (sizes : Sizes) (z : IsLayout sizes) (front journal : List Event) (kept : IsKept sizes journal) (caller x : ℕ) (p : IsSamePass sizes front journal caller) (m : HasMet sizes front caller x) where
   -- it's met still, in its life
-  pub still_met : IsMet sizes journal caller x × IsSameLinked (node_in sizes front x) (node_in sizes journal x)
+  pub still_met : HasMet sizes journal caller x × IsSameLinked (node_in sizes front x) (node_in sizes journal x)
   still_met = met_stays sizes z caller x front journal p.before kept m p.open_still p.since
 
   -- its key stays

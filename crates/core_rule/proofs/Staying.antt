@@ -9,7 +9,7 @@ use Rattle.core_journal.specs.State.{Free, Fresh, Spent, Pass, Node, State, put,
 use Rattle.core_journal.specs.Reuse.{pass_in}
 use Rattle.core_rule.specs.Kept.{AllowedAs, IsKept}
 use Rattle.core_rule.specs.Nodes.{node_in}
-use Rattle.core_rule.specs.Facts.{IsMet}
+use Rattle.core_rule.specs.Facts.{HasMet}
 use Rattle.core_rule.proofs.Induction.{kept_front}
 use Rattle.core_rule.proofs.Steps.{Keeps, put_case, handed_case, marked_state, closed_state, holds_onward}
 use Rattle.core_rule.proofs.Announcements.{announcements}
@@ -87,8 +87,8 @@ staying_step sizes z caller x n since past e kept c k by ok w a = record {
 }
 
 -- what an open pass has met it has met still, in the same life, while it's open
-pub met_stays : (sizes : Sizes) → IsLayout sizes → (caller x : ℕ) (front journal : List Event) → IsPrefix front journal → IsKept sizes journal → IsMet sizes front caller x
-    → (pass_in sizes journal caller).is_open ≡ true → (pass_in sizes journal caller).since ≡ (pass_in sizes front caller).since → IsMet sizes journal caller x × IsSameLinked (node_in sizes front x) (node_in sizes journal x)
+pub met_stays : (sizes : Sizes) → IsLayout sizes → (caller x : ℕ) (front journal : List Event) → IsPrefix front journal → IsKept sizes journal → HasMet sizes front caller x
+    → (pass_in sizes journal caller).is_open ≡ true → (pass_in sizes journal caller).since ≡ (pass_in sizes front caller).since → HasMet sizes journal caller x × IsSameLinked (node_in sizes front x) (node_in sizes journal x)
 met_stays sizes z caller x front journal p kept m o is =
     let n = node_in sizes front x in
     let since = (pass_in sizes front caller).since in

@@ -145,7 +145,7 @@ pub record Ends (journal : List Event) : Type 0 where
 
 -- an open pass has met a node: it's linked, or it was spent after the pass began. So each linked node counts as met, whether a
 -- walk came to it or not: it's what a walk in this pass may come to
-pub record IsMet (sizes : Sizes) (journal : List Event) (caller x : ℕ) : Type 0 where
+pub record HasMet (sizes : Sizes) (journal : List Event) (caller x : ℕ) : Type 0 where
   pub pass : (pass_in sizes journal caller).is_open ≡ true
   pub free : (node_in sizes journal x).mode ≢ Free
   pub fresh : (node_in sizes journal x).mode ≢ Fresh

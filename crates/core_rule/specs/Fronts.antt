@@ -1,5 +1,5 @@
 -- What a token must know by its front, so that its next step of a kind is allowed wherever it wins: one condition a kind.
--- "Met" is what an open pass has met (`IsMet`). An earlier moment, at which the token loaded a word, stands only in those for
+-- "Met" is what an open pass has met (`HasMet`). An earlier moment, at which the token loaded a word, stands only in those for
 -- taking a node, announcing, moving the epoch on, raising, marking an edge, and where the node is ripe.
 use Rattle.std.specs.Prelude.{◌≡◌, ◌≢◌, ℕ, ◌+◌, ◌%◌, ◌<◌, ◌^◌, ◌⊎◌, ◌==◌, true, false, List, Some, length}
 use Rattle.std.specs.List.{list_any}
@@ -19,7 +19,7 @@ use Rattle.core_rule.specs.Passes.{IsChecked}
 use Rattle.core_rule.specs.Vertices.{IsFilledVertex}
 use Rattle.core_rule.specs.Edges.{IsFilledEdge, IsRaisedFor}
 use Rattle.core_rule.specs.Freezing.{IsSpentVertex, IsFrozenWord}
-use Rattle.core_rule.specs.Facts.{IsMet}
+use Rattle.core_rule.specs.Facts.{HasMet}
 use Rattle.core_rule.specs.declared.view.View.{View}
 
 -- a life is that of its node at the token's front
@@ -30,13 +30,13 @@ pub record IsLifeAt (v : View) (x : Life) : Type 0 where
 -- the token's open pass has met a life, which is that of a vertex
 pub record MetVertex (v : View) (x : Life) : Type 0 where
   pub life : IsLifeAt v x
-  pub met : IsMet v.sizes v.front v.number x.index
+  pub met : HasMet v.sizes v.front v.number x.index
   pub vertex : (node_in v.sizes v.front x.index).vertex ≡ true
 
 -- the token's open pass has met a life, which is that of an edge of this source
 pub record MetEdge (v : View) (source x : Life) : Type 0 where
   pub life : IsLifeAt v x
-  pub met : IsMet v.sizes v.front v.number x.index
+  pub met : HasMet v.sizes v.front v.number x.index
   pub edge : (node_in v.sizes v.front x.index).vertex ≡ false
   pub from : (node_in v.sizes v.front x.index).source ≡ source
 

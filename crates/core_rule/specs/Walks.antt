@@ -6,7 +6,7 @@ use Rattle.core_journal.specs.declared.event.Event.{Event}
 use Rattle.core_journal.specs.Machine.{word_at}
 use Rattle.core_journal.specs.State.{Linked, Spent}
 use Rattle.core_rule.specs.Nodes.{node_in}
-use Rattle.core_rule.specs.Facts.{IsMet}
+use Rattle.core_rule.specs.Facts.{HasMet}
 use Rattle.core_rule.specs.Chains.{life_in}
 
 -- a word leads to none, or to a node of which this holds
@@ -30,7 +30,7 @@ pub record SpentLinks (sizes : Sizes) (journal : List Event) : Type 0 where
 -- the same source
 pub record IsMetBehind (sizes : Sizes) (journal : List Event) (caller x y : ℕ) : Type 0 where
   pub there : y < sizes.nodes
-  pub met : IsMet sizes journal caller y
+  pub met : HasMet sizes journal caller y
   pub kind : (node_in sizes journal y).vertex ≡ (node_in sizes journal x).vertex
   pub rising : word_at sizes journal (key_at sizes x) < word_at sizes journal (key_at sizes y)
   pub bucket : (node_in sizes journal x).vertex ≡ true
@@ -40,13 +40,13 @@ pub record IsMetBehind (sizes : Sizes) (journal : List Event) (caller x y : ℕ)
 -- the pass of a caller has met y, which is an edge of the vertex x in its life
 pub record IsMetIn (sizes : Sizes) (journal : List Event) (caller x y : ℕ) : Type 0 where
   pub there : y < sizes.nodes
-  pub met : IsMet sizes journal caller y
+  pub met : HasMet sizes journal caller y
   pub edge : (node_in sizes journal y).vertex ≡ false
   pub source : (node_in sizes journal y).source ≡ life_in sizes journal x
 
 -- the pass of a caller has met y, which is a vertex with a key of this bucket
 pub record IsMetFirst (sizes : Sizes) (journal : List Event) (caller j y : ℕ) : Type 0 where
   pub there : y < sizes.nodes
-  pub met : IsMet sizes journal caller y
+  pub met : HasMet sizes journal caller y
   pub vertex : (node_in sizes journal y).vertex ≡ true
   pub bucket : word_at sizes journal (key_at sizes y) % sizes.buckets ≡ j

@@ -3,7 +3,7 @@
 //! There is one condition a kind, over the token's front (`specs/Fronts.antt`), and one event (`specs/OwnEvents.antt`). Where
 //! the word is as the step wants it, the event is allowed in each journal that goes on from the front without an event of the
 //! token's own (`Reaches` of `specs/Owes.antt`). That is all that a step owes by `Owes` beside the word that it writes. "In
-//! this pass" is one word: what an open pass has met (`IsMet`) stays met, so these speak of no load. Where a load matters all the
+//! this pass" is one word: what an open pass has met (`HasMet`) stays met, so these speak of no load. Where a load matters all the
 //! same, the condition has the earlier moment: for taking a node, announcing a pass and moving the epoch, for raising a counter
 //! and marking an edge, and for the two kinds that need a ripe node. The draw of a number is `a_draw_keeps_the_rule`, since it
 //! changes what its token is.

@@ -13,7 +13,7 @@ ghost use Rattle.core_journal.specs.Machine.{word_at};
 ghost use Rattle.core_journal.specs.Prefix.{IsPrefix};
 ghost use Rattle.core_journal.specs.State.{Fresh};
 ghost use Rattle.core_rule.specs.Edges.{IsRaisedFor};
-ghost use Rattle.core_rule.specs.Facts.{IsMet};
+ghost use Rattle.core_rule.specs.Facts.{HasMet};
 ghost use Rattle.core_rule.specs.Kept.{IsKept};
 ghost use Rattle.core_rule.specs.Nodes.{IsLinkedEdge, IsVertex, node_in};
 ghost use Rattle.core_rule.specs.Raised.{IsLinkedLower};
@@ -33,7 +33,7 @@ pub fn marked_edges_were_linked_at_a_lower_counter()
         → IsLinkedLower sizes journal (length journal) link × ((node_in sizes journal link.source.index).stored ≡ false) }
     ensures met { (sizes : Sizes) → IsLayout sizes → (journal : List Event) → IsKept sizes journal
         → (caller : ℕ) (x : Life) (link : Event) → link_of journal x ≡ Some link → IsVertex sizes journal link.source
-        → IsMet sizes journal caller link.source.index → IsRaisedFor sizes journal caller x link.source
+        → HasMet sizes journal caller link.source.index → IsRaisedFor sizes journal caller x link.source
         → IsLinkedLower sizes journal (length journal) link × ((node_in sizes journal link.source.index).stored ≡ false) }
     ensures rises { (sizes : Sizes) → IsLayout sizes → (x : ℕ) (front journal : List Event) → IsPrefix front journal
         → IsKept sizes journal → (node_in sizes front x).mode ≢ Fresh

@@ -8,7 +8,7 @@ ghost use Rattle.core_journal.specs.Prefix.{IsPrefix};
 ghost use Rattle.core_journal.specs.Machine.{word_at};
 ghost use Rattle.core_journal.specs.Reuse.{ReusesSafely};
 ghost use Rattle.core_journal.specs.State.{Free, state};
-ghost use Rattle.core_rule.specs.Facts.{IsMet, IsKeptSpent, IsSamePass};
+ghost use Rattle.core_rule.specs.Facts.{HasMet, IsKeptSpent, IsSamePass};
 ghost use Rattle.core_rule.specs.Kept.{IsKept, IsQuiet};
 ghost use Rattle.core_rule.specs.Nodes.{IsRipe, node_in, IsSpentWith};
 ghost use Rattle.core_rule.specs.Standings.{Standing, StandsAs};
@@ -42,7 +42,7 @@ pub fn spent_nodes_stay_with_their_caller()
 /// A node that is ripe for anyone is met in no open pass.
 pub fn ripe_nodes_are_not_met()
     ensures { (sizes : Sizes) → IsLayout sizes → (journal : List Event) → IsKept sizes journal
-        → (caller i x : ℕ) → IsRipe sizes journal caller x → IsMet sizes journal i x → ⊥ }
+        → (caller i x : ℕ) → IsRipe sizes journal caller x → HasMet sizes journal i x → ⊥ }
 {}
 
 /// What an open pass has met it has met still while the pass is open: the node is in the same life, a vertex or an edge as it
@@ -50,32 +50,32 @@ pub fn ripe_nodes_are_not_met()
 /// stays once it's marked.
 pub fn what_is_met_keeps_its_words()
     ensures met { (sizes : Sizes) → IsLayout sizes → (front journal : List Event) → IsKept sizes journal
-        → (caller x : ℕ) → IsSamePass sizes front journal caller → IsMet sizes front caller x
-        → IsMet sizes journal caller x }
+        → (caller x : ℕ) → IsSamePass sizes front journal caller → HasMet sizes front caller x
+        → HasMet sizes journal caller x }
     ensures life { (sizes : Sizes) → IsLayout sizes → (front journal : List Event) → IsKept sizes journal
-        → (caller x : ℕ) → IsSamePass sizes front journal caller → IsMet sizes front caller x
+        → (caller x : ℕ) → IsSamePass sizes front journal caller → HasMet sizes front caller x
         → (node_in sizes journal x).tag ≡ (node_in sizes front x).tag }
     ensures kind { (sizes : Sizes) → IsLayout sizes → (front journal : List Event) → IsKept sizes journal
-        → (caller x : ℕ) → IsSamePass sizes front journal caller → IsMet sizes front caller x
+        → (caller x : ℕ) → IsSamePass sizes front journal caller → HasMet sizes front caller x
         → (node_in sizes journal x).vertex ≡ (node_in sizes front x).vertex }
     ensures key { (sizes : Sizes) → IsLayout sizes → (front journal : List Event) → IsKept sizes journal
-        → (caller x : ℕ) → x < sizes.nodes → IsSamePass sizes front journal caller → IsMet sizes front caller x
+        → (caller x : ℕ) → x < sizes.nodes → IsSamePass sizes front journal caller → HasMet sizes front caller x
         → word_at sizes journal (key_at sizes x) ≡ word_at sizes front (key_at sizes x) }
     ensures target { (sizes : Sizes) → IsLayout sizes → (front journal : List Event) → IsKept sizes journal
-        → (caller x : ℕ) → x < sizes.nodes → IsSamePass sizes front journal caller → IsMet sizes front caller x
+        → (caller x : ℕ) → x < sizes.nodes → IsSamePass sizes front journal caller → HasMet sizes front caller x
         → (node_in sizes front x).vertex ≡ false
         → word_at sizes journal (second_at sizes x) ≡ word_at sizes front (second_at sizes x) }
     ensures weight { (sizes : Sizes) → IsLayout sizes → (front journal : List Event) → IsKept sizes journal
-        → (caller x : ℕ) → x < sizes.nodes → IsSamePass sizes front journal caller → IsMet sizes front caller x
+        → (caller x : ℕ) → x < sizes.nodes → IsSamePass sizes front journal caller → HasMet sizes front caller x
         → (node_in sizes front x).vertex ≡ false
         → word_at sizes journal (third_at sizes x) ≡ word_at sizes front (third_at sizes x) }
     ensures unstored { (sizes : Sizes) → IsLayout sizes → (journal : List Event) → IsKept sizes journal
-        → (caller x : ℕ) → x < sizes.nodes → IsMet sizes journal caller x → (node_in sizes journal x).stored ≡ false }
+        → (caller x : ℕ) → x < sizes.nodes → HasMet sizes journal caller x → (node_in sizes journal x).stored ≡ false }
     ensures link { (sizes : Sizes) → IsLayout sizes → (front journal : List Event) → IsKept sizes journal
-        → (caller x : ℕ) → x < sizes.nodes → IsSamePass sizes front journal caller → IsMet sizes front caller x
+        → (caller x : ℕ) → x < sizes.nodes → IsSamePass sizes front journal caller → HasMet sizes front caller x
         → mark_of (word_at sizes front (link_at sizes x)) ≡ 1
         → word_at sizes journal (link_at sizes x) ≡ word_at sizes front (link_at sizes x) }
     ensures source { (sizes : Sizes) → IsLayout sizes → (front journal : List Event) → IsKept sizes journal
-        → (caller x : ℕ) → IsSamePass sizes front journal caller → IsMet sizes front caller x
+        → (caller x : ℕ) → IsSamePass sizes front journal caller → HasMet sizes front caller x
         → (node_in sizes journal x).source ≡ (node_in sizes front x).source }
 {}

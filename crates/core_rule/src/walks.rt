@@ -2,7 +2,7 @@
 //!
 //! A walk loads a word, goes to the node to which it leads, loads a word of that node, and so on. Until it's stored for the free
 //! list, a spent node keeps its link, which led to a linked node or to one that was spent with it. So each word that a walk in
-//! an open pass loads leads to none or to a node that this pass has met (`IsMet`), along one bucket or one list, by strictly
+//! an open pass loads leads to none or to a node that this pass has met (`HasMet`), along one bucket or one list, by strictly
 //! rising keys.
 
 ghost use Rattle.std.specs.Prelude.{◌≡◌, ℕ, ◌<◌, true, List};
@@ -11,7 +11,7 @@ ghost use Rattle.core_journal.specs.declared.event.Event.{Event};
 ghost use Rattle.core_journal.specs.Machine.{word_at};
 ghost use Rattle.core_journal.specs.Reuse.{pass_in};
 ghost use Rattle.core_journal.specs.State.{Linked};
-ghost use Rattle.core_rule.specs.Facts.{IsMet};
+ghost use Rattle.core_rule.specs.Facts.{HasMet};
 ghost use Rattle.core_rule.specs.Kept.{IsKept};
 ghost use Rattle.core_rule.specs.Nodes.{node_in};
 ghost use Rattle.core_rule.specs.Walks.{IsMetBehind, IsMetFirst, IsMetIn, LeadsTo, SpentLinks};
@@ -31,12 +31,12 @@ pub fn a_walk_meets_what_its_pass_may_hold()
         → (caller : ℕ) → (pass_in sizes journal caller).is_open ≡ true → (j : ℕ) → j < sizes.buckets
         → LeadsTo (word_at sizes journal (bucket_at sizes j)) (IsMetFirst sizes journal caller j) }
     ensures link { (sizes : Sizes) → IsLayout sizes → (journal : List Event) → IsKept sizes journal
-        → (caller x : ℕ) → x < sizes.nodes → IsMet sizes journal caller x
+        → (caller x : ℕ) → x < sizes.nodes → HasMet sizes journal caller x
         → LeadsTo (word_at sizes journal (link_at sizes x)) (IsMetBehind sizes journal caller x) }
     ensures list { (sizes : Sizes) → IsLayout sizes → (journal : List Event) → IsKept sizes journal
-        → (caller x : ℕ) → x < sizes.nodes → IsMet sizes journal caller x → (node_in sizes journal x).vertex ≡ true
+        → (caller x : ℕ) → x < sizes.nodes → HasMet sizes journal caller x → (node_in sizes journal x).vertex ≡ true
         → LeadsTo (word_at sizes journal (second_at sizes x)) (IsMetIn sizes journal caller x) }
     ensures linked { (sizes : Sizes) (journal : List Event) (caller x : ℕ)
         → (pass_in sizes journal caller).is_open ≡ true → (node_in sizes journal x).mode ≡ Linked
-        → IsMet sizes journal caller x }
+        → HasMet sizes journal caller x }
 {}

@@ -19,7 +19,7 @@ ghost use Rattle.core_rule.specs.Nodes.{IsRipe, node_in};
 ghost use Rattle.core_rule.specs.FreeNodes.{IsPopFree};
 ghost use Rattle.core_rule.specs.Kept.{IsKept};
 ghost use Rattle.core_rule.specs.Facts.{Bounds, Contents, Counters, LinkWords, LinkedOnce, Lives, Named, Numbers};
-ghost use Rattle.core_rule.specs.Facts.{IsMet};
+ghost use Rattle.core_rule.specs.Facts.{HasMet};
 ghost use Rattle.core_rule.specs.Free.{pool_in};
 ghost use Rattle.core_rule.specs.Moments.{clock_in, ends_in};
 ghost use Rattle.core_rule.specs.Passes.{IsChecked};
@@ -144,11 +144,11 @@ pub fn ripe_nodes_ended_before_passes()
 /// while that pass is open.
 pub fn what_is_met_stays()
     ensures met { (sizes : Sizes) → IsLayout sizes → (caller x : ℕ) (front journal : List Event)
-        → IsPrefix front journal → IsKept sizes journal → IsMet sizes front caller x
+        → IsPrefix front journal → IsKept sizes journal → HasMet sizes front caller x
         → (pass_in sizes journal caller).is_open ≡ true
-        → (pass_in sizes journal caller).since ≡ (pass_in sizes front caller).since → IsMet sizes journal caller x }
+        → (pass_in sizes journal caller).since ≡ (pass_in sizes front caller).since → HasMet sizes journal caller x }
     ensures life { (sizes : Sizes) → IsLayout sizes → (caller x : ℕ) (front journal : List Event)
-        → IsPrefix front journal → IsKept sizes journal → IsMet sizes front caller x
+        → IsPrefix front journal → IsKept sizes journal → HasMet sizes front caller x
         → (pass_in sizes journal caller).is_open ≡ true
         → (pass_in sizes journal caller).since ≡ (pass_in sizes front caller).since
         → (node_in sizes journal x).tag ≡ (node_in sizes front x).tag }
