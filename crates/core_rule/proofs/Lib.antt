@@ -69,3 +69,5 @@ pub mod Beside
 pub mod FrozenOn
 pub mod FoundFrozen
 pub mod EndsBefore
+pub mod WalkLaw
+pub mod WorkedWalk

@@ -2,7 +2,7 @@
 -- Behind two vertices that caller 0 added, it adds an edge between them, removes it, adds it again with another node, and
 -- removes its source, whose list is closed. Caller 1 moves the epoch on twice. Then caller 0 gives the nodes of the second
 -- edge and of its source back, and takes the latter for a second life.
-use Rattle.std.specs.Prelude.{ℕ, ◌+◌, List, [], ◌∷◌, ◌++◌}
+use Rattle.std.specs.Prelude.{ℕ, ◌+◌, List, [], ◌∷◌, ◌++◌, take}
 use Rattle.std.specs.FinMap as map
 use Rattle.std.specs.FinSet as set
 use Rattle.graph_kinds.specs.Graph.{Graph}
@@ -13,6 +13,7 @@ use Rattle.core_journal.specs.declared.event.Event.{Event}
 use Rattle.core_journal.specs.Event.{blank}
 use Rattle.core_journal.specs.Worked.{small, first_life}
 use Rattle.core_journal.specs.TwoHands.{announces, withdraws, takes, fills, two_vertices}
+use Rattle.core_rule.specs.Walks.{Load}
 
 -- in a new pass caller 0 takes node x, and fills it for an edge to node 1 with this weight
 abbrev pub takes_edge : ℕ → ℕ → List Event
@@ -126,3 +127,13 @@ lives_words =
     ∷ 0 ∷ pack 7 1 0 ∷ 0 ∷ 0
     ∷ 0 ∷ pack nowhere 1 0 ∷ 0 ∷ 0
     ∷ []
+
+-- a load behind the first n events
+abbrev pub load_at : ℕ → ℕ → Load
+load_at n place = record { moment = take n two_lives; place = place }
+
+-- in the pass that removes the vertex of node 0, the loads of caller 0, the last one first: from the bucket to node 0, from
+-- its link to node 1 once it's unlinked, from its second word to node 3 once its list is frozen, and to none behind that
+abbrev pub walk_in_a_frozen_list : List Load
+walk_in_a_frozen_list =
+    load_at 44 (link_at small 3) ∷ load_at 44 (second_at small 0) ∷ load_at 42 (link_at small 0) ∷ load_at 40 (bucket_at small 0) ∷ []

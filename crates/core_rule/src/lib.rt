@@ -48,7 +48,10 @@ pub use rule::{
     a_reply_keeps_the_rule, splits_and_joins_keep_the_rule, steps_keep_the_rule,
 };
 pub use view::View;
-pub use walks::{a_walk_meets_what_its_pass_may_hold, spent_nodes_lead_no_further_back};
+pub use walks::{
+    a_walk_goes_on_from_a_spent_vertex, a_walk_meets_what_its_pass_may_hold,
+    spent_nodes_lead_no_further_back,
+};
 pub use words::{
     announcements_tell_passes, counters_count_raises, events_are_of_past_lives, first_words_count,
     free_list_is_exact, links_tell_states, lives_are_linked_once, marked_words_stay,

@@ -1,4 +1,5 @@
 use Rattle.core_rule.proofs.MetBehind.{linked_met, walk_head, walk_link, walk_list}
+use Rattle.core_rule.proofs.WalkLaw.{walk_meets}
 use Rattle.core_rule.proofs.walks.a_walk_meets_what_its_pass_may_hold.Goals as goal
 
 pub returns-clause-head : goal.returns-clause-head
@@ -12,3 +13,6 @@ returns-clause-list c = λ sizes z journal kept caller x there m vertex. walk_li
 
 pub returns-clause-linked : goal.returns-clause-linked
 returns-clause-linked c = λ sizes journal caller x open_ linked. linked_met sizes journal caller open_ x linked
+
+pub returns-clause-walk : goal.returns-clause-walk
+returns-clause-walk c = λ sizes z journal kept caller loads walk. walk_meets sizes z journal kept caller loads walk
