@@ -41,11 +41,13 @@ pub fn unlinking_keeps_the_chain()
 {}
 
 /// The law of freezing: a marked head is a frozen part, and a mark on the node to which a frozen part leads makes
-/// the part longer by that node. What else marking keeps, freezing keeps too.
+/// the part longer by that node. The chain stays one, and what else marking keeps, freezing keeps too.
 pub fn freezing_keeps_the_chain()
     ensures head { (old new : Chain) → SetsMark old new Head → IsFrozenTo new Head }
     ensures node { (old new : Chain) (end : Position) (node : ℕ)
         → IsChain old → Freezes old new end node → IsFrozenTo new (Node node) }
+    ensures chain { (old new : Chain) (end : Position) (node : ℕ)
+        → IsChain old → Freezes old new end node → IsChain new }
 {}
 
 /// The law of all steps together: a chain stays a chain, and nothing that is kept is taken back.
