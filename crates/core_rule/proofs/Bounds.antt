@@ -19,7 +19,7 @@ use Rattle.core_journal.specs.Event.{same_life}
 use Rattle.core_journal.specs.Machine.{word_at}
 use Rattle.core_journal.specs.State.{Node, State, behind, state}
 use Rattle.core_journal.proofs.States.{state-snoc}
-use Rattle.core_rule.specs.Counts.{pops, raises, moves, made, all_made, about, most_pops, most_raises, most_moves}
+use Rattle.core_rule.specs.Counts.{pops, raises, moves, made, about, most_pops, most_raises, most_moves}
 use Rattle.core_rule.specs.Kept.{Allowed, AllowedAs, IsKept}
 use Rattle.core_rule.specs.Free.{pool_in}
 use Rattle.core_rule.specs.Facts.{Bounds}
@@ -30,6 +30,10 @@ use Rattle.core_rule.proofs.FreeList.{free_list, few_nodes, behind_is}
 use Rattle.core_rule.proofs.LinkWords.{taken}
 use Rattle.core_rule.proofs.Lives.{count_snoc, same_tag, counters}
 use Rattle.core_rule.proofs.Called.{called_by, made_other}
+
+-- how many events of some kinds all callers made
+abbrev pub all_made : (Kind → Bool) → List Event → ℕ
+all_made test journal = length (filter (λ (e : Event). test e.kind) journal)
 
 all_other : (test : Kind → Bool) (past : List Event) (e : Event) → test e.kind ≡ false → all_made test (past ++ e ∷ []) ≡ all_made test past
 all_other test past e is = count_snoc (λ (d : Event). test d.kind) past e ∙ (ap (λ (b : Bool). all_made test past + cond b 1 0) is ∙ omega arith)

@@ -17,9 +17,9 @@ use Rattle.core_journal.specs.State.{Free, Fresh, Linked, Spent, Node, State, pu
 use Rattle.core_journal.proofs.KeptLives.{link_more}
 use Rattle.core_journal.proofs.Snoc.{same_is, same_self}
 use Rattle.core_rule.specs.Kept.{AllowedAs, IsKept}
-use Rattle.core_rule.specs.Nodes.{node_in, IsUsed}
+use Rattle.core_rule.specs.Nodes.{node_in, IsUsed, is_listed}
 use Rattle.core_rule.specs.Freezing.{IsFrozenWord}
-use Rattle.core_rule.specs.Chains.{list_word, edge_chain, is_listed, life_in, HasList, IsEdgeOf, IsInList, KeepsList}
+use Rattle.core_rule.specs.Chains.{list_word, edge_chain, life_in, HasList, IsEdgeOf, IsInList, KeepsList}
 use Rattle.core_rule.proofs.Steps.{IsAfter, KeepsIn, put_case, put_same, put_other, handed_case, marked_state, closed_state, all_in}
 use Rattle.core_rule.proofs.LinkWords.{link_words, taken}
 use Rattle.core_rule.proofs.Contents.{contents}

@@ -10,8 +10,7 @@ use Rattle.core_journal.specs.declared.event.Event.{Event}
 use Rattle.core_journal.specs.Prefix.{IsPrefix}
 use Rattle.core_journal.specs.State.{Mode, Free, Fresh, Linked, Spent, Node, State, put, unlinked_from, handed, frozen_part, state_by, state}
 use Rattle.core_rule.specs.Kept.{AllowedAs, IsKept}
-use Rattle.core_rule.specs.Nodes.{node_in, IsUsed, IsFrozenToEnd}
-use Rattle.core_rule.specs.Chains.{is_listed, is_frozen}
+use Rattle.core_rule.specs.Nodes.{node_in, IsUsed, IsFrozenToEnd, is_listed, is_frozen}
 use Rattle.core_rule.proofs.Steps.{Keeps, put_case, put_other, handed_case, marked_state, closed_state, holds_all, holds_onward}
 use Rattle.core_rule.proofs.Induction.{kept_front}
 use Rattle.core_rule.proofs.LinkWords.{taken}

@@ -22,10 +22,10 @@ use Rattle.core_journal.specs.declared.event.Event.{Event}
 use Rattle.core_journal.specs.Machine.{word_at}
 use Rattle.core_journal.specs.State.{Free, Fresh, Linked, Spent, State, linked_in, unlinked_from, state_by, state}
 use Rattle.core_rule.specs.Kept.{AllowedAs, IsKept}
-use Rattle.core_rule.specs.Nodes.{node_in, IsUsed}
+use Rattle.core_rule.specs.Nodes.{node_in, IsUsed, is_listed}
 use Rattle.core_rule.specs.Edges.{IsLinkEdge, IsUnlinkEdge}
 use Rattle.core_rule.specs.Vertices.{IsLinkVertex}
-use Rattle.core_rule.specs.Chains.{list_word, list_places, is_listed, edge_chain, EdgeLists}
+use Rattle.core_rule.specs.Chains.{list_word, list_places, edge_chain, EdgeLists}
 use Rattle.core_rule.proofs.Steps.{IsAfter, Keeps, put_other, holds_all, writes_at}
 use Rattle.core_rule.proofs.LinkWords.{taken}
 use Rattle.core_rule.proofs.Meets.{AreLinks, stands, meets_inserted, meets_unlinked, meets_marked, meets_untouched, joins_linked, leaves_unlinked}

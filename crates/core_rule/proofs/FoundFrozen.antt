@@ -6,8 +6,8 @@ use Rattle.packed_link.specs.declared.link.Life.{Life}
 use Rattle.core_journal.specs.declared.event.Event.{Event}
 use Rattle.core_journal.specs.Machine.{word_at}
 use Rattle.core_journal.specs.State.{Mode, Free, Fresh, Linked, Spent, state}
-use Rattle.core_rule.specs.Nodes.{node_in, IsUsed, IsVertex, IsSpentWith}
-use Rattle.core_rule.specs.Chains.{is_listed, life_in}
+use Rattle.core_rule.specs.Nodes.{node_in, IsUsed, IsVertex, IsSpentWith, is_listed}
+use Rattle.core_rule.specs.Chains.{life_in}
 use Rattle.core_rule.specs.Fronts.{MayFreezeEdge}
 use Rattle.core_rule.specs.Kept.{IsKept}
 use Rattle.core_rule.specs.Owes.{Reaches}

@@ -16,11 +16,11 @@ use Rattle.core_journal.proofs.Lists.{prefix_trans, prefix_snoc, prefix_refl}
 use Rattle.core_journal.proofs.States.{state-snoc}
 use Rattle.core_rule.specs.Facts.{IsKeptSpent}
 use Rattle.core_rule.specs.Kept.{AllowedAs, IsKept, IsQuiet}
-use Rattle.core_rule.specs.Nodes.{node_in, IsUsed, IsVertex, IsSpentWith}
+use Rattle.core_rule.specs.Nodes.{node_in, IsUsed, IsVertex, IsSpentWith, is_listed, is_frozen}
 use Rattle.core_rule.specs.Edges.{IsUnlinkEdge}
 use Rattle.core_rule.specs.FreeNodes.{IsPushFree, IsStoreFree}
 use Rattle.core_rule.specs.Freezing.{IsSpentVertex, IsFrozenWord, IsFreezeEdge}
-use Rattle.core_rule.specs.Chains.{list_word, edge_chain, is_listed, is_frozen, life_in, KeepsList}
+use Rattle.core_rule.specs.Chains.{list_word, edge_chain, life_in, KeepsList}
 use Rattle.core_rule.specs.Fronts.{MayFreezeEdge, MayStoreFree}
 use Rattle.core_rule.specs.OwnEvents.{freeze_edge_event, store_free_event}
 use Rattle.core_rule.specs.Owes.{Reaches}

@@ -11,9 +11,10 @@ use Rattle.core_chain.specs.Steps.{IsFrozenTo}
 use Rattle.core_journal.specs.declared.event.Event.{Event}
 use Rattle.core_journal.specs.Machine.{word_at}
 use Rattle.core_journal.specs.State.{State, frozen_part, state}
+use Rattle.core_rule.specs.Nodes.{is_listed}
 use Rattle.core_rule.specs.Kept.{IsKept}
 use Rattle.core_rule.specs.Freezing.{IsFrozenWord}
-use Rattle.core_rule.specs.Chains.{list_word, is_listed, edge_chain, HasList, FrozenParts}
+use Rattle.core_rule.specs.Chains.{list_word, edge_chain, HasList, FrozenParts}
 use Rattle.core_rule.proofs.LinkWords.{link_words}
 use Rattle.core_rule.proofs.Contents.{contents}
 use Rattle.core_rule.proofs.Meets.{stands}

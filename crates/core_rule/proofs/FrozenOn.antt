@@ -9,9 +9,9 @@ use Rattle.core_journal.specs.declared.event.Event.{Event}
 use Rattle.core_journal.specs.Machine.{word_at}
 use Rattle.core_journal.specs.State.{state}
 use Rattle.core_rule.specs.Kept.{IsKept}
-use Rattle.core_rule.specs.Nodes.{node_in, IsFrozenToEnd}
+use Rattle.core_rule.specs.Nodes.{node_in, IsFrozenToEnd, is_frozen}
 use Rattle.core_rule.specs.Freezing.{IsFrozenWord}
-use Rattle.core_rule.specs.Chains.{list_word, edge_chain, is_frozen, KeepsList}
+use Rattle.core_rule.specs.Chains.{list_word, edge_chain, KeepsList}
 use Rattle.core_rule.proofs.Meets.{stands}
 use Rattle.core_rule.proofs.ListParts.{yes_no, stands_case, stands_here, stands_later, part_more, part_end}
 use Rattle.core_rule.proofs.FrozenLists.{frozen_end}

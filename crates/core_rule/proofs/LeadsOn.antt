@@ -14,10 +14,10 @@ use Rattle.core_chain.proofs.Orders.{by_rank, one_leads}
 use Rattle.core_journal.specs.declared.event.Event.{Event}
 use Rattle.core_journal.specs.Machine.{word_at}
 use Rattle.core_journal.specs.State.{Linked, state}
-use Rattle.core_rule.specs.Nodes.{node_in, IsUsed, IsLinkedVertex, IsLinkedEdge, IsVertex}
+use Rattle.core_rule.specs.Nodes.{node_in, IsUsed, IsLinkedVertex, IsLinkedEdge, IsVertex, is_listed, is_frozen}
 use Rattle.core_rule.specs.Kept.{IsKept}
 use Rattle.core_rule.specs.Edges.{IsEdgeFrom}
-use Rattle.core_rule.specs.Chains.{bucket_chain, edge_chain, is_listed, is_frozen, life_in, HasList}
+use Rattle.core_rule.specs.Chains.{bucket_chain, edge_chain, life_in, HasList}
 use Rattle.core_rule.specs.Walks.{LeadsTo}
 use Rattle.core_rule.proofs.BucketSteps.{is_in, home_in, home_low, key_word, buckets}
 use Rattle.core_rule.proofs.Contents.{contents}

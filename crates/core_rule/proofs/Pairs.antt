@@ -13,9 +13,9 @@ use Rattle.core_journal.specs.Machine.{word_at}
 use Rattle.core_journal.specs.State.{state}
 use Rattle.core_journal.proofs.LivesOf.{present_is, joined_is, life_of_pair}
 use Rattle.core_rule.specs.Kept.{IsKept}
-use Rattle.core_rule.specs.Nodes.{node_in, IsUsed}
+use Rattle.core_rule.specs.Nodes.{node_in, IsUsed, is_listed}
 use Rattle.core_rule.specs.Edges.{IsLinkEdge}
-use Rattle.core_rule.specs.Chains.{edge_chain, is_listed, HasList}
+use Rattle.core_rule.specs.Chains.{edge_chain, HasList}
 use Rattle.core_rule.proofs.Contents.{contents}
 use Rattle.core_rule.proofs.Ends.{ends_linked}
 use Rattle.core_rule.proofs.EdgeChains.{lists, link_spot, link_can}

@@ -5,8 +5,7 @@ use Rattle.core_journal.specs.declared.event.Kind.TheVariants.{PopFree, LinkVert
 use Rattle.core_journal.specs.declared.event.Event.{Event}
 use Rattle.core_journal.specs.State.{Fresh, Linked, Spent, Node, State, put, handed, state_by, state}
 use Rattle.core_rule.specs.Kept.{IsKept}
-use Rattle.core_rule.specs.Nodes.{node_in, IsUsed}
-use Rattle.core_rule.specs.Chains.{is_frozen}
+use Rattle.core_rule.specs.Nodes.{node_in, IsUsed, is_frozen}
 use Rattle.core_rule.proofs.Steps.{Keeps, put_case, put_other, handed_case, marked_state, closed_state, holds_all}
 use Rattle.core_rule.proofs.LinkWords.{taken}
 use Rattle.core_rule.proofs.Contents.{contents}

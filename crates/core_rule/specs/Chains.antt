@@ -1,6 +1,5 @@
 -- The chains of the table at a moment: the vertices of each bucket, and the list of edges of each vertex.
 use Rattle.std.specs.Prelude.{◌≡◌, ℕ, ◌%◌, ◌<◌, ◌⊎◌, ◌==◌, ◌&&◌, Bool, true, false, List, Some}
-use Rattle.std.specs.List.{list_any}
 use Rattle.packed_link.specs.Link.{index_of, nowhere}
 use Rattle.packed_link.specs.Layout.{Sizes, bucket_at, key_at, link_at, second_at}
 use Rattle.packed_link.specs.declared.link.Life.{Life}
@@ -10,8 +9,8 @@ use Rattle.core_chain.specs.Table.{Places, chain_in}
 use Rattle.core_journal.specs.declared.event.Event.{Event}
 use Rattle.core_journal.specs.Life.{key_of, link_of, unlinked}
 use Rattle.core_journal.specs.Machine.{word_at}
-use Rattle.core_journal.specs.State.{Linked, Spent, State, is_linked, frozen_part, state}
-use Rattle.core_rule.specs.Nodes.{node_in, IsUsed, IsLinkedEdge, IsFrozenToEnd}
+use Rattle.core_journal.specs.State.{Linked, Spent, State, is_linked, state}
+use Rattle.core_rule.specs.Nodes.{node_in, is_listed, is_frozen, IsUsed, IsLinkedEdge, IsFrozenToEnd}
 use Rattle.core_rule.specs.Freezing.{IsFrozenWord}
 
 -- the words of a bucket: its own word is the head, and each vertex has its link
@@ -33,14 +32,6 @@ list_places sizes x = record { word_at = list_word sizes x; key_at = key_at size
 -- whether a node is a linked vertex with a key of this bucket
 abbrev pub is_of_bucket : Sizes → State → ℕ → ℕ → Bool
 is_of_bucket sizes s j x = is_linked (s.node x).mode && ((s.node x).vertex && ((s.node x).key % sizes.buckets == j))
-
--- whether a node stands on the list of a vertex
-abbrev pub is_listed : State → ℕ → ℕ → Bool
-is_listed s x y = list_any (λ z. z == y) (s.edges x)
-
--- whether a node stands on the frozen part of the list of a vertex
-abbrev pub is_frozen : State → ℕ → ℕ → Bool
-is_frozen s x y = list_any (λ z. z == y) (frozen_part s x)
 
 -- the chain of a bucket: its linked vertices, marked or not
 abbrev pub bucket_chain : Sizes → List Event → ℕ → Chain

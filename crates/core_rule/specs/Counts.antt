@@ -30,10 +30,6 @@ moves _ = false
 abbrev pub made : (Kind → Bool) → ℕ → List Event → ℕ
 made test caller journal = length (filter (λ (e : Event). test e.kind && (e.caller == caller)) journal)
 
--- how many events of some kinds all callers made
-abbrev pub all_made : (Kind → Bool) → List Event → ℕ
-all_made test journal = length (filter (λ (e : Event). test e.kind) journal)
-
 -- how many events of some kinds are about a life
 abbrev pub about : (Kind → Bool) → Life → List Event → ℕ
 about test x journal = length (filter (λ (e : Event). test e.kind && same_life x e.life) journal)

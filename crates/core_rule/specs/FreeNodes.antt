@@ -1,13 +1,12 @@
 -- When a node may be taken and filled, and a spent node be given back.
-use Rattle.std.specs.Prelude.{◌≡◌, ℕ, ◌+◌, ◌<◌, ◌^◌, ◌⊎◌, ◌==◌, true, List}
-use Rattle.std.specs.List.{list_any}
+use Rattle.std.specs.Prelude.{◌≡◌, ℕ, ◌+◌, ◌<◌, ◌^◌, ◌⊎◌, true, List}
 use Rattle.packed_link.specs.Link.{pack, index_of, mark_of, tag_of, nowhere}
 use Rattle.packed_link.specs.Layout.{Sizes, free_at, key_at, link_at}
 use Rattle.core_journal.specs.declared.event.Event.{Event}
 use Rattle.core_journal.specs.Machine.{word_at}
 use Rattle.core_journal.specs.State.{state}
 use Rattle.core_rule.specs.Counts.{pops, made, most_pops}
-use Rattle.core_rule.specs.Nodes.{node_in, IsFreshWith, IsFrozenToEnd, IsRipe}
+use Rattle.core_rule.specs.Nodes.{node_in, is_listed, IsFreshWith, IsFrozenToEnd, IsRipe}
 
 -- a caller that holds no fresh node takes the first free one, for its next life, and the free list then begins with
 -- the node behind it
@@ -41,7 +40,7 @@ pub record IsStoreFree (sizes : Sizes) (past : List Event) (e : Event) : Type 0 
   pub word : e.word ≡ pack next 1 (node_in sizes past e.life.index).tag
   pub ripe : IsRipe sizes past e.caller e.life.index
   pub own_list : (node_in sizes past e.life.index).vertex ≡ true → IsFrozenToEnd sizes past e.life.index
-  pub list : (x : ℕ) → x < sizes.nodes → list_any (λ z. z == e.life.index) ((state sizes past).edges x) ≡ true → IsFrozenToEnd sizes past x
+  pub list : (x : ℕ) → x < sizes.nodes → is_listed (state sizes past) x e.life.index ≡ true → IsFrozenToEnd sizes past x
 
 -- a caller gives back a ripe node whose link it stored: the node leads to the first free one, and is first now
 pub record IsPushFree (sizes : Sizes) (past : List Event) (e : Event) : Type 0 where

@@ -1,12 +1,11 @@
 -- When the list of an unlinked vertex may be closed at its head, and an edge on a closed list be marked.
-use Rattle.std.specs.Prelude.{◌≡◌, ℕ, ◌<◌, ◌⊎◌, ◌==◌, true, List}
-use Rattle.std.specs.List.{list_any}
+use Rattle.std.specs.Prelude.{◌≡◌, ℕ, ◌<◌, ◌⊎◌, true, List}
 use Rattle.packed_link.specs.Link.{with_mark, index_of, mark_of}
 use Rattle.packed_link.specs.Layout.{Sizes, link_at, second_at}
 use Rattle.core_journal.specs.declared.event.Event.{Event}
 use Rattle.core_journal.specs.Machine.{word_at}
-use Rattle.core_journal.specs.State.{Spent, state, frozen_part}
-use Rattle.core_rule.specs.Nodes.{node_in, IsVertex, IsLinkedEdge}
+use Rattle.core_journal.specs.State.{Spent, state}
+use Rattle.core_rule.specs.Nodes.{node_in, is_frozen, IsVertex, IsLinkedEdge}
 
 -- a vertex is spent by the caller who unlinked it
 pub record IsSpentVertex (sizes : Sizes) (past : List Event) (caller x : ℕ) : Type 0 where
@@ -26,7 +25,7 @@ pub record IsFreezeHead (sizes : Sizes) (past : List Event) (e : Event) : Type 0
 -- a word of a closed list is frozen: it's the second word of the vertex, or the link of an edge of its frozen part
 pub record IsFrozenWord (sizes : Sizes) (past : List Event) (x place : ℕ) : Type 0 where
   pub head : (state sizes past).frozen x ≡ true
-  pub at : (place ≡ second_at sizes x) ⊎ ((y : ℕ) × (list_any (λ z. z == y) (frozen_part (state sizes past) x) ≡ true) × (place ≡ link_at sizes y))
+  pub at : (place ≡ second_at sizes x) ⊎ ((y : ℕ) × (is_frozen (state sizes past) x y ≡ true) × (place ≡ link_at sizes y))
 
 -- the caller who unlinked an edge's source marks the edge, to which a frozen word of that source's list leads
 pub record IsFreezeEdge (sizes : Sizes) (past : List Event) (e : Event) : Type 0 where

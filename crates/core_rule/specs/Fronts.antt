@@ -1,8 +1,7 @@
 -- What a token must know by its front, so that its next step of a kind is allowed wherever it wins: one condition a kind.
 -- "Met" is what an open pass has met (`HasMet`). An earlier moment, at which the token loaded a word, stands only in those for
 -- taking a node, announcing, moving the epoch on, raising, marking an edge, and where the node is ripe.
-use Rattle.std.specs.Prelude.{◌≡◌, ◌≢◌, ℕ, ◌+◌, ◌%◌, ◌<◌, ◌^◌, ◌⊎◌, ◌==◌, true, false, List, Some, length}
-use Rattle.std.specs.List.{list_any}
+use Rattle.std.specs.Prelude.{◌≡◌, ◌≢◌, ℕ, ◌+◌, ◌%◌, ◌<◌, ◌^◌, ◌⊎◌, true, false, List, Some, length}
 use Rattle.packed_link.specs.Link.{index_of, mark_of, tag_of, nowhere}
 use Rattle.packed_link.specs.Layout.{free_at, epoch_at, bucket_at, key_at, link_at, second_at}
 use Rattle.packed_link.specs.declared.link.Life.{Life}
@@ -13,7 +12,7 @@ use Rattle.core_journal.specs.Life.{link_of, edge_marked}
 use Rattle.core_journal.specs.Reuse.{pass_in}
 use Rattle.core_journal.specs.State.{state}
 use Rattle.core_rule.specs.Counts.{pops, raises, moves, made, most_pops, most_raises, most_moves}
-use Rattle.core_rule.specs.Nodes.{node_in, IsFreshWith, IsFrozenToEnd, IsRipe}
+use Rattle.core_rule.specs.Nodes.{node_in, is_listed, IsFreshWith, IsFrozenToEnd, IsRipe}
 use Rattle.core_rule.specs.Chains.{KeepsList}
 use Rattle.core_rule.specs.Passes.{IsChecked}
 use Rattle.core_rule.specs.Vertices.{IsFilledVertex}
@@ -226,7 +225,8 @@ pub record MayStoreFree (v : View) (next : ℕ) (x : Life) : Type 0 where
   pub next_there : (next < v.sizes.nodes) ⊎ (next ≡ nowhere)
   pub ripe : IsRipe v.sizes v.front v.number x.index
   pub own_list : (node_in v.sizes v.front x.index).vertex ≡ true → IsFrozenToEnd v.sizes v.front x.index
-  pub list : (y : ℕ) → y < v.sizes.nodes → list_any (λ z. z == x.index) ((state v.sizes v.front).edges y) ≡ true → IsFrozenToEnd v.sizes v.front y
+  pub list : (y : ℕ) → y < v.sizes.nodes → is_listed (state v.sizes v.front) y x.index ≡ true
+      → IsFrozenToEnd v.sizes v.front y
 
 -- the node is ripe, and its link was stored with where the word seen leads
 pub record MayPushFree (v : View) (seen : ℕ) (x : Life) : Type 0 where

@@ -1,16 +1,24 @@
 -- What the conditions of the kinds say of nodes: their lives, the words that lead to them, and lists that are closed.
-use Rattle.std.specs.Prelude.{◌≡◌, ℕ, ◌+◌, ◌<◌, ◌≤◌, ◌⊎◌, ◌==◌, true, false, List}
+use Rattle.std.specs.Prelude.{◌≡◌, ℕ, ◌+◌, ◌<◌, ◌≤◌, ◌⊎◌, ◌==◌, Bool, true, false, List}
 use Rattle.std.specs.List.{list_any}
 use Rattle.packed_link.specs.Layout.{Sizes, epoch_at, bucket_at, link_at, second_at}
 use Rattle.packed_link.specs.declared.link.Life.{Life}
 use Rattle.core_journal.specs.declared.event.Event.{Event}
 use Rattle.core_journal.specs.Prefix.{IsPrefix}
 use Rattle.core_journal.specs.Machine.{word_at}
-use Rattle.core_journal.specs.State.{Mode, Linked, Fresh, Spent, Node, state}
+use Rattle.core_journal.specs.State.{Mode, Linked, Fresh, Spent, Node, State, frozen_part, state}
 
 -- a node after a journal
 abbrev pub node_in : Sizes → List Event → ℕ → Node
 node_in sizes journal x = (state sizes journal).node x
+
+-- whether a node stands on the list of a vertex
+abbrev pub is_listed : State → ℕ → ℕ → Bool
+is_listed s x y = list_any (λ z. z == y) (s.edges x)
+
+-- whether a node stands on the frozen part of the list of a vertex
+abbrev pub is_frozen : State → ℕ → ℕ → Bool
+is_frozen s x y = list_any (λ z. z == y) (frozen_part s x)
 
 -- a node that was linked and isn't given back: it's linked, or spent
 abbrev pub IsUsed : Mode → Type 0
@@ -58,7 +66,7 @@ IsListWord sizes place source before =
 -- the list of a vertex is frozen to its end: it's closed at its head, and each of its edges is marked
 pub record IsFrozenToEnd (sizes : Sizes) (past : List Event) (x : ℕ) : Type 0 where
   pub head : (state sizes past).frozen x ≡ true
-  pub edges : (y : ℕ) → list_any (λ z. z == y) ((state sizes past).edges x) ≡ true → (node_in sizes past y).marked ≡ true
+  pub edges : (y : ℕ) → is_listed (state sizes past) x y ≡ true → (node_in sizes past y).marked ≡ true
 
 -- a spent node is ripe for its caller: in this life it was spent at a moment at which the epoch was at most a stamp,
 -- and an epoch two above the stamp was shown

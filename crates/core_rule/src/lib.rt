@@ -56,5 +56,5 @@ pub use words::{
     announcements_tell_passes, counters_count_raises, events_are_of_past_lives, first_words_count,
     free_list_is_exact, links_tell_states, lives_are_linked_once, marked_words_stay,
     no_number_wraps, nodes_keep_their_words, nodes_tell_their_lives, passes_are_near_the_epoch,
-    ripe_nodes_ended_before_passes, what_is_met_stays,
+    ripe_nodes_ended_before_passes,
 };

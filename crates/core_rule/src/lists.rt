@@ -15,11 +15,11 @@ ghost use Rattle.core_journal.specs.Machine.{word_at};
 ghost use Rattle.core_journal.specs.Prefix.{IsPrefix};
 ghost use Rattle.core_journal.specs.State.{Fresh, Spent, state};
 ghost use Rattle.core_rule.specs.Chains.{EdgeLists, FrozenParts, HasList, IsAtSource, IsEdgeOf, IsInList, KeepsList};
-ghost use Rattle.core_rule.specs.Chains.{Sources, edge_chain, is_frozen, is_listed, life_in};
+ghost use Rattle.core_rule.specs.Chains.{Sources, edge_chain, life_in};
 ghost use Rattle.core_rule.specs.Freezing.{IsFrozenWord, IsSpentVertex};
 ghost use Rattle.core_rule.specs.Kept.{Allowed, IsKept, IsQuiet};
 ghost use Rattle.core_journal.specs.declared.event.Kind.TheVariants.{StoreFree, PushFree};
-ghost use Rattle.core_rule.specs.Nodes.{IsFrozenToEnd, IsLinkedEdge, IsLinkedVertex, IsUsed, node_in};
+ghost use Rattle.core_rule.specs.Nodes.{IsFrozenToEnd, IsLinkedEdge, IsLinkedVertex, IsUsed, node_in, is_frozen, is_listed};
 
 /// From the second word of each vertex that has a list, link after link, one meets the edges of its list, each once, by
 /// strictly rising keys. They are the lives that were linked as edges of the vertex's life, and not unlinked. Each linked vertex

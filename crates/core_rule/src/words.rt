@@ -19,7 +19,6 @@ ghost use Rattle.core_rule.specs.Nodes.{IsRipe, node_in};
 ghost use Rattle.core_rule.specs.FreeNodes.{IsPopFree};
 ghost use Rattle.core_rule.specs.Kept.{IsKept};
 ghost use Rattle.core_rule.specs.Facts.{Bounds, Contents, Counters, LinkWords, LinkedOnce, Lives, Named, Numbers};
-ghost use Rattle.core_rule.specs.Facts.{HasMet};
 ghost use Rattle.core_rule.specs.Free.{pool_in};
 ghost use Rattle.core_rule.specs.Moments.{clock_in, ends_in};
 ghost use Rattle.core_rule.specs.Passes.{IsChecked};
@@ -138,18 +137,4 @@ pub fn ripe_nodes_ended_before_passes()
     ensures ripe { (sizes : Sizes) → IsLayout sizes → (journal : List Event) → IsKept sizes journal
         → (caller x i : ℕ) → IsRipe sizes journal caller x → (pass_in sizes journal i).is_open ≡ true
         → (node_in sizes journal x).ended ≤ (pass_in sizes journal i).since }
-{}
-
-/// What an open pass has met, a node that's linked or was spent after the pass began, it has met still, in the same life,
-/// while that pass is open.
-pub fn what_is_met_stays()
-    ensures met { (sizes : Sizes) → IsLayout sizes → (caller x : ℕ) (front journal : List Event)
-        → IsPrefix front journal → IsKept sizes journal → HasMet sizes front caller x
-        → (pass_in sizes journal caller).is_open ≡ true
-        → (pass_in sizes journal caller).since ≡ (pass_in sizes front caller).since → HasMet sizes journal caller x }
-    ensures life { (sizes : Sizes) → IsLayout sizes → (caller x : ℕ) (front journal : List Event)
-        → IsPrefix front journal → IsKept sizes journal → HasMet sizes front caller x
-        → (pass_in sizes journal caller).is_open ≡ true
-        → (pass_in sizes journal caller).since ≡ (pass_in sizes front caller).since
-        → (node_in sizes journal x).tag ≡ (node_in sizes front x).tag }
 {}
