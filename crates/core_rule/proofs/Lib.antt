@@ -69,3 +69,6 @@ pub mod Beside
 pub mod FrozenOn
 pub mod FoundFrozen
 pub mod EndsBefore
+pub mod OwnSteps
+pub mod NewNumbers
+pub mod FrozenWords

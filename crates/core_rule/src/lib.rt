@@ -34,10 +34,13 @@ pub use lifts::{
 };
 pub use lists::{
     a_closed_list_is_a_list, a_present_edge_is_on_its_list, closed_lists_stay,
-    frozen_parts_are_handed_over, linked_edges_are_at_their_source, lists_hold_their_edges,
-    one_edge_has_a_pair,
+    frozen_parts_are_handed_over, frozen_words_stay, linked_edges_are_at_their_source,
+    lists_hold_their_edges, one_edge_has_a_pair,
 };
-pub use own::{callers_have_numbers, own_events_are_counted, own_facts_stay};
+pub use own::{
+    a_caller_fills_one_node, a_new_number_has_nothing, callers_have_numbers,
+    each_event_changes_its_node, each_event_keeps_the_rest, own_events_are_counted, own_facts_stay,
+};
 pub use raises::marked_edges_were_linked_at_a_lower_counter;
 pub use reuse::{
     each_node_has_one_standing, nodes_are_given_again_safely, ripe_nodes_are_not_met,
