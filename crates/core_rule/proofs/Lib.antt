@@ -72,3 +72,4 @@ pub mod EndsBefore
 pub mod OwnSteps
 pub mod NewNumbers
 pub mod FrozenWords
+pub mod Stamps

@@ -1,5 +1,5 @@
 -- A number that was drawn last is nowhere in the state yet, and its caller made no event before.
-use Rattle.std.proofs.Common.{◌≡◌, ◌≢◌, ◌⊎◌, ℕ, ◌+◌, ◌<◌, ◌≤◌, Bool, true, false, cond, ◌&&◌, eqb, List, [], ◌∷◌, ◌++◌, refl, sym, ap, ◌∙◌, subst, arith, inl, inr, ⊎_elim}
+use Rattle.std.proofs.Common.{◌≡◌, ◌≢◌, ◌⊎◌, ℕ, ◌+◌, ◌<◌, ◌≤◌, Bool, true, false, List, [], ◌∷◌, ◌++◌, refl, sym, ap, ◌∙◌, subst, arith, inl, inr, ⊎_elim}
 use Rattle.packed_link.specs.Layout.{Sizes}
 use Rattle.core_journal.specs.declared.event.Kind.{Kind}
 use Rattle.core_journal.specs.declared.event.Kind.TheVariants.{DrawNumber, PopFree, LinkVertex, MarkVertex, UnlinkVertex, LinkEdge, MarkEdge, UnlinkEdge, Announce, Withdraw, FreezeHead, FreezeEdge, StoreFree, PushFree}
@@ -9,9 +9,8 @@ use Rattle.core_journal.specs.Reuse.{pass_in}
 use Rattle.core_rule.specs.Counts.{draws, made}
 use Rattle.core_rule.specs.Kept.{IsKept, IsQuiet}
 use Rattle.core_rule.specs.Nodes.{node_in, IsFreshWith, IsSpentWith}
-use Rattle.core_rule.proofs.Called.{called, made_quiet}
+use Rattle.core_rule.proofs.Called.{called, made_quiet, made_none}
 use Rattle.core_rule.proofs.Induction.{past_kept}
-use Rattle.core_rule.proofs.Lives.{count_snoc}
 use Rattle.core_rule.proofs.OwnSteps.{allowed_as, after_as}
 use Rattle.core_rule.proofs.Steps.{Keeps, put_case, handed_case, marked_state, closed_state, holds_all}
 
@@ -123,6 +122,4 @@ module _ (sizes : Sizes) (past : List Event) (e : Event) (kept : IsKept sizes (p
   pub new_made : (test : Kind → Bool) → test DrawNumber ≡ false → made test e.caller (past ++ e ∷ []) ≡ 0
   new_made test other =
       let nothing : made test e.caller past ≡ 0 = made_quiet test e.caller 0 [] past (record { rest = past; whole = refl }) (omega arith) new_quiet in
-      let one = count_snoc (λ (d : Event). test d.kind && eqb d.caller e.caller) past e in
-      let none : test e.kind ≡ false = ap test is ∙ other in
-      one ∙ (ap (λ (b : Bool). made test e.caller past + cond (b && eqb e.caller e.caller) 1 0) none ∙ omega (arith, nothing))
+      made_none test e.caller past e (ap test is ∙ other) ∙ nothing

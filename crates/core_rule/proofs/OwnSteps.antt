@@ -1,9 +1,11 @@
 -- What an event leaves as it was, and what it does to the node that it's about.
 use Rattle.std.proofs.Common.{◌≡◌, ◌≢◌, ℕ, ◌+◌, ◌<◌, true, false, List, [], ◌∷◌, ◌++◌, length, refl, sym, ap, ◌∙◌, subst, arith}
+use mathlib.Core.Logic.{dite}
+use native.Mathlib.Decide.{ℕ_discrete}
 use Rattle.packed_link.specs.Layout.{Sizes, IsLayout, word_count, key_at, link_at, second_at, third_at}
 use Rattle.packed_link.specs.declared.link.Life.{Life}
 use Rattle.core_journal.specs.declared.event.Kind.{Kind}
-use Rattle.core_journal.specs.declared.event.Kind.TheVariants.{DrawNumber, PopFree, StorePrivate, LinkVertex, UnlinkVertex, LinkEdge, UnlinkEdge, Announce, Withdraw, MoveEpoch, StoreFree}
+use Rattle.core_journal.specs.declared.event.Kind.TheVariants.{DrawNumber, PopFree, StorePrivate, LinkVertex, UnlinkVertex, LinkEdge, UnlinkEdge, Announce, Withdraw, MoveEpoch, StoreFree, PushFree, MarkVertex, MarkEdge, FreezeEdge, FreezeHead}
 use Rattle.core_journal.specs.declared.event.Event.{Event}
 use Rattle.core_journal.specs.Machine.{word_at}
 use Rattle.core_journal.specs.State.{Fresh, Linked, Spent, Pass, Node, State, put, state_by, state}
@@ -11,17 +13,19 @@ use Rattle.core_journal.specs.Reuse.{pass_in}
 use Rattle.core_journal.proofs.MachineWords.{word_here}
 use Rattle.core_journal.proofs.States.{state-snoc, count-length}
 use Rattle.core_rule.specs.Kept.{Allowed, AllowedAs, IsKept}
-use Rattle.core_rule.specs.Nodes.{node_in, IsFreshWith, IsSpentWith, IsLinkedVertex, IsLinkedEdge}
+use Rattle.core_rule.specs.Nodes.{IsUsed, node_in, IsFreshWith, IsSpentWith, IsLinkedVertex, IsLinkedEdge}
 use Rattle.core_rule.specs.Freezing.{IsSpentVertex}
-use Rattle.core_rule.specs.Chains.{is_listed}
+use Rattle.core_rule.specs.Chains.{HasList, is_listed}
 use Rattle.core_rule.specs.Facts.{IsHeld, IsKeptSpent}
 use Rattle.core_rule.proofs.Induction.{past_kept, last_allowed}
-use Rattle.core_rule.proofs.Steps.{KeepsIn, after_event, put_case, put_same, all_in}
+use Rattle.core_rule.proofs.Steps.{KeepsIn, after_event, put_case, put_same, handed_case, closed_state, all_in}
 use Rattle.core_rule.proofs.ListParts.{unlinked_was, yes_no}
 use Rattle.core_rule.proofs.Lives.{same_tag}
 use Rattle.core_rule.proofs.OwnFacts.{nowhere_near, fresh_was}
 use Rattle.core_rule.proofs.OwnSpent.{left_by}
+use Rattle.core_rule.proofs.FreeList.{first_is_free}
 use Rattle.core_rule.proofs.Placed.{used_there}
+use Rattle.core_rule.proofs.SpentLinks.{unclosed}
 
 -- a caller holds at most one fresh node
 record OneFresh (s : State) : Type 0 where
@@ -80,6 +84,13 @@ pass_by Announce a w sizes e s caller = absurd (a refl)
 pass_by Withdraw a w sizes e s caller = absurd (w refl)
 pass_by _ a w sizes e s caller = refl
 
+-- a node is in the same state, hands and life
+record IsSpentNode (v v' : Node) : Type 0 where
+  pub mode : v'.mode ≡ v.mode
+  pub who : v'.who ≡ v.who
+  pub tag : v'.tag ≡ v.tag
+  pub vertex : v'.vertex ≡ v.vertex
+
 module _ (sizes : Sizes) (past : List Event) (e : Event) (kept : IsKept sizes (past ++ e ∷ [])) where
   was_kept : IsKept sizes past
   was_kept = past_kept sizes past e kept
@@ -130,6 +141,32 @@ module _ (sizes : Sizes) (past : List Event) (e : Event) (kept : IsKept sizes (p
   pub pass_kept : e.kind ≢ Announce → e.kind ≢ Withdraw → (caller : ℕ) → pass_in sizes (past ++ e ∷ []) caller ≡ pass_in sizes past caller
   pass_kept a w caller = ap (λ (s : State). s.pass caller) (state-snoc sizes past e) ∙ pass_by e.kind a w sizes e (state sizes past) caller
 
+  -- a spent node that the event is about stays in its state and its life, but where it's given back
+  spent_here : IsLayout sizes → (node_in sizes past e.life.index).mode ≡ Spent → (k : Kind) → k ≢ PushFree → AllowedAs k sizes past e → IsSpentNode (node_in sizes past e.life.index) ((state_by k sizes e (state sizes past)).node e.life.index)
+  spent_here z m PopFree other ok = let f = first_is_free sizes z past was_kept e.life.index ok.there ok.seen in absurd (cc)
+  spent_here z m LinkVertex other ok = let f = ok.fresh.fresh in absurd (cc)
+  spent_here z m LinkEdge other ok = let f = ok.fresh.fresh in absurd (cc)
+  spent_here z m MarkVertex other ok = let f = ok.linked.linked in absurd (cc)
+  spent_here z m UnlinkVertex other ok = let f = ok.linked.linked in absurd (cc)
+  spent_here z m UnlinkEdge other ok = let f = ok.linked.linked in absurd (cc)
+  spent_here z m MarkEdge other ok = let f = ok.linked.linked in absurd (cc)
+  spent_here z m FreezeEdge other ok = let f = ok.linked.linked in absurd (cc)
+  spent_here z m PushFree other ok = absurd (other refl)
+  spent_here z m StoreFree other ok = subst (IsSpentNode (node_in sizes past e.life.index)) (sym (put_same e.life.index _ (state sizes past).node)) record { mode = refl; who = refl; tag = refl; vertex = refl }
+  spent_here z m FreezeHead other ok = handed_case (λ (u : Node). IsSpentNode (node_in sizes past e.life.index) u) (closed_state (state sizes past) e.life.index) e.life.index e.life.index record { mode = refl; who = refl; tag = refl; vertex = refl } (λ l _ _. absurd (cc))
+  spent_here z m _ other ok = record { mode = refl; who = refl; tag = refl; vertex = refl }
+
+  pub spent_still : IsLayout sizes → (caller x : ℕ) → (e.kind ≡ PushFree → e.life.index ≢ x) → IsSpentWith sizes past caller x
+      → IsSpentWith sizes (past ++ e ∷ []) caller x × ((node_in sizes (past ++ e ∷ []) x).tag ≡ (node_in sizes past x).tag) × ((node_in sizes (past ++ e ∷ []) x).vertex ≡ (node_in sizes past x).vertex)
+  spent_still z caller x other f =
+      let r : IsSpentNode (node_in sizes past x) (node_in sizes (past ++ e ∷ []) x) = dite (ℕ_discrete x e.life.index)
+      (λ same. subst (λ (y : ℕ). IsSpentNode (node_in sizes past y) (node_in sizes (past ++ e ∷ []) y)) (sym same) (subst (IsSpentNode (node_in sizes past e.life.index)) (sym (ap (λ (s : State). s.node e.life.index) (state-snoc sizes past e)))
+      (spent_here z (ap (λ (y : ℕ). (node_in sizes past y).mode) (sym same) ∙ f.spent) e.kind (λ h. other h (sym same)) allowed.as_kind)))
+      (λ ne.
+      let is = (spent_kept z caller x (used_there sizes past x was_kept (λ h. let t = f.spent in absurd (cc))) ne f).node in
+      record { mode = ap (λ (n : Node). n.mode) is; who = ap (λ (n : Node). n.who) is; tag = ap (λ (n : Node). n.tag) is; vertex = ap (λ (n : Node). n.vertex) is }) in
+      (record { spent = r.mode ∙ f.spent; mine = r.who ∙ f.mine }, r.tag, r.vertex)
+
   -- a node that is fresh with a caller was so before, where it took none
   before : e.kind ≢ PopFree → (caller x : ℕ) → IsFreshWith sizes (past ++ e ∷ []) caller x → IsFreshWith sizes past caller x
   before other caller x f =
@@ -172,11 +209,16 @@ module _ (sizes : Sizes) (past : List Event) (e : Event) (kept : IsKept sizes (p
       (record { linked = linked; edge = ap (λ (n : Node). n.vertex) h }, ap (λ (n : Node). n.source) h, no_more (λ h. absurd (cc)) (allowed_as LinkEdge is).fresh linked)
 
   -- a node is unlinked
-  pub vertex_spent : e.kind ≡ UnlinkVertex → IsSpentVertex sizes (past ++ e ∷ []) e.caller e.life.index
-  vertex_spent is =
+  pub vertex_spent : IsLayout sizes → e.kind ≡ UnlinkVertex → IsSpentVertex sizes (past ++ e ∷ []) e.caller e.life.index × HasList sizes (past ++ e ∷ []) e.life.index
+  vertex_spent z is =
       let v : Node = record (node_in sizes past e.life.index) { mode = Spent; who = e.caller; ended = (state sizes past).count + 1; epoch = (state sizes past).epoch } in
       let h = node_as UnlinkVertex is v (put_same e.life.index v (state sizes past).node) in
-      record { spent = ap (λ (n : Node). n.mode) h; vertex = ap (λ (n : Node). n.vertex) h ∙ (allowed_as UnlinkVertex is).linked.vertex; mine = ap (λ (n : Node). n.who) h }
+      let ok = allowed_as UnlinkVertex is in
+      let vertex : (node_in sizes (past ++ e ∷ []) e.life.index).vertex ≡ true = ap (λ (n : Node). n.vertex) h ∙ ok.linked.vertex in
+      let open_ : (state sizes (past ++ e ∷ [])).frozen e.life.index ≡ false = ap (λ (s : State). s.frozen e.life.index) (after_as UnlinkVertex is) ∙ unclosed sizes z past was_kept e.life.index ok.linked.linked in (
+        record { spent = ap (λ (n : Node). n.mode) h; vertex = vertex; mine = ap (λ (n : Node). n.who) h },
+        record { there = ok.there; used = subst IsUsed (sym (ap (λ (n : Node). n.mode) h)) tt; vertex = vertex; unfinished = λ f. let t = f.head in absurd (cc) },
+      )
 
   pub edge_spent : e.kind ≡ UnlinkEdge → IsSpentWith sizes (past ++ e ∷ []) e.caller e.life.index × ((x : ℕ) → is_listed (state sizes (past ++ e ∷ [])) x e.life.index ≡ false)
   edge_spent is =

@@ -44,7 +44,7 @@ pub use own::{
 pub use raises::marked_edges_were_linked_at_a_lower_counter;
 pub use reuse::{
     each_node_has_one_standing, nodes_are_given_again_safely, ripe_nodes_are_not_met,
-    spent_nodes_stay_with_their_caller, what_is_met_keeps_its_words,
+    spent_nodes_become_ripe, spent_nodes_stay_with_their_caller, what_is_met_keeps_its_words,
 };
 pub use rule::{
     a_draw_keeps_the_rule, a_last_token_knows_the_journal, a_new_table_meets_the_rule,

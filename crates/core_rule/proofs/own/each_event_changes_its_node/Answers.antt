@@ -20,7 +20,7 @@ pub returns-clause-edge : goal.returns-clause-edge
 returns-clause-edge c = λ sizes past e kept is. edge_joined sizes past e kept is
 
 pub returns-clause-vertex_spent : goal.returns-clause-vertex_spent
-returns-clause-vertex_spent c = λ sizes past e kept is. vertex_spent sizes past e kept is
+returns-clause-vertex_spent c = λ sizes z past e kept is. vertex_spent sizes past e kept z is
 
 pub returns-clause-edge_spent : goal.returns-clause-edge_spent
 returns-clause-edge_spent c = λ sizes past e kept is. edge_spent sizes past e kept is
