@@ -73,3 +73,4 @@ pub mod OwnSteps
 pub mod NewNumbers
 pub mod FrozenWords
 pub mod Stamps
+pub mod ViewsShown

@@ -1,0 +1,115 @@
+//! The laws of a token's view: how it goes on by the token's steps, and what a word that it loaded shows.
+//!
+//! A step tells a token its new view (`specs/Plays.antt`). These laws say what of the old view holds of the new one, and where
+//! the words lead that a view with an open pass shows (`specs/Views.antt`), in the form in which the conditions of the next step
+//! ask for it (`specs/Fronts.antt`).
+
+ghost use Rattle.std.specs.Prelude.{◌≡◌, ◌≢◌, ℕ, ◌<◌, true, false, List, [], ◌∷◌, ◌++◌, Some, None};
+ghost use Rattle.packed_link.specs.Link.{mark_of, tag_of};
+ghost use Rattle.packed_link.specs.Layout.{IsLayout, bucket_at, link_at, second_at};
+ghost use Rattle.packed_link.specs.declared.link.Life.{Life};
+ghost use Rattle.core_journal.specs.declared.event.Event.{Event};
+ghost use Rattle.core_journal.specs.declared.event.Kind.TheVariants.{Announce, Withdraw};
+ghost use Rattle.core_journal.specs.GraphOf.{present_key};
+ghost use Rattle.core_journal.specs.Life.{edge_marked, key_of, vertex_marked};
+ghost use Rattle.core_journal.specs.Machine.{word_at};
+ghost use Rattle.core_journal.specs.Reuse.{pass_in};
+ghost use Rattle.core_rule.specs.Counts.{made, most_raises, raises};
+ghost use Rattle.core_rule.specs.Edges.{IsRaisedFor};
+ghost use Rattle.core_rule.specs.Facts.{HasMet};
+ghost use Rattle.core_rule.specs.Fronts.{IsEdgeAbove, IsEdgeBelow, IsLifeAt, IsVertexAbove, IsVertexBelow};
+ghost use Rattle.core_rule.specs.Fronts.{MayRaise, MetEdge, MetVertex, key_in};
+ghost use Rattle.core_rule.specs.Kept.{IsKept};
+ghost use Rattle.core_rule.specs.Nodes.{IsLinkedEdge, IsLinkedVertex};
+ghost use Rattle.core_rule.specs.Owes.{Reaches};
+ghost use Rattle.core_rule.specs.Plays.{IsSound, Looked, Stored, Won};
+ghost use Rattle.core_rule.specs.Views.{GoesOn, IsEdgeBehind, IsEdgeIn, IsEdgeShown, IsVertexBehind, IsVertexIn};
+ghost use Rattle.core_rule.specs.Walks.{LeadsTo};
+ghost use Rattle.core_rule.specs.declared.view.View.{View};
+
+/// A load, a won step and a store lead to a later view of the same token, in the same pass but where one was announced or
+/// withdrawn. Before its own event stood a journal that the token might meet by its front, and what stood there with the event
+/// is kept.
+pub fn a_view_goes_on()
+    ensures look { (v : View) (place found : ℕ) (w : View) → v.numbered ≡ true → IsSound v → Looked v place found w
+        → GoesOn v w }
+    ensures win { (v : View) (place found : ℕ) (e : Event) (w : View) → v.numbered ≡ true → IsSound v
+        → Won v place found e w → e.kind ≢ Announce → e.kind ≢ Withdraw → GoesOn v w }
+    ensures store { (v : View) (e : Event) (w : View) → v.numbered ≡ true → IsSound v → Stored v e w
+        → e.kind ≢ Announce → e.kind ≢ Withdraw → GoesOn v w }
+    ensures chain { (u v w : View) → GoesOn u v → GoesOn v w → GoesOn u w }
+    ensures look_from { (v : View) (place found : ℕ) (w : View) → v.numbered ≡ true → IsSound v → Looked v place found w
+        → Reaches v w.front }
+    ensures win_from { (v : View) (place found : ℕ) (e : Event) (w : View) → v.numbered ≡ true → IsSound v
+        → (s : Won v place found e w) → Reaches v s.grown × IsKept v.sizes (s.grown ++ e ∷ []) }
+    ensures store_from { (v : View) (e : Event) (w : View) → v.numbered ≡ true → IsSound v
+        → (s : Stored v e w) → Reaches v s.grown × IsKept v.sizes (s.grown ++ e ∷ []) }
+{}
+
+/// What a view's pass has met, a later view of this pass has met: the same lives, with their keys, and their links once they're
+/// marked. So the words before and behind which a vertex or an edge may stand are such words still, and what was raised in the
+/// pass or may be raised is so still.
+pub fn a_later_view_has_met_it()
+    ensures vertex { (v w : View) → IsLayout v.sizes → GoesOn v w → (x : Life) → MetVertex v x → MetVertex w x }
+    ensures edge { (v w : View) → IsLayout v.sizes → GoesOn v w → (source x : Life) → MetEdge v source x
+        → MetEdge w source x }
+    ensures key { (v w : View) → IsLayout v.sizes → GoesOn v w → (x : ℕ) → x < v.sizes.nodes
+        → HasMet v.sizes v.front v.number x → key_in w x ≡ key_in v x }
+    ensures dead { (v w : View) → IsLayout v.sizes → GoesOn v w → (x : ℕ) → x < v.sizes.nodes
+        → HasMet v.sizes v.front v.number x → mark_of (word_at v.sizes v.front (link_at v.sizes x)) ≡ 1
+        → word_at w.sizes w.front (link_at w.sizes x) ≡ word_at v.sizes v.front (link_at v.sizes x) }
+    ensures vertex_below { (v w : View) → IsLayout v.sizes → GoesOn v w → (key place : ℕ) (x : Life)
+        → IsVertexBelow v key place x → IsVertexBelow w key place x }
+    ensures vertex_above { (v w : View) → IsLayout v.sizes → GoesOn v w → (key index : ℕ)
+        → IsVertexAbove v key index → IsVertexAbove w key index }
+    ensures edge_below { (v w : View) → IsLayout v.sizes → GoesOn v w → (source : Life) (key place : ℕ) (x : Life)
+        → IsEdgeBelow v source key place x → IsEdgeBelow w source key place x }
+    ensures edge_above { (v w : View) → IsLayout v.sizes → GoesOn v w → (source : Life) (key index : ℕ)
+        → IsEdgeAbove v source key index → IsEdgeAbove w source key index }
+    ensures may_raise { (v w : View) → IsLayout v.sizes → GoesOn v w → (x : Life) → MayRaise v x
+        → made raises w.number w.front < most_raises → MayRaise w x }
+    ensures raised { (v w : View) → IsLayout v.sizes → GoesOn v w → (edge source : Life)
+        → IsRaisedFor v.sizes v.front v.number edge source → IsRaisedFor w.sizes w.front w.number edge source }
+{}
+
+/// Where the words lead that a view in an open pass shows: the word of a bucket to none or to a vertex of it, the link of a
+/// vertex or an edge that was met to none or to one behind it, and the second word of a vertex to none or to an edge of it.
+pub fn a_word_leads_to_what_is_met()
+    ensures bucket { (v : View) → IsLayout v.sizes → IsKept v.sizes v.front
+        → (pass_in v.sizes v.front v.number).is_open ≡ true → (j : ℕ) → j < v.sizes.buckets
+        → LeadsTo (word_at v.sizes v.front (bucket_at v.sizes j)) (IsVertexIn v j) }
+    ensures vertex { (v : View) → IsLayout v.sizes → IsKept v.sizes v.front → (x : Life) → MetVertex v x
+        → LeadsTo (word_at v.sizes v.front (link_at v.sizes x.index)) (IsVertexBehind v x) }
+    ensures edge { (v : View) → IsLayout v.sizes → IsKept v.sizes v.front → (source x : Life) → MetEdge v source x
+        → LeadsTo (word_at v.sizes v.front (link_at v.sizes x.index)) (IsEdgeBehind v source x) }
+    ensures list { (v : View) → IsLayout v.sizes → IsKept v.sizes v.front → (x : Life) → MetVertex v x
+        → LeadsTo (word_at v.sizes v.front (second_at v.sizes x.index)) (IsEdgeIn v x) }
+{}
+
+/// What the words of a node show that was met: its link has the tag of its life, and so has a vertex's second word; the key, of
+/// an edge also its source, target and weight, are those with which it was linked. Where its link is unmarked it's linked and
+/// not marked, so a vertex is present, and the counter of an edge's source may be raised; where it's marked, it's marked.
+pub fn the_words_of_a_met_node_tell_its_life()
+    ensures life { (v : View) → IsLayout v.sizes → IsKept v.sizes v.front → (x : Life) → IsLifeAt v x
+        → HasMet v.sizes v.front v.number x.index → tag_of (word_at v.sizes v.front (link_at v.sizes x.index)) ≡ x.tag }
+    ensures second { (v : View) → IsLayout v.sizes → IsKept v.sizes v.front → (x : Life) → MetVertex v x
+        → tag_of (word_at v.sizes v.front (second_at v.sizes x.index)) ≡ x.tag }
+    ensures key { (v : View) → IsLayout v.sizes → IsKept v.sizes v.front → (x : Life) → MetVertex v x
+        → key_of v.front x ≡ Some (key_in v x.index) }
+    ensures present { (v : View) → IsLayout v.sizes → IsKept v.sizes v.front → (x : Life) → MetVertex v x
+        → mark_of (word_at v.sizes v.front (link_at v.sizes x.index)) ≡ 0
+        → IsLinkedVertex v.sizes v.front x.index × (present_key v.front x ≡ Some (key_in v x.index)) }
+    ensures removed { (v : View) → IsLayout v.sizes → IsKept v.sizes v.front → (x : Life) → MetVertex v x
+        → mark_of (word_at v.sizes v.front (link_at v.sizes x.index)) ≡ 1
+        → (vertex_marked v.front x ≡ true) × (present_key v.front x ≡ None) }
+    ensures edge { (v : View) → IsLayout v.sizes → IsKept v.sizes v.front → (source x : Life) → MetEdge v source x
+        → IsEdgeShown v source x }
+    ensures unmarked { (v : View) → IsLayout v.sizes → IsKept v.sizes v.front → (source x : Life) → MetEdge v source x
+        → mark_of (word_at v.sizes v.front (link_at v.sizes x.index)) ≡ 0
+        → IsLinkedEdge v.sizes v.front x.index × (edge_marked v.front x ≡ false) }
+    ensures marked { (v : View) → IsLayout v.sizes → IsKept v.sizes v.front → (source x : Life) → MetEdge v source x
+        → mark_of (word_at v.sizes v.front (link_at v.sizes x.index)) ≡ 1 → edge_marked v.front x ≡ true }
+    ensures may_raise { (v : View) → IsLayout v.sizes → IsKept v.sizes v.front → (source x : Life) → MetEdge v source x
+        → MetVertex v source → mark_of (word_at v.sizes v.front (link_at v.sizes x.index)) ≡ 0
+        → made raises v.number v.front < most_raises → MayRaise v source }
+{}
