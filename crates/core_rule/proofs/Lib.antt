@@ -74,3 +74,4 @@ pub mod NewNumbers
 pub mod FrozenWords
 pub mod Stamps
 pub mod ViewsShown
+pub mod Passed

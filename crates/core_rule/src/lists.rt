@@ -51,7 +51,7 @@ pub fn lists_hold_their_edges()
 
 /// The frozen part of a list holds exactly its edges that were handed over, and the others are linked. A frozen word leads
 /// to none, or to an edge of the list. Each edge of a frozen part that isn't given back is spent, by the caller who spent
-/// the vertex.
+/// the vertex. A frozen part is one of a closed list, and its edges stand on that list (`listed`).
 pub fn frozen_parts_are_handed_over()
     ensures parts { (sizes : Sizes) → IsLayout sizes → (journal : List Event) → IsKept sizes journal
         → FrozenParts sizes journal }
@@ -59,6 +59,8 @@ pub fn frozen_parts_are_handed_over()
         → (x y : ℕ) → IsUsed (node_in sizes journal x).mode → (node_in sizes journal x).vertex ≡ true
         → is_frozen (state sizes journal) x y ≡ true → IsUsed (node_in sizes journal y).mode
         → (node_in sizes journal y).mode ≡ Spent × ((node_in sizes journal y).who ≡ (node_in sizes journal x).who) }
+    ensures listed { (sizes : Sizes) (journal : List Event) (x y : ℕ) → is_frozen (state sizes journal) x y ≡ true
+        → (is_listed (state sizes journal) x y ≡ true) × ((state sizes journal).frozen x ≡ true) }
 {}
 
 /// A list that is frozen to its end is one still while no edge of its vertex's life is stored for the free list: one meets

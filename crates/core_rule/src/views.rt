@@ -5,20 +5,20 @@
 //! ask for it (`specs/Fronts.antt`).
 
 ghost use Rattle.std.specs.Prelude.{◌≡◌, ◌≢◌, ℕ, ◌<◌, true, false, List, [], ◌∷◌, ◌++◌, Some, None};
-ghost use Rattle.packed_link.specs.Link.{mark_of, tag_of};
+ghost use Rattle.packed_link.specs.Link.{index_of, mark_of, nowhere, tag_of};
 ghost use Rattle.packed_link.specs.Layout.{IsLayout, bucket_at, link_at, second_at};
 ghost use Rattle.packed_link.specs.declared.link.Life.{Life};
 ghost use Rattle.core_journal.specs.declared.event.Event.{Event};
 ghost use Rattle.core_journal.specs.declared.event.Kind.TheVariants.{Announce, Withdraw};
 ghost use Rattle.core_journal.specs.GraphOf.{present_key};
-ghost use Rattle.core_journal.specs.Life.{edge_marked, key_of, vertex_marked};
+ghost use Rattle.core_journal.specs.Life.{edge_marked, key_of, link_of, vertex_marked};
 ghost use Rattle.core_journal.specs.Machine.{word_at};
 ghost use Rattle.core_journal.specs.Reuse.{pass_in};
 ghost use Rattle.core_rule.specs.Counts.{made, most_raises, raises};
 ghost use Rattle.core_rule.specs.Edges.{IsRaisedFor};
 ghost use Rattle.core_rule.specs.Facts.{HasMet};
-ghost use Rattle.core_rule.specs.Fronts.{IsEdgeAbove, IsEdgeBelow, IsLifeAt, IsVertexAbove, IsVertexBelow};
-ghost use Rattle.core_rule.specs.Fronts.{MayRaise, MetEdge, MetVertex, key_in};
+ghost use Rattle.core_rule.specs.Fronts.{IsBeforeEdge, IsBeforeVertex, IsEdgeAbove, IsEdgeBelow, IsLifeAt};
+ghost use Rattle.core_rule.specs.Fronts.{IsVertexAbove, IsVertexBelow, MayRaise, MetEdge, MetVertex, key_in};
 ghost use Rattle.core_rule.specs.Kept.{IsKept};
 ghost use Rattle.core_rule.specs.Nodes.{IsLinkedEdge, IsLinkedVertex};
 ghost use Rattle.core_rule.specs.Owes.{Reaches};
@@ -112,4 +112,21 @@ pub fn the_words_of_a_met_node_tell_its_life()
     ensures may_raise { (v : View) → IsLayout v.sizes → IsKept v.sizes v.front → (source x : Life) → MetEdge v source x
         → MetVertex v source → mark_of (word_at v.sizes v.front (link_at v.sizes x.index)) ≡ 0
         → made raises v.number v.front < most_raises → MayRaise v source }
+{}
+
+/// A key that an unmarked word leads past is absent at that moment. Where the word is that of the key's bucket, or the link of a
+/// vertex of a smaller key in this bucket, and leads to none or to a vertex of a greater key, no present vertex has the key;
+/// where it's the second word of a source, or the link of an edge of it with a smaller key, and leads to none or to an edge of
+/// it with a greater key, no edge of the source that isn't marked has the key.
+pub fn a_passed_key_is_absent()
+    ensures vertex { (v : View) → IsLayout v.sizes → IsKept v.sizes v.front → (key place : ℕ) → IsBeforeVertex v key place
+        → mark_of (word_at v.sizes v.front place) ≡ 0 → (index_of (word_at v.sizes v.front place) ≢ nowhere
+        → IsVertexAbove v key (index_of (word_at v.sizes v.front place)))
+        → (x : Life) → present_key v.front x ≡ Some key → ⊥ }
+    ensures edge { (v : View) → IsLayout v.sizes → IsKept v.sizes v.front → (source : Life) (key place : ℕ)
+        → IsBeforeEdge v source key place → mark_of (word_at v.sizes v.front place) ≡ 0
+        → (index_of (word_at v.sizes v.front place) ≢ nowhere
+        → IsEdgeAbove v source key (index_of (word_at v.sizes v.front place)))
+        → (x : Life) (link : Event) → link_of v.front x ≡ Some link → edge_marked v.front x ≡ false
+        → link.source ≡ source → link.key ≡ key → ⊥ }
 {}
