@@ -44,8 +44,8 @@ pub record IsEdgeBehind (v : View) (source x : Life) (index : ℕ) : Type 0 wher
   pub met : MetEdge v source (life_in v.sizes v.front index)
   pub rising : key_in v x.index < key_in v index
 
--- the words of a node are those with which it was linked as an edge of the source: its key, that of its target, its target and
--- its weight
+-- the words of a node are those with which it was linked as an edge of the source: its key, that of its target, its
+-- target and its weight
 pub record IsEdgeShown (v : View) (source x : Life) : Type 0 where
   pub link : Event
   pub is : link_of v.front x ≡ Some link

@@ -1,8 +1,9 @@
 //! The laws of the lists of edges: after each kept journal each list holds the edges of its vertex's life.
 //!
 //! A vertex has a list while it is linked or spent and its list isn't frozen to its end (`HasList` of
-//! `specs/Chains.antt`). An edge joins the list of its source with its link and leaves it when it's unlinked; marked, or
-//! handed over with the frozen part, it's on it in between. Since keys rise strictly along a list, it has one edge a key.
+//! `specs/Chains.antt`). An edge joins the list of its source with its link and leaves it when it's unlinked; marked,
+//! or handed over with the frozen part, it's on it in between. Since keys rise strictly along a list, it has one edge a
+//! key.
 
 ghost use Rattle.std.specs.Prelude.{◌≡◌, ◌≢◌, ◌⊎◌, ◌↔◌, ℕ, ◌<◌, ◌≤◌, false, true, List, [], ◌∷◌, ◌++◌, Some, length};
 ghost use Rattle.packed_link.specs.Link.{index_of, mark_of, nowhere};
@@ -22,10 +23,10 @@ ghost use Rattle.core_journal.specs.declared.event.Kind.TheVariants.{FreezeEdge,
 ghost use Rattle.core_rule.specs.Nodes.{IsFrozenToEnd, IsLinkedEdge, IsLinkedVertex, IsSpentWith, IsUsed, node_in};
 
 /// From the second word of each vertex that has a list, link after link, one meets the edges of its list, each once, by
-/// strictly rising keys. They are the lives that were linked as edges of the vertex's life, and not unlinked. Each linked vertex
-/// has a list, and so has each vertex that is linked or spent and whose second word is unmarked. What stands on any list, also
-/// one that is frozen to its end, was linked so and not unlinked; it's an edge node whose source is the vertex, and stands on no
-/// other list.
+/// strictly rising keys. They are the lives that were linked as edges of the vertex's life, and not unlinked. Each
+/// linked vertex has a list, and so has each vertex that is linked or spent and whose second word is unmarked. What
+/// stands on any list, also one that is frozen to its end, was linked so and not unlinked; it's an edge node whose
+/// source is the vertex, and stands on no other list.
 pub fn lists_hold_their_edges()
     ensures lists { (sizes : Sizes) → IsLayout sizes → (journal : List Event) → IsKept sizes journal
         → EdgeLists sizes journal }
@@ -49,9 +50,9 @@ pub fn lists_hold_their_edges()
         → mark_of (word_at sizes journal (second_at sizes x)) ≡ 0 → HasList sizes journal x }
 {}
 
-/// The frozen part of a list holds exactly its edges that were handed over, and the others are linked. A frozen word leads
-/// to none, or to an edge of the list. Each edge of a frozen part that isn't given back is spent, by the caller who spent
-/// the vertex. A frozen part is one of a closed list, and its edges stand on that list (`listed`).
+/// The frozen part of a list holds exactly its edges that were handed over, and the others are linked. A frozen word
+/// leads to none, or to an edge of the list. Each edge of a frozen part that isn't given back is spent, by the caller
+/// who spent the vertex. A frozen part is one of a closed list, and its edges stand on that list (`listed`).
 pub fn frozen_parts_are_handed_over()
     ensures parts { (sizes : Sizes) → IsLayout sizes → (journal : List Event) → IsKept sizes journal
         → FrozenParts sizes journal }
@@ -63,12 +64,12 @@ pub fn frozen_parts_are_handed_over()
         → (is_listed (state sizes journal) x y ≡ true) × ((state sizes journal).frozen x ≡ true) }
 {}
 
-/// A list that is frozen to its end is one still while no edge of its vertex's life is stored for the free list: one meets
-/// its edges from the second word of the vertex, they are all edges of the vertex's life that weren't unlinked, and a frozen
-/// word leads to none or to one of them. Where it leads to none, the list is frozen to its end; where it leads to a marked edge,
-/// that edge is of the frozen part. Each list that isn't frozen to its end is such a list. That of a vertex which a caller spent
-/// stays one while others act, and behind each event of anyone that neither stores the link of an edge of it for the free list
-/// nor gives the vertex back.
+/// A list that is frozen to its end is one still while no edge of its vertex's life is stored for the free list: one
+/// meets its edges from the second word of the vertex, they are all edges of the vertex's life that weren't unlinked,
+/// and a frozen word leads to none or to one of them. Where it leads to none, the list is frozen to its end; where it
+/// leads to a marked edge, that edge is of the frozen part. Each list that isn't frozen to its end is such a list. That
+/// of a vertex which a caller spent stays one while others act, and behind each event of anyone that neither stores the
+/// link of an edge of it for the free list nor gives the vertex back.
 pub fn a_closed_list_is_a_list()
     ensures list { (sizes : Sizes) → IsLayout sizes → (journal : List Event) → IsKept sizes journal
         → (x : ℕ) → HasList sizes journal x → KeepsList sizes journal x }
@@ -100,10 +101,10 @@ pub fn a_closed_list_is_a_list()
         × ((node_in sizes journal x).tag ≡ (node_in sizes front x).tag) }
 {}
 
-/// A frozen word of a list stays as it is, and frozen, while the list is one: where the vertex is spent with a caller, while
-/// others act, and behind each event of anyone that neither stores the link of an edge of the list for the free list nor gives
-/// the vertex back. The second word of a vertex whose list is closed is such a word, and so is the link of an edge that was
-/// frozen: that edge is spent with the caller.
+/// A frozen word of a list stays as it is, and frozen, while the list is one: where the vertex is spent with a caller,
+/// while others act, and behind each event of anyone that neither stores the link of an edge of the list for the free
+/// list nor gives the vertex back. The second word of a vertex whose list is closed is such a word, and so is the link
+/// of an edge that was frozen: that edge is spent with the caller.
 pub fn frozen_words_stay()
     ensures others { (sizes : Sizes) → IsLayout sizes → (caller last x place : ℕ) (front journal : List Event)
         → IsPrefix front journal → IsKept sizes journal → IsQuiet journal caller last → last ≤ length front

@@ -2,12 +2,14 @@
 //!
 //! No token knows the journal behind its front, but all of its own events are in it (`IsQuiet` of `specs/Kept.antt`).
 
-ghost use Rattle.std.specs.Prelude.{◌≡◌, ◌≢◌, ℕ, ◌+◌, ◌<◌, ◌≤◌, Bool, true, false, List, [], ◌∷◌, ◌++◌, Some, length, slice_get};
+ghost use Rattle.std.specs.Prelude.{◌≡◌, ◌≢◌, ℕ, ◌+◌, ◌<◌, ◌≤◌, Bool, true, false, List, [], ◌∷◌, ◌++◌, Some, length};
+ghost use Rattle.std.specs.Prelude.{slice_get};
 ghost use Rattle.packed_link.specs.Layout.{IsLayout, Sizes};
 ghost use Rattle.core_journal.specs.declared.event.Event.{Event};
 ghost use Rattle.core_journal.specs.declared.event.Kind.{Kind};
-ghost use Rattle.core_journal.specs.declared.event.Kind.TheVariants.{Announce, DrawNumber, LinkEdge, LinkVertex, PopFree};
-ghost use Rattle.core_journal.specs.declared.event.Kind.TheVariants.{PushFree, StoreFree, StorePrivate, UnlinkEdge, UnlinkVertex, Withdraw};
+ghost use Rattle.core_journal.specs.declared.event.Kind.TheVariants.{Announce, DrawNumber, LinkEdge, LinkVertex};
+ghost use Rattle.core_journal.specs.declared.event.Kind.TheVariants.{PopFree, PushFree, StoreFree, StorePrivate};
+ghost use Rattle.core_journal.specs.declared.event.Kind.TheVariants.{UnlinkEdge, UnlinkVertex, Withdraw};
 ghost use Rattle.core_journal.specs.Machine.{word_at};
 ghost use Rattle.core_journal.specs.Prefix.{IsPrefix};
 ghost use Rattle.core_journal.specs.Reuse.{pass_in};
@@ -34,8 +36,8 @@ pub fn own_facts_stay()
         → (x : ℕ) → x < sizes.nodes → IsFreshWith sizes journal caller x → ⊥ }
 {}
 
-/// A front with all events of a caller has all of them that are counted. One more event of the caller is counted where it's of
-/// such a kind, and no event of another kind or caller is.
+/// A front with all events of a caller has all of them that are counted. One more event of the caller is counted where
+/// it's of such a kind, and no event of another kind or caller is.
 pub fn own_events_are_counted()
     ensures quiet { (test : Kind → Bool) (caller last : ℕ) (front journal : List Event) → IsPrefix front journal
         → last ≤ length front → IsQuiet journal caller last → made test caller journal ≡ made test caller front }
@@ -54,9 +56,10 @@ pub fn callers_have_numbers()
         → (k : ℕ) (e : Event) → slice_get journal k ≡ Some e → e.caller < (state sizes journal).drawn }
 {}
 
-/// What an event leaves as it was: a node that it isn't about and that is fresh with a caller, with all its words, or spent
-/// with a caller, with its key and its link; that a node is spent with a caller, in its life, but where it's given back; each
-/// pass, but where one is announced or withdrawn; and that a caller holds no fresh node, but where one is taken.
+/// What an event leaves as it was: a node that it isn't about and that is fresh with a caller, with all its words, or
+/// spent with a caller, with its key and its link; that a node is spent with a caller, in its life, but where it's
+/// given back; each pass, but where one is announced or withdrawn; and that a caller holds no fresh node, but where one
+/// is taken.
 pub fn each_event_keeps_the_rest()
     ensures fresh { (sizes : Sizes) → IsLayout sizes → (past : List Event) (e : Event) → IsKept sizes (past ++ e ∷ [])
         → (caller x : ℕ) → x < sizes.nodes → x ≢ e.life.index → IsFreshWith sizes past caller x
@@ -77,11 +80,11 @@ pub fn each_event_keeps_the_rest()
         → (x : ℕ) → x < sizes.nodes → IsFreshWith sizes (past ++ e ∷ []) caller x → ⊥ }
 {}
 
-/// What an event does, by its kind: it writes its word, and its life is that of its node; a node that is taken is fresh with
-/// the caller, one that is filled stays as it is, and one that is linked is a linked vertex, or a linked edge of its source, and
-/// was the caller's only fresh node; a node that is unlinked is spent with the caller, a vertex then has a list, an edge stands on
-/// no list, and one whose link is stored for the free list stays spent with it; a pass that is announced began there, and one that is withdrawn
-/// is closed.
+/// What an event does, by its kind: it writes its word, and its life is that of its node; a node that is taken is fresh
+/// with the caller, one that is filled stays as it is, and one that is linked is a linked vertex, or a linked edge of
+/// its source, and was the caller's only fresh node; a node that is unlinked is spent with the caller, a vertex then
+/// has a list, an edge stands on no list, and one whose link is stored for the free list stays spent with it; a pass
+/// that is announced began there, and one that is withdrawn is closed.
 pub fn each_event_changes_its_node()
     ensures written { (sizes : Sizes) (past : List Event) (e : Event) → IsKept sizes (past ++ e ∷ [])
         → word_at sizes (past ++ e ∷ []) e.place ≡ e.word }
@@ -98,7 +101,8 @@ pub fn each_event_changes_its_node()
         → e.kind ≡ LinkEdge → IsLinkedEdge sizes (past ++ e ∷ []) e.life.index
         × ((node_in sizes (past ++ e ∷ []) e.life.index).source ≡ e.source)
         × ((x : ℕ) → x < sizes.nodes → IsFreshWith sizes (past ++ e ∷ []) e.caller x → ⊥) }
-    ensures vertex_spent { (sizes : Sizes) → IsLayout sizes → (past : List Event) (e : Event) → IsKept sizes (past ++ e ∷ [])
+    ensures vertex_spent { (sizes : Sizes) → IsLayout sizes → (past : List Event) (e : Event)
+        → IsKept sizes (past ++ e ∷ [])
         → e.kind ≡ UnlinkVertex → IsSpentVertex sizes (past ++ e ∷ []) e.caller e.life.index
         × HasList sizes (past ++ e ∷ []) e.life.index }
     ensures edge_spent { (sizes : Sizes) (past : List Event) (e : Event) → IsKept sizes (past ++ e ∷ [])
@@ -120,16 +124,20 @@ pub fn a_caller_fills_one_node()
         → IsFreshWith sizes journal caller x → IsFreshWith sizes journal caller y → x ≡ y }
 {}
 
-/// A caller whose number was drawn last has no open pass, no fresh node and no spent one, and made no event but that draw.
+/// A caller whose number was drawn last has no open pass, no fresh node and no spent one, and made no event but that
+/// draw.
 pub fn a_new_number_has_nothing()
     ensures pass { (sizes : Sizes) (past : List Event) (e : Event) → IsKept sizes (past ++ e ∷ []) → e.kind ≡ DrawNumber
         → (pass_in sizes (past ++ e ∷ []) e.caller).is_open ≡ false }
-    ensures fresh { (sizes : Sizes) (past : List Event) (e : Event) → IsKept sizes (past ++ e ∷ []) → e.kind ≡ DrawNumber
+    ensures fresh { (sizes : Sizes) (past : List Event) (e : Event) → IsKept sizes (past ++ e ∷ [])
+        → e.kind ≡ DrawNumber
         → (x : ℕ) → IsFreshWith sizes (past ++ e ∷ []) e.caller x → ⊥ }
-    ensures spent { (sizes : Sizes) (past : List Event) (e : Event) → IsKept sizes (past ++ e ∷ []) → e.kind ≡ DrawNumber
+    ensures spent { (sizes : Sizes) (past : List Event) (e : Event) → IsKept sizes (past ++ e ∷ [])
+        → e.kind ≡ DrawNumber
         → (x : ℕ) → IsSpentWith sizes (past ++ e ∷ []) e.caller x → ⊥ }
     ensures made { (sizes : Sizes) (past : List Event) (e : Event) → IsKept sizes (past ++ e ∷ []) → e.kind ≡ DrawNumber
         → (test : Kind → Bool) → test DrawNumber ≡ false → made test e.caller (past ++ e ∷ []) ≡ 0 }
-    ensures quiet { (sizes : Sizes) (past : List Event) (e : Event) → IsKept sizes (past ++ e ∷ []) → e.kind ≡ DrawNumber
+    ensures quiet { (sizes : Sizes) (past : List Event) (e : Event) → IsKept sizes (past ++ e ∷ [])
+        → e.kind ≡ DrawNumber
         → IsQuiet past e.caller 0 }
 {}

@@ -46,10 +46,10 @@ pub fn ripe_nodes_are_not_met()
         → (caller i x : ℕ) → IsRipe sizes journal caller x → HasMet sizes journal i x → ⊥ }
 {}
 
-/// How a spent node becomes ripe. A node that is spent with a caller at a moment has each stamp that is at least the epoch then
-/// (`stamp`), and one with a stamp is ripe once an epoch of stamp + 2 was shown (`ripens`). Stamps and ripeness stay while others
-/// act (`stamp_beyond`, `ripe_beyond`), and behind each event but that which gives the node back (`stamp_behind`,
-/// `ripe_behind`).
+/// How a spent node becomes ripe. A node that is spent with a caller at a moment has each stamp that is at least the
+/// epoch then (`stamp`), and one with a stamp is ripe once an epoch of stamp + 2 was shown (`ripens`). Stamps and
+/// ripeness stay while others act (`stamp_beyond`, `ripe_beyond`), and behind each event but that which gives the node
+/// back (`stamp_behind`, `ripe_behind`).
 pub fn spent_nodes_become_ripe()
     ensures stamp { (sizes : Sizes) (journal : List Event) (caller x stamp : ℕ) → IsSpentWith sizes journal caller x
         → word_at sizes journal (epoch_at sizes) ≤ stamp → IsStamped sizes journal caller x stamp }

@@ -1,8 +1,8 @@
 //! The laws of a token's view: how it goes on by the token's steps, and what a word that it loaded shows.
 //!
-//! A step tells a token its new view (`specs/Plays.antt`). These laws say what of the old view holds of the new one, and where
-//! the words lead that a view with an open pass shows (`specs/Views.antt`), in the form in which the conditions of the next step
-//! ask for it (`specs/Fronts.antt`).
+//! A step tells a token its new view (`specs/Plays.antt`). These laws say what of the old view holds of the new one,
+//! and where the words lead that a view with an open pass shows (`specs/Views.antt`), in the form in which the
+//! conditions of the next step ask for it (`specs/Fronts.antt`).
 
 ghost use Rattle.std.specs.Prelude.{◌≡◌, ◌≢◌, ℕ, ◌<◌, true, false, List, [], ◌∷◌, ◌++◌, Some, None};
 ghost use Rattle.packed_link.specs.Link.{index_of, mark_of, nowhere, tag_of};
@@ -27,9 +27,9 @@ ghost use Rattle.core_rule.specs.Views.{GoesOn, IsEdgeBehind, IsEdgeIn, IsEdgeSh
 ghost use Rattle.core_rule.specs.Walks.{LeadsTo};
 ghost use Rattle.core_rule.specs.declared.view.View.{View};
 
-/// A load, a won step and a store lead to a later view of the same token, in the same pass but where one was announced or
-/// withdrawn. Before its own event stood a journal that the token might meet by its front, and what stood there with the event
-/// is kept.
+/// A load, a won step and a store lead to a later view of the same token, in the same pass but where one was announced
+/// or withdrawn. Before its own event stood a journal that the token might meet by its front, and what stood there with
+/// the event is kept.
 pub fn a_view_goes_on()
     ensures look { (v : View) (place found : ℕ) (w : View) → v.numbered ≡ true → IsSound v → Looked v place found w
         → GoesOn v w }
@@ -46,9 +46,9 @@ pub fn a_view_goes_on()
         → (s : Stored v e w) → Reaches v s.grown × IsKept v.sizes (s.grown ++ e ∷ []) }
 {}
 
-/// What a view's pass has met, a later view of this pass has met: the same lives, with their keys, and their links once they're
-/// marked. So the words before and behind which a vertex or an edge may stand are such words still, and what was raised in the
-/// pass or may be raised is so still.
+/// What a view's pass has met, a later view of this pass has met: the same lives, with their keys, and their links once
+/// they're marked. So the words before and behind which a vertex or an edge may stand are such words still, and what
+/// was raised in the pass or may be raised is so still.
 pub fn a_later_view_has_met_it()
     ensures vertex { (v w : View) → IsLayout v.sizes → GoesOn v w → (x : Life) → MetVertex v x → MetVertex w x }
     ensures edge { (v w : View) → IsLayout v.sizes → GoesOn v w → (source x : Life) → MetEdge v source x
@@ -72,8 +72,9 @@ pub fn a_later_view_has_met_it()
         → IsRaisedFor v.sizes v.front v.number edge source → IsRaisedFor w.sizes w.front w.number edge source }
 {}
 
-/// Where the words lead that a view in an open pass shows: the word of a bucket to none or to a vertex of it, the link of a
-/// vertex or an edge that was met to none or to one behind it, and the second word of a vertex to none or to an edge of it.
+/// Where the words lead that a view in an open pass shows: the word of a bucket to none or to a vertex of it, the link
+/// of a vertex or an edge that was met to none or to one behind it, and the second word of a vertex to none or to an
+/// edge of it.
 pub fn a_word_leads_to_what_is_met()
     ensures bucket { (v : View) → IsLayout v.sizes → IsKept v.sizes v.front
         → (pass_in v.sizes v.front v.number).is_open ≡ true → (j : ℕ) → j < v.sizes.buckets
@@ -86,9 +87,10 @@ pub fn a_word_leads_to_what_is_met()
         → LeadsTo (word_at v.sizes v.front (second_at v.sizes x.index)) (IsEdgeIn v x) }
 {}
 
-/// What the words of a node show that was met: its link has the tag of its life, and so has a vertex's second word; the key, of
-/// an edge also its source, target and weight, are those with which it was linked. Where its link is unmarked it's linked and
-/// not marked, so a vertex is present, and the counter of an edge's source may be raised; where it's marked, it's marked.
+/// What the words of a node show that was met: its link has the tag of its life, and so has a vertex's second word; the
+/// key, of an edge also its source, target and weight, are those with which it was linked. Where its link is unmarked
+/// it's linked and not marked, so a vertex is present, and the counter of an edge's source may be raised; where it's
+/// marked, it's marked.
 pub fn the_words_of_a_met_node_tell_its_life()
     ensures life { (v : View) → IsLayout v.sizes → IsKept v.sizes v.front → (x : Life) → IsLifeAt v x
         → HasMet v.sizes v.front v.number x.index → tag_of (word_at v.sizes v.front (link_at v.sizes x.index)) ≡ x.tag }
@@ -114,12 +116,13 @@ pub fn the_words_of_a_met_node_tell_its_life()
         → made raises v.number v.front < most_raises → MayRaise v source }
 {}
 
-/// A key that an unmarked word leads past is absent at that moment. Where the word is that of the key's bucket, or the link of a
-/// vertex of a smaller key in this bucket, and leads to none or to a vertex of a greater key, no present vertex has the key;
-/// where it's the second word of a source, or the link of an edge of it with a smaller key, and leads to none or to an edge of
-/// it with a greater key, no edge of the source that isn't marked has the key.
+/// A key that an unmarked word leads past is absent at that moment. Where the word is that of the key's bucket, or the
+/// link of a vertex of a smaller key in this bucket, and leads to none or to a vertex of a greater key, no present
+/// vertex has the key; where it's the second word of a source, or the link of an edge of it with a smaller key, and
+/// leads to none or to an edge of it with a greater key, no edge of the source that isn't marked has the key.
 pub fn a_passed_key_is_absent()
-    ensures vertex { (v : View) → IsLayout v.sizes → IsKept v.sizes v.front → (key place : ℕ) → IsBeforeVertex v key place
+    ensures vertex { (v : View) → IsLayout v.sizes → IsKept v.sizes v.front → (key place : ℕ)
+        → IsBeforeVertex v key place
         → mark_of (word_at v.sizes v.front place) ≡ 0 → (index_of (word_at v.sizes v.front place) ≢ nowhere
         → IsVertexAbove v key (index_of (word_at v.sizes v.front place)))
         → (x : Life) → present_key v.front x ≡ Some key → ⊥ }
