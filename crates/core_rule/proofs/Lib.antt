@@ -75,3 +75,4 @@ pub mod FrozenWords
 pub mod Stamps
 pub mod ViewsShown
 pub mod Passed
+pub mod OwnViews

@@ -1,5 +1,5 @@
 -- How a token's view goes on by its steps, and what it shows of the nodes that its pass has met.
-use Rattle.std.proofs.Common.{◌≡◌, ◌≢◌, ℕ, ◌%◌, ◌^◌, ◌<◌, ◌≤◌, Bool, true, false, cond, List, [], ◌∷◌, ◌++◌, Some, None, length, take, inl, inr, refl, sym, ap, ◌∙◌, subst, arith, ⊎_elim}
+use Rattle.std.proofs.Common.{Option, ◌≡◌, ◌≢◌, ℕ, ◌%◌, ◌^◌, ◌<◌, ◌≤◌, Bool, true, false, cond, List, [], ◌∷◌, ◌++◌, Some, None, length, take, append-nil, inl, inr, refl, sym, ap, ◌∙◌, subst, arith, ⊎_elim}
 use Rattle.std.specs.Prelude.{slice_get, is_some}
 use Rattle.packed_link.specs.Link.{pack, index_of, mark_of, tag_of, mark_bit}
 use Rattle.packed_link.specs.Layout.{Sizes, IsLayout, bucket_at, link_at, second_at, third_at}
@@ -19,12 +19,11 @@ use Rattle.core_rule.specs.Chains.{life_in}
 use Rattle.core_rule.specs.Counts.{raises, made, most_raises}
 use Rattle.core_rule.specs.Edges.{IsRaisedFor}
 use Rattle.core_rule.specs.Facts.{HasMet, IsSamePass}
-use Rattle.core_rule.specs.Fronts.{IsLifeAt, MetVertex, MetEdge, key_in, IsVertexBelow, IsVertexAbove, IsEdgeBelow, IsEdgeAbove, MayRaise}
+use Rattle.core_rule.specs.Fronts.{IsLifeAt, MetVertex, MetEdge, key_in, IsVertexBelow, IsVertexAbove, IsEdgeBelow, IsEdgeAbove, IsBeforeVertex, IsBeforeEdge, IsVertexLink, IsEdgeLink, LeadsToVertex, LeadsToEdge, MayRaise}
 use Rattle.core_rule.specs.Kept.{IsKept, IsQuiet}
 use Rattle.core_rule.specs.Nodes.{node_in, IsUsed, IsLinkedVertex, IsLinkedEdge}
-use Rattle.core_rule.specs.Owes.{Reaches}
 use Rattle.core_rule.specs.Plays.{IsSound, Looked, Won, Stored}
-use Rattle.core_rule.specs.Views.{moved_on, GoesOn, IsVertexIn, IsVertexBehind, IsEdgeIn, IsEdgeBehind, IsEdgeShown}
+use Rattle.core_rule.specs.Views.{moved_on, Spares, Steps, GoesOn, IsVertexIn, IsVertexBehind, IsEdgeIn, IsEdgeBehind, IsEdgeShown}
 use Rattle.core_rule.specs.Walks.{LeadsTo, IsMetFirst, IsMetBehind, IsMetIn}
 use Rattle.core_rule.specs.declared.view.View.{View}
 use Rattle.core_rule.proofs.Announcements.{announcements}
@@ -50,41 +49,47 @@ module _ (v w : View) (last : ℕ) (is : w ≡ moved_on v w.front last) where
   kept_of : IsSound w → IsKept v.sizes w.front
   kept_of s = subst (λ (z : Sizes). IsKept z w.front) (ap (λ (u : View). u.sizes) is) s.kept
 
--- a load
-module _ (v : View) (place found : ℕ) (w : View) (has : v.numbered ≡ true) (s : IsSound v) (l : Looked v place found w) where
-  looked_kept : IsKept v.sizes w.front
-  looked_kept = kept_of v w v.last l.view l.sound
+-- a load is a step without an event
+pub look_steps : (v : View) (place found : ℕ) (w : View) → v.numbered ≡ true → IsSound v → Looked v place found w → Steps v None w
+look_steps v place found w has s l =
+    let quiet : IsQuiet w.front v.number v.last = subst (λ (n : ℕ). IsQuiet w.front n v.last) (ap (λ (u : View). u.number) l.view)
+    (subst (λ (k : ℕ). IsQuiet w.front w.number k) (ap (λ (u : View). u.last) l.view) (l.sound.quiet (ap (λ (u : View). u.numbered) l.view ∙ has))) in
+    let kept = kept_of v w v.last l.view l.sound in
+    record { view = as_moved v w v.last l.view; grown = w.front; reaches = record { kept = kept; front = l.grows; quiet = quiet; old = s.old has }; front = sym (append-nil w.front); kept = kept }
 
-  looked_quiet : IsQuiet w.front v.number v.last
-  looked_quiet = subst (λ (n : ℕ). IsQuiet w.front n v.last) (ap (λ (u : View). u.number) l.view)
-      (subst (λ (k : ℕ). IsQuiet w.front w.number k) (ap (λ (u : View). u.last) l.view) (l.sound.quiet (ap (λ (u : View). u.numbered) l.view ∙ has)))
+-- a store is one with its event, and so is a won step
+pub store_steps : (v : View) (e : Event) (w : View) → v.numbered ≡ true → IsSound v → Stored v e w → Steps v (Some e) w
+store_steps v e w has s t =
+    let kept = kept_of v w (length w.front) t.view t.sound in
+    let old = past_kept v.sizes t.grown e (subst (IsKept v.sizes) t.front kept) in
+    record { view = as_moved v w (length w.front) t.view; grown = t.grown; reaches = record { kept = old; front = t.grows; quiet = t.quiet; old = s.old has }; front = t.front; kept = kept }
 
-  pub look_reaches : Reaches v w.front
-  look_reaches = record { kept = looked_kept; front = l.grows; quiet = looked_quiet; old = s.old has }
+pub win_steps : (v : View) (place found : ℕ) (e : Event) (w : View) → v.numbered ≡ true → IsSound v → Won v place found e w → Steps v (Some e) w
+win_steps v place found e w has s t = store_steps v e w has s record { grown = t.grown; grows = t.grows; front = t.front; quiet = t.quiet; sound = t.sound; view = t.view }
 
-  pub look_goes_on : GoesOn v w
-  look_goes_on = record { view = as_moved v w v.last l.view; grows = l.grows; kept = looked_kept; pass = pass_stays v.sizes v.number v.last v.front w.front l.grows looked_kept looked_quiet (s.old has) }
+-- what holds before the step's own event, and behind it, holds of the new front
+pub through : (v w : View) (own : Option Event) (t : Steps v own w) (P : List Event → Type 0) (Q : Event → Type 0) → Spares Q own → P t.grown → ((e : Event) → Q e → IsKept v.sizes (t.grown ++ e ∷ []) → P t.grown → P (t.grown ++ e ∷ [])) → P w.front
+through v w None t P Q spares p step = subst P (sym (t.front ∙ append-nil t.grown)) p
+through v w (Some e) t P Q spares p step = subst P (sym t.front) (step e spares (subst (IsKept v.sizes) t.front t.kept) p)
 
--- a step of the token's own
-module _ (v : View) (e : Event) (w : View) (has : v.numbered ≡ true) (s : IsSound v) (t : Stored v e w) where
-  stored_kept : IsKept v.sizes (t.grown ++ e ∷ [])
-  stored_kept = subst (IsKept v.sizes) t.front (kept_of v w (length w.front) t.view t.sound)
+-- the old front begins the new one
+pub step_grows : (v w : View) (own : Option Event) (t : Steps v own w) → IsPrefix v.front w.front
+step_grows v w own t = through v w own t (IsPrefix v.front) (λ _. Unit {0}) (nothing own) t.reaches.front (λ e _ _ p. prefix_trans v.front t.grown (t.grown ++ e ∷ []) p (prefix_snoc t.grown e))
+  where
+    nothing : (o : Option Event) → Spares (λ _. Unit {0}) o
+    nothing None = tt
+    nothing (Some e) = tt
 
-  pub store_reaches : Reaches v t.grown × IsKept v.sizes (t.grown ++ e ∷ [])
-  store_reaches = (record { kept = past_kept v.sizes t.grown e stored_kept; front = t.grows; quiet = t.quiet; old = s.old has }, stored_kept)
-
-  pub store_goes_on : e.kind ≢ Announce → e.kind ≢ Withdraw → GoesOn v w
-  store_goes_on a b = record {
-    view = as_moved v w (length w.front) t.view;
-    grows = prefix_trans v.front t.grown w.front t.grows (subst (λ (j : List Event). IsPrefix t.grown j) (sym t.front) (prefix_snoc t.grown e));
-    kept = kept_of v w (length w.front) t.view t.sound;
-    pass = ap (λ (j : List Event). pass_in v.sizes j v.number) t.front
-        ∙ (pass_kept v.sizes t.grown e stored_kept a b v.number ∙ pass_stays v.sizes v.number v.last v.front t.grown t.grows (past_kept v.sizes t.grown e stored_kept) t.quiet (s.old has));
-  }
-
--- a won step makes the same event as a store
-abbrev pub as_stored : (v : View) (place found : ℕ) (e : Event) (w : View) → Won v place found e w → Stored v e w
-as_stored v place found e w t = record { grown = t.grown; grows = t.grows; front = t.front; quiet = t.quiet; sound = t.sound; view = t.view }
+-- the pass stays, but where one is announced or withdrawn
+pub step_goes_on : (v w : View) (own : Option Event) → Steps v own w → Spares (λ (e : Event). (e.kind ≢ Announce) × (e.kind ≢ Withdraw)) own → GoesOn v w
+step_goes_on v w own t spares = record {
+  view = t.view;
+  grows = step_grows v w own t;
+  kept = t.kept;
+  pass = through v w own t (λ (j : List Event). pass_in v.sizes j v.number ≡ pass_in v.sizes v.front v.number) (λ (e : Event). (e.kind ≢ Announce) × (e.kind ≢ Withdraw)) spares
+      (pass_stays v.sizes v.number v.last v.front t.grown t.reaches.front t.reaches.kept t.reaches.quiet t.reaches.old)
+      (λ e q kept p. pass_kept v.sizes t.grown e kept q.0 q.1 v.number ∙ p);
+}
 
 -- one step after another
 pub goes_further : (u v w : View) → GoesOn u v → GoesOn v w → GoesOn u w
@@ -183,6 +188,27 @@ module _ (v w : View) (z : IsLayout v.sizes) (g : GoesOn v w) where
   edge_above_still source key index b = subst (λ (u : View). IsEdgeAbove u source key index) (sym g.view)
       (let k = key_on v z w.front w.last g.grows g.kept g.pass b.life.index b.met.life.there b.met.met in
       record { life = b.life; is = b.is; met = edge_on v z w.front w.last g.grows g.kept g.pass source b.life b.met; above = subst (λ (i : ℕ). key < key_in (moved_on v w.front w.last) i) b.is (subst (λ (n : ℕ). key < n) (sym k) (subst (λ (i : ℕ). key < key_in v i) (sym b.is) b.above)) })
+
+  -- so a word that led to such nodes does still
+  pub before_vertex_still : (key place : ℕ) → IsBeforeVertex v key place → IsBeforeVertex w key place
+  before_vertex_still key place b = ⊎_elim
+      (λ (h : place ≡ bucket_at v.sizes (key % v.sizes.buckets)). inl (subst (λ (u : View). place ≡ bucket_at u.sizes (key % u.sizes.buckets)) (sym g.view) h))
+      (λ (h : (x : Life) × IsVertexBelow v key place x). inr (h.0, below_still key place h.0 h.1)) b
+
+  pub before_edge_still : (source : Life) (key place : ℕ) → IsBeforeEdge v source key place → IsBeforeEdge w source key place
+  before_edge_still source key place b = ⊎_elim
+      (λ (h : place ≡ second_at v.sizes source.index). inl (subst (λ (u : View). place ≡ second_at u.sizes source.index) (sym g.view) h))
+      (λ (h : (x : Life) × IsEdgeBelow v source key place x). inr (h.0, edge_below_still source key place h.0 h.1)) b
+
+  pub leads_to_vertex_still : (place : ℕ) → LeadsToVertex v place → LeadsToVertex w place
+  leads_to_vertex_still place b = ⊎_elim
+      (λ (h : (j : ℕ) × (j < v.sizes.buckets) × (place ≡ bucket_at v.sizes j)). inl (subst (λ (u : View). (j : ℕ) × (j < u.sizes.buckets) × (place ≡ bucket_at u.sizes j)) (sym g.view) h))
+      (λ (h : (x : Life) × IsVertexLink v place x). inr (h.0, record { met = vertex_still h.0 h.1.met; place_is = subst (λ (u : View). place ≡ link_at u.sizes h.0.index) (sym g.view) h.1.place_is })) b
+
+  pub leads_to_edge_still : (source : Life) (place : ℕ) → LeadsToEdge v source place → LeadsToEdge w source place
+  leads_to_edge_still source place b = ⊎_elim
+      (λ (h : place ≡ second_at v.sizes source.index). inl (subst (λ (u : View). place ≡ second_at u.sizes source.index) (sym g.view) h))
+      (λ (h : (x : Life) × IsEdgeLink v source place x). inr (h.0, record { met = edge_still source h.0 h.1.met; place_is = subst (λ (u : View). place ≡ link_at u.sizes h.0.index) (sym g.view) h.1.place_is })) b
 
   pub raise_still : (x : Life) → MayRaise v x → made raises w.number w.front < most_raises → MayRaise w x
   raise_still x m few = subst (λ (u : View). MayRaise u x) (sym g.view) (raise_on v z w.front w.last g.grows g.kept g.pass x m (subst (λ (u : View). made raises u.number w.front < most_raises) g.view few))

@@ -1,5 +1,5 @@
 -- What a token's view shows: how it goes on by a step, and where a word leads that it loaded.
-use Rattle.std.specs.Prelude.{◌≡◌, ℕ, ◌%◌, ◌<◌, ◌≤◌, ◌^◌, List, Some}
+use Rattle.std.specs.Prelude.{◌≡◌, ℕ, ◌%◌, ◌<◌, ◌≤◌, ◌^◌, List, [], ◌∷◌, ◌++◌, Option, Some, None}
 use Rattle.packed_link.specs.Link.{pack}
 use Rattle.packed_link.specs.Layout.{second_at, third_at}
 use Rattle.packed_link.specs.declared.link.Life.{Life}
@@ -10,12 +10,32 @@ use Rattle.core_journal.specs.Prefix.{IsPrefix}
 use Rattle.core_journal.specs.Reuse.{pass_in}
 use Rattle.core_rule.specs.Kept.{IsKept}
 use Rattle.core_rule.specs.Chains.{life_in}
+use Rattle.core_rule.specs.Owes.{Reaches}
 use Rattle.core_rule.specs.Fronts.{MetVertex, MetEdge, key_in}
 use Rattle.core_rule.specs.declared.view.View.{View}
 
 -- the view with another front and another last event
 abbrev pub moved_on : View → List Event → ℕ → View
 moved_on v front last = record v { front = front; last = last }
+
+-- what a step adds to the journal behind the events of others: its event, or nothing where it's a load or lost
+abbrev pub added : Option Event → List Event
+added None = []
+added (Some e) = e ∷ []
+
+-- the step's event, if it made one, is of a kind or about a node of which this holds
+abbrev pub Spares : (Event → Type 0) → Option Event → Type 0
+Spares P None = Unit {0}
+Spares P (Some e) = P e
+
+-- a step of a token: others made events, which led to a journal that the token might meet, and behind these it made its
+-- own event or none
+pub record Steps (v : View) (own : Option Event) (w : View) : Type 0 where
+  pub view : w ≡ moved_on v w.front w.last
+  pub grown : List Event
+  pub reaches : Reaches v grown
+  pub front : w.front ≡ grown ++ added own
+  pub kept : IsKept v.sizes w.front
 
 -- a token has seen more of a kept journal, and its pass is the same
 pub record GoesOn (v w : View) : Type 0 where

@@ -53,8 +53,8 @@ pub use rule::{
 };
 pub use view::View;
 pub use views::{
-    a_later_view_has_met_it, a_passed_key_is_absent, a_view_goes_on, a_word_leads_to_what_is_met,
-    the_words_of_a_met_node_tell_its_life,
+    a_later_view_has_met_it, a_passed_key_is_absent, a_step_keeps_what_is_the_tokens_own,
+    a_view_goes_on, a_word_leads_to_what_is_met, the_words_of_a_met_node_tell_its_life,
 };
 pub use walks::{a_walk_meets_what_its_pass_may_hold, spent_nodes_lead_no_further_back};
 pub use words::{

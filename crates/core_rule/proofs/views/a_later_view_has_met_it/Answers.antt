@@ -1,4 +1,4 @@
-use Rattle.core_rule.proofs.ViewsShown.{vertex_still, edge_still, key_still, dead_still, below_still, above_still, edge_below_still, edge_above_still, raise_still, raised_still}
+use Rattle.core_rule.proofs.ViewsShown.{vertex_still, edge_still, key_still, dead_still, below_still, above_still, edge_below_still, edge_above_still, raise_still, raised_still, before_vertex_still, before_edge_still, leads_to_vertex_still, leads_to_edge_still}
 use Rattle.core_rule.proofs.views.a_later_view_has_met_it.Goals as goal
 
 pub returns-clause-vertex : goal.returns-clause-vertex
@@ -30,3 +30,15 @@ returns-clause-may_raise c = λ v w z g x m few. raise_still v w z g x m few
 
 pub returns-clause-raised : goal.returns-clause-raised
 returns-clause-raised c = λ v w z g edge source r. raised_still v w z g edge source r
+
+pub returns-clause-before_vertex : goal.returns-clause-before_vertex
+returns-clause-before_vertex c = λ v w z g key place b. before_vertex_still v w z g key place b
+
+pub returns-clause-before_edge : goal.returns-clause-before_edge
+returns-clause-before_edge c = λ v w z g source key place b. before_edge_still v w z g source key place b
+
+pub returns-clause-leads_to_vertex : goal.returns-clause-leads_to_vertex
+returns-clause-leads_to_vertex c = λ v w z g place b. leads_to_vertex_still v w z g place b
+
+pub returns-clause-leads_to_edge : goal.returns-clause-leads_to_edge
+returns-clause-leads_to_edge c = λ v w z g source place b. leads_to_edge_still v w z g source place b
