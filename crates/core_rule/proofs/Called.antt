@@ -1,5 +1,5 @@
 -- Whose events stand in a kept journal: those of callers that drew their numbers, and where a caller is quiet no more of its own.
-use Rattle.std.proofs.Common.{◌≡◌, ◌≢◌, ◌⊎◌, ℕ, zero, suc, ◌+◌, ◌<◌, ◌≤◌, Bool, true, false, cond, ◌&&◌, eqb, List, [], ◌∷◌, ◌++◌, length, Some, refl, sym, ap, ◌∙◌, subst, arith, inl, inr, ⊎_elim, length-append, append_assoc, append-nil, ne_eqb}
+use Rattle.std.proofs.Common.{◌≡◌, ◌≢◌, ◌⊎◌, ℕ, zero, suc, ◌+◌, ◌<◌, ◌≤◌, Bool, true, false, cond, ◌&&◌, eqb, List, [], ◌∷◌, ◌++◌, length, Some, refl, sym, ap, ◌∙◌, subst, arith, inl, inr, ⊎_elim, length-append, append_assoc, append-nil, ne_eqb, eq-eqb}
 use Rattle.std.specs.Prelude.{slice_get}
 use Rattle.packed_link.specs.Layout.{Sizes}
 use Rattle.core_journal.specs.declared.event.Kind.{Kind}
@@ -74,6 +74,13 @@ made_other test caller past e other = by (test e.kind) (count_snoc (λ (d : Even
     by : (b : Bool) → made test caller (past ++ e ∷ []) ≡ made test caller past + cond (b && eqb e.caller caller) 1 0 → made test caller (past ++ e ∷ []) ≡ made test caller past
     by true h = h ∙ (ap (λ (c : Bool). made test caller past + cond c 1 0) (ne_eqb e.caller caller other) ∙ omega arith)
     by false h = omega (arith, h)
+
+-- an event of another kind isn't counted, and one of this kind and caller is
+pub made_none : (test : Kind → Bool) (caller : ℕ) (past : List Event) (e : Event) → test e.kind ≡ false → made test caller (past ++ e ∷ []) ≡ made test caller past
+made_none test caller past e is = count_snoc (λ (d : Event). test d.kind && eqb d.caller caller) past e ∙ (ap (λ (b : Bool). made test caller past + cond (b && eqb e.caller caller) 1 0) is ∙ omega arith)
+
+pub made_one : (test : Kind → Bool) (past : List Event) (e : Event) → test e.kind ≡ true → made test e.caller (past ++ e ∷ []) ≡ made test e.caller past + 1
+made_one test past e is = count_snoc (λ (d : Event). test d.kind && eqb d.caller e.caller) past e ∙ (ap (λ (b : Bool). made test e.caller past + cond (b && eqb e.caller e.caller) 1 0) is ∙ ap (λ (b : Bool). made test e.caller past + cond b 1 0) (eq-eqb e.caller e.caller refl))
 
 made_rest : (test : Kind → Bool) (caller last : ℕ) (front rest : List Event) → last ≤ length front → IsQuiet (front ++ rest) caller last → made test caller (front ++ rest) ≡ made test caller front
 made_rest test caller last front [] old q = ap (made test caller) (append-nil front)

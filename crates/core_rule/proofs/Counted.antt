@@ -1,5 +1,5 @@
 -- The counter of an edge's source is higher than when the edge was linked, once it was raised for the edge.
-use Rattle.std.proofs.Common.{◌≡◌, ◌≢◌, ℕ, zero, suc, ◌<◌, ◌≤◌, Bool, true, false, cond, ◌&&◌, List, [], ◌∷◌, ◌++◌, length, filter, find, take, Option, Some, None, refl, sym, ap, ◌∙◌, subst, arith, append-nil, append_assoc}
+use Rattle.std.proofs.Common.{◌≡◌, ◌≢◌, ℕ, zero, suc, ◌<◌, ◌≤◌, Bool, true, false, cond, ◌&&◌, List, [], ◌∷◌, length, filter, find, take, Option, Some, None, refl, sym, ap, ◌∙◌, subst, arith}
 use Rattle.std.specs.Prelude.{slice_get, is_some}
 use Rattle.std.proofs.lemmas.Bool.{and_parts, and_from}
 use Rattle.std.proofs.Math.Seq.{take-length}
@@ -21,12 +21,12 @@ use Rattle.core_journal.proofs.Lists.{prefix_take}
 use Rattle.core_journal.proofs.Snoc.{same_self}
 use Rattle.core_rule.specs.Counts.{raises, raised}
 use Rattle.core_rule.specs.Edges.{IsLinkEdge, IsRaisedFor}
-use Rattle.core_rule.specs.Kept.{Allowed, AllowedAs, KeptFrom, IsKept}
+use Rattle.core_rule.specs.Kept.{AllowedAs, IsKept}
 use Rattle.core_rule.specs.Nodes.{node_in, IsUsed, IsVertex, IsLinkedEdge}
 use Rattle.core_rule.specs.Facts.{HasMet}
 use Rattle.core_rule.specs.Raised.{IsLinkedLower}
 use Rattle.core_rule.proofs.MetBehind.{met_unstored}
-use Rattle.core_rule.proofs.Induction.{kept_front}
+use Rattle.core_rule.proofs.Induction.{allowed_at, kept_front}
 use Rattle.core_rule.proofs.Steps.{IsAfter, Keeps, put_case, holds_onward}
 use Rattle.core_rule.proofs.LinkWords.{link_words, taken}
 use Rattle.core_rule.proofs.LinkedOnce.{fresh_before}
@@ -81,15 +81,6 @@ module _ {A : Type 0} where
       by : (b : Bool) → length (filter test (take n ys)) < length (filter test ys) → length (cond b (y ∷ filter test (take n ys)) (filter test (take n ys))) < length (cond b (y ∷ filter test ys) (filter test ys))
       by true h = omega arith
       by false h = h
-
--- each event of a kept journal was allowed after those before it
-allowed_from : (sizes : Sizes) (past rest : List Event) (p : ℕ) (e : Event) → KeptFrom sizes past rest → slice_get rest p ≡ Some e → Allowed sizes (past ++ take p rest) e
-allowed_from sizes past [] p e kept at = absurd (cc)
-allowed_from sizes past (x ∷ xs) zero e kept at = let same : x ≡ e = cc in subst (Allowed sizes (past ++ [])) same (subst (λ (l : List Event). Allowed sizes l x) (sym (append-nil past)) kept.0)
-allowed_from sizes past (x ∷ xs) (suc p) e kept at = subst (λ (l : List Event). Allowed sizes l e) (append_assoc past (x ∷ []) (take p xs)) (allowed_from sizes (past ++ x ∷ []) xs p e kept.1 at)
-
-pub allowed_at : (sizes : Sizes) (journal : List Event) (p : ℕ) (e : Event) → IsKept sizes journal → slice_get journal p ≡ Some e → Allowed sizes (take p journal) e
-allowed_at sizes journal p e kept at = allowed_from sizes [] journal p e kept.steps at
 
 -- an edge that was linked has its event
 pub edge_event : (journal : List Event) (x : Life) (link : Event) → link_of journal x ≡ Some link → (k : ℕ) × (slice_get journal k ≡ Some link) × (links_edge link.kind ≡ true)

@@ -8,8 +8,7 @@ use Rattle.core_journal.specs.Event.{links_edge}
 use Rattle.core_journal.specs.Life.{key_of}
 use Rattle.core_journal.proofs.Lists.{prefix_take}
 use Rattle.core_rule.specs.Kept.{IsKept}
-use Rattle.core_rule.proofs.Induction.{kept_front}
-use Rattle.core_rule.proofs.Counted.{allowed_at}
+use Rattle.core_rule.proofs.Induction.{allowed_at, kept_front}
 use Rattle.core_rule.proofs.Ends.{end_keys}
 
 pub ends_before : (sizes : Sizes) → IsLayout sizes → (journal : List Event) → IsKept sizes journal → (k : ℕ) (link : Event) → slice_get journal k ≡ Some link → link.kind ≡ LinkEdge

@@ -1,10 +1,10 @@
 -- The free list: each event is a change of core_epoch's pool, so the list holds exactly the free nodes, each once, and its
 -- word's tag counts its changes.
-use Rattle.std.proofs.Common.{◌≡◌, ◌≢◌, ℕ, ◌+◌, ◌<◌, ◌≤◌, Bool, true, false, cond, List, [], ◌∷◌, refl, sym, ap, ◌∙◌, subst, arith, eq-eqb, ne_eqb}
+use Rattle.std.proofs.Common.{◌≡◌, ◌≢◌, ◌⊎◌, ℕ, ◌+◌, ◌<◌, ◌≤◌, Bool, true, false, cond, List, [], ◌∷◌, refl, sym, ap, ◌∙◌, subst, arith, inl, inr, eq-eqb, ne_eqb}
 use Rattle.std.specs.Prelude.{drop}
 use Rattle.packed_link.specs.Link.{pack, nowhere, index_of, tag_of}
 use Rattle.packed_link.specs.Layout.{Sizes, IsLayout, Free as FreeWord, Link as LinkWord, free_at, link_at}
-use Rattle.core_epoch.specs.Free.{FreeList, KeepsOthers, Takes, GivesBack, LeavesFree, Change, take, give, leave, IsUnchanged}
+use Rattle.core_epoch.specs.Free.{FreeList, Leads, KeepsOthers, Takes, GivesBack, LeavesFree, Change, take, give, leave, IsUnchanged}
 use Rattle.core_epoch.proofs.FreeList.{free_new, free_kept, unchanged_kept}
 use Rattle.core_epoch.proofs.FreeList.{first_is_free as first_of_pool_is_free}
 use Rattle.core_journal.specs.declared.event.Kind.{Kind}
@@ -192,3 +192,11 @@ pop_again sizes z seen next there first second journal p q kept was link is =
     let rise : (state sizes second).changes ≤ (state sizes journal).changes = holds_onward sizes (λ (s : State) (w : ℕ → ℕ). (state sizes second).changes ≤ s.changes) (changes_step sizes (state sizes second).changes) second journal q kept (omega arith) in
     let tag2 : (state sizes second).changes ≡ tag_of seen = omega (arith, middle.low, rise, tag3) in
     (end.link (sym tag3) ∙ (sym (middle.link tag2) ∙ link), first_is_free sizes z journal kept (index_of seen) there (ap index_of is))
+
+-- the word of the free list leads to none or to a node
+pub first_leads : (sizes : Sizes) → IsLayout sizes → (journal : List Event) → IsKept sizes journal → (index_of (word_at sizes journal (free_at sizes)) ≡ nowhere) ⊎ (index_of (word_at sizes journal (free_at sizes)) < sizes.nodes)
+first_leads sizes z journal kept = by (state sizes journal).free (free_list sizes z journal kept).leads
+  where
+    by : (xs : List ℕ) → Leads sizes.nodes (pool_in sizes journal).link (index_of (word_at sizes journal (free_at sizes))) xs → (index_of (word_at sizes journal (free_at sizes)) ≡ nowhere) ⊎ (index_of (word_at sizes journal (free_at sizes)) < sizes.nodes)
+    by [] h = inl h
+    by (x ∷ xs) h = inr (omega (arith, h.0, h.1))

@@ -1,9 +1,10 @@
 -- Kept journals: one more allowed event, fronts, and what goes on from a front.
-use Rattle.std.proofs.Common.{◌≢◌, ℕ, ◌≤◌, length, arith, length-append, List, [], ◌∷◌, ◌++◌, sym, subst, append_assoc, append-nil}
+use Rattle.std.proofs.Common.{◌≡◌, ◌≢◌, ℕ, zero, suc, ◌≤◌, length, arith, length-append, List, [], ◌∷◌, ◌++◌, Some, take, sym, subst, append_assoc, append-nil}
+use Rattle.std.specs.Prelude.{slice_get}
 use Rattle.packed_link.specs.Layout.{Sizes}
 use Rattle.core_journal.specs.declared.event.Event.{Event}
 use Rattle.core_journal.specs.Prefix.{IsPrefix}
-use Rattle.core_journal.proofs.Lists.{get_here}
+use Rattle.core_journal.proofs.Lists.{get_here, take_here, prefix_snoc}
 use Rattle.core_rule.specs.Kept.{Allowed, KeptFrom, IsKept, IsQuiet}
 
 from_snoc : (sizes : Sizes) (past xs : List Event) (e : Event) → KeptFrom sizes past xs → Allowed sizes (past ++ xs) e → KeptFrom sizes past (xs ++ e ∷ [])
@@ -29,6 +30,22 @@ from_rest sizes past (x ∷ xs) rest ok = subst (λ (p : List Event). KeptFrom s
 
 rest_kept : (sizes : Sizes) (front journal : List Event) (p : IsPrefix front journal) → IsKept sizes journal → KeptFrom sizes front p.rest
 rest_kept sizes front journal p kept = from_rest sizes [] front p.rest (subst (λ (j : List Event). KeptFrom sizes [] j) (sym p.whole) kept.steps)
+
+-- each event of a kept journal was allowed after those before it
+allowed_from : (sizes : Sizes) (past rest : List Event) (p : ℕ) (e : Event) → KeptFrom sizes past rest → slice_get rest p ≡ Some e → Allowed sizes (past ++ take p rest) e
+allowed_from sizes past [] p e kept at = absurd (cc)
+allowed_from sizes past (x ∷ xs) zero e kept at = let same : x ≡ e = cc in subst (Allowed sizes (past ++ [])) same (subst (λ (l : List Event). Allowed sizes l x) (sym (append-nil past)) kept.0)
+allowed_from sizes past (x ∷ xs) (suc p) e kept at = subst (λ (l : List Event). Allowed sizes l e) (append_assoc past (x ∷ []) (take p xs)) (allowed_from sizes (past ++ x ∷ []) xs p e kept.1 at)
+
+pub allowed_at : (sizes : Sizes) (journal : List Event) (p : ℕ) (e : Event) → IsKept sizes journal → slice_get journal p ≡ Some e → Allowed sizes (take p journal) e
+allowed_at sizes journal p e kept at = allowed_from sizes [] journal p e kept.steps at
+
+-- what stands before the last event is kept, and the last event was allowed after it
+pub past_kept : (sizes : Sizes) (past : List Event) (e : Event) → IsKept sizes (past ++ e ∷ []) → IsKept sizes past
+past_kept sizes past e kept = kept_front sizes past (past ++ e ∷ []) (prefix_snoc past e) kept
+
+pub last_allowed : (sizes : Sizes) (past : List Event) (e : Event) → IsKept sizes (past ++ e ∷ []) → Allowed sizes past e
+last_allowed sizes past e kept = subst (λ (l : List Event). Allowed sizes l e) (take_here past (e ∷ [])) (allowed_at sizes (past ++ e ∷ []) (length past) e kept (get_here past e []))
 
 module _ (sizes : Sizes) (P : List Event → Type 0) (step : (past : List Event) (e : Event) → IsKept sizes past → P past → Allowed sizes past e → P (past ++ e ∷ [])) where
   climb : (past rest : List Event) → IsKept sizes past → P past → KeptFrom sizes past rest → P (past ++ rest)

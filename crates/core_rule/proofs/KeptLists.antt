@@ -1,5 +1,5 @@
 -- The list of a vertex that a caller spent stays one while others act.
-use Rattle.std.proofs.Common.{◌≡◌, ◌≢◌, Bool, ℕ, ◌<◌, ◌≤◌, true, false, List, [], ◌∷◌, ◌++◌, Option, Some, None, length, refl, sym, ap, ◌∙◌, subst}
+use Rattle.std.proofs.Common.{◌≡◌, ◌≢◌, ℕ, ◌<◌, ◌≤◌, true, false, List, [], ◌∷◌, ◌++◌, Option, Some, None, length, refl, sym, ap, ◌∙◌, subst}
 use Rattle.packed_link.specs.Layout.{Sizes, IsLayout}
 use Rattle.packed_link.specs.declared.link.Life.{Life}
 use Rattle.core_journal.specs.declared.event.Kind.{Kind}
@@ -13,7 +13,7 @@ use Rattle.core_journal.proofs.KeptLives.{link_more, unlinked_more}
 use Rattle.core_journal.proofs.Snoc.{same_is, link_skip, link_else}
 use Rattle.core_journal.proofs.States.{state-snoc}
 use Rattle.core_rule.specs.Kept.{Allowed, AllowedAs, IsKept, IsQuiet}
-use Rattle.core_rule.specs.Nodes.{node_in, IsUsed}
+use Rattle.core_rule.specs.Nodes.{node_in, IsUsed, is_listed}
 use Rattle.core_rule.specs.Freezing.{IsSpentVertex}
 use Rattle.core_rule.specs.Chains.{life_in, IsEdgeOf, KeepsList}
 use Rattle.core_rule.proofs.Induction.{kept_beyond}
@@ -36,13 +36,18 @@ record IsOwnList (sizes : Sizes) (caller x tag : ℕ) (journal : List Event) (s 
   pub life : (s.node x).tag ≡ tag
   pub edges : (l : Life) (link : Event) → link_of journal l ≡ Some link → link.source ≡ life_of x (s.node x) → unlinked journal l ≡ false → IsHeldIn s l
 
--- a node is stored for the free list, or given back
-abbrev pub gives : Kind → Bool
-gives StoreFree = true
-gives PushFree = true
-gives _ = false
+-- a vertex is in the same state, life and hands
+record IsSameVertex (v v' : Node) : Type 0 where
+  pub mode : v'.mode ≡ v.mode
+  pub vertex : v'.vertex ≡ v.vertex
+  pub who : v'.who ≡ v.who
+  pub tag : v'.tag ≡ v.tag
 
-module _ (sizes : Sizes) (z : IsLayout sizes) (past : List Event) (e : Event) (kept : IsKept sizes past) (caller x tag : ℕ) (c : IsOwnList sizes caller x tag past (state sizes past)) (other : gives e.kind ≡ true → e.caller ≢ caller) where
+same_vertex : (v v' : Node) → v' ≡ v → IsSameVertex v v'
+same_vertex v v' is = record { mode = ap (λ (n : Node). n.mode) is; vertex = ap (λ (n : Node). n.vertex) is; who = ap (λ (n : Node). n.who) is; tag = ap (λ (n : Node). n.tag) is }
+
+module _ (sizes : Sizes) (z : IsLayout sizes) (past : List Event) (e : Event) (kept : IsKept sizes past) (caller x tag : ℕ) (c : IsOwnList sizes caller x tag past (state sizes past))
+    (unstored : e.kind ≡ StoreFree → stands e.life.index ((state sizes past).edges x) ≡ true → ⊥) (unpushed : e.kind ≡ PushFree → x ≢ e.life.index) where
   as_keeps : KeepsList sizes past x
   as_keeps = record {
     there = c.there;
@@ -51,31 +56,30 @@ module _ (sizes : Sizes) (z : IsLayout sizes) (past : List Event) (e : Event) (k
     edges = λ y f. let h = c.edges y f.link f.is f.from f.stays in record { life = h.life; used = h.used; unstored = h.unstored };
   }
 
-  -- a node in another state, or of another spender, is another
+  -- a node in another state is another
   apart_mode : (i : ℕ) → (node_in sizes past i).mode ≢ Spent → x ≢ i
   apart_mode i ne same = ne (ap (λ (j : ℕ). (node_in sizes past j).mode) (sym same) ∙ c.spent)
-
-  apart_who : gives e.kind ≡ true → (i : ℕ) → (node_in sizes past i).who ≡ e.caller → x ≢ i
-  apart_who given i mine same = other given (sym mine ∙ (ap (λ (j : ℕ). (node_in sizes past j).who) (sym same) ∙ c.mine))
 
   not_handed : (s : State) (v : ℕ) → ((y : ℕ) → s.edges y ≡ (state sizes past).edges y) → s.node x ≡ node_in sizes past x → (handed v s).node x ≡ node_in sizes past x
   not_handed s v lists is = handed_split (λ (n : Node). n ≡ node_in sizes past x) s v x (λ _. is)
       (λ at _. let b = ((listing sizes z past kept).on v x (subst (λ (l : List ℕ). stands x l ≡ true) (lists v) (part_listed s.node s.edges s.frozen v x at))).edge in let t = c.vertex in absurd (cc))
 
-  -- so the vertex stays as it is
-  own_still : (k : Kind) → e.kind ≡ k → AllowedAs k sizes past e → (state_by k sizes e (state sizes past)).node x ≡ node_in sizes past x
-  own_still PopFree is ok = put_other e.life.index _ (state sizes past).node x (apart_mode e.life.index (λ m. let f = (taken sizes z past e kept ok).free in absurd (cc)))
-  own_still LinkVertex is ok = put_other e.life.index _ (state sizes past).node x (apart_mode e.life.index (λ m. let f = ok.fresh.fresh in absurd (cc)))
-  own_still LinkEdge is ok = put_other e.life.index _ (state sizes past).node x (apart_mode e.life.index (λ m. let f = ok.fresh.fresh in absurd (cc)))
-  own_still MarkVertex is ok = put_other e.life.index _ (state sizes past).node x (apart_mode e.life.index (λ m. let f = ok.linked.linked in absurd (cc)))
-  own_still UnlinkVertex is ok = put_other e.life.index _ (state sizes past).node x (apart_mode e.life.index (λ m. let f = ok.linked.linked in absurd (cc)))
-  own_still UnlinkEdge is ok = put_other e.life.index _ (state sizes past).node x (apart_mode e.life.index (λ m. let f = ok.linked.linked in absurd (cc)))
-  own_still StoreFree is ok = put_other e.life.index _ (state sizes past).node x (apart_who (ap gives is) e.life.index ok.ripe.mine)
-  own_still PushFree is ok = put_other e.life.index _ (state sizes past).node x (apart_who (ap gives is) e.life.index ok.ripe.mine)
-  own_still MarkEdge is ok = not_handed (marked_state (state sizes past) e.life.index) (node_in sizes past e.life.index).source.index (λ _. refl) (put_other e.life.index _ (state sizes past).node x (apart_mode e.life.index (λ m. let f = ok.linked.linked in absurd (cc))))
-  own_still FreezeEdge is ok = not_handed (marked_state (state sizes past) e.life.index) (node_in sizes past e.life.index).source.index (λ _. refl) (put_other e.life.index _ (state sizes past).node x (apart_mode e.life.index (λ m. let f = ok.linked.linked in absurd (cc))))
-  own_still FreezeHead is ok = not_handed (closed_state (state sizes past) e.life.index) e.life.index (λ _. refl) refl
-  own_still _ is ok = refl
+  -- so the vertex stays in its state and its life
+  own_still : (k : Kind) → e.kind ≡ k → AllowedAs k sizes past e → IsSameVertex (node_in sizes past x) ((state_by k sizes e (state sizes past)).node x)
+  own_still PopFree is ok = same_vertex (node_in sizes past x) _ (put_other e.life.index _ (state sizes past).node x (apart_mode e.life.index (λ m. let f = (taken sizes z past e kept ok).free in absurd (cc))))
+  own_still LinkVertex is ok = same_vertex (node_in sizes past x) _ (put_other e.life.index _ (state sizes past).node x (apart_mode e.life.index (λ m. let f = ok.fresh.fresh in absurd (cc))))
+  own_still LinkEdge is ok = same_vertex (node_in sizes past x) _ (put_other e.life.index _ (state sizes past).node x (apart_mode e.life.index (λ m. let f = ok.fresh.fresh in absurd (cc))))
+  own_still MarkVertex is ok = same_vertex (node_in sizes past x) _ (put_other e.life.index _ (state sizes past).node x (apart_mode e.life.index (λ m. let f = ok.linked.linked in absurd (cc))))
+  own_still UnlinkVertex is ok = same_vertex (node_in sizes past x) _ (put_other e.life.index _ (state sizes past).node x (apart_mode e.life.index (λ m. let f = ok.linked.linked in absurd (cc))))
+  own_still UnlinkEdge is ok = same_vertex (node_in sizes past x) _ (put_other e.life.index _ (state sizes past).node x (apart_mode e.life.index (λ m. let f = ok.linked.linked in absurd (cc))))
+  own_still StoreFree is ok = put_case (λ (n : Node). IsSameVertex (node_in sizes past x) n) e.life.index _ (state sizes past).node x
+      (λ same. subst (λ (j : ℕ). IsSameVertex (node_in sizes past j) (record (node_in sizes past e.life.index) { stored = true })) (sym same) record { mode = refl; vertex = refl; who = refl; tag = refl })
+      (λ _. same_vertex (node_in sizes past x) (node_in sizes past x) refl)
+  own_still PushFree is ok = same_vertex (node_in sizes past x) _ (put_other e.life.index _ (state sizes past).node x (unpushed is))
+  own_still MarkEdge is ok = same_vertex (node_in sizes past x) _ (not_handed (marked_state (state sizes past) e.life.index) (node_in sizes past e.life.index).source.index (λ _. refl) (put_other e.life.index _ (state sizes past).node x (apart_mode e.life.index (λ m. let f = ok.linked.linked in absurd (cc)))))
+  own_still FreezeEdge is ok = same_vertex (node_in sizes past x) _ (not_handed (marked_state (state sizes past) e.life.index) (node_in sizes past e.life.index).source.index (λ _. refl) (put_other e.life.index _ (state sizes past).node x (apart_mode e.life.index (λ m. let f = ok.linked.linked in absurd (cc)))))
+  own_still FreezeHead is ok = same_vertex (node_in sizes past x) _ (not_handed (closed_state (state sizes past) e.life.index) e.life.index (λ _. refl) refl)
+  own_still _ is ok = same_vertex (node_in sizes past x) _ (refl)
 
   module _ (l : Life) (h : IsHeldIn (state sizes past) l) (on : stands l.index ((state sizes past).edges x) ≡ true) where
     put_held : (i : ℕ) (v : Node) → (l.index ≡ i → (v.tag ≡ (node_in sizes past i).tag) × IsUsed v.mode × (v.stored ≡ (node_in sizes past i).stored)) → (s' : State) → s'.node l.index ≡ put i v (state sizes past).node l.index → IsHeldIn s' l
@@ -90,13 +94,6 @@ module _ (sizes : Sizes) (z : IsLayout sizes) (past : List Event) (e : Event) (k
         let q = handed_case (λ (n : Node). (l.tag ≡ n.tag) × IsUsed n.mode × (n.stored ≡ false)) s v l.index (d.life, d.used, d.unstored) (λ _ _ _. (d.life, tt, d.unstored)) in
         record { life = q.0; used = q.1; unstored = q.2 }
 
-    -- an edge of the list that's spent is the caller's
-    held_mine : gives e.kind ≡ true → (i : ℕ) → (node_in sizes past i).mode ≡ Spent → (node_in sizes past i).who ≡ e.caller → l.index ≢ i
-    held_mine given i m mine same =
-        let is : (node_in sizes past l.index).mode ≡ Spent = ap (λ (j : ℕ). (node_in sizes past j).mode) same ∙ m in
-        let who = ((spenders sizes z past kept).edge x l.index (subst IsUsed (sym c.spent) tt) c.vertex on is).1 in
-        other given (sym mine ∙ (ap (λ (j : ℕ). (node_in sizes past j).who) (sym same) ∙ (who ∙ c.mine)))
-
     not_used : (i : ℕ) → (IsUsed (node_in sizes past i).mode → ⊥) → l.index ≢ i
     not_used i none same = none (subst (λ (j : ℕ). IsUsed (node_in sizes past j).mode) same h.used)
 
@@ -107,8 +104,8 @@ module _ (sizes : Sizes) (z : IsLayout sizes) (past : List Event) (e : Event) (k
     held_after MarkVertex is ok = put_held e.life.index _ (λ same. (refl, subst IsUsed (sym ok.linked.linked) tt, refl)) (state_by MarkVertex sizes e (state sizes past)) refl
     held_after UnlinkVertex is ok = put_held e.life.index _ (λ same. (refl, tt, refl)) (state_by UnlinkVertex sizes e (state sizes past)) refl
     held_after UnlinkEdge is ok = put_held e.life.index _ (λ same. (refl, tt, refl)) (state_by UnlinkEdge sizes e (state sizes past)) refl
-    held_after StoreFree is ok = put_held e.life.index _ (λ same. absurd (held_mine (ap gives is) e.life.index ok.ripe.spent ok.ripe.mine same)) (state_by StoreFree sizes e (state sizes past)) refl
-    held_after PushFree is ok = put_held e.life.index _ (λ same. absurd (held_mine (ap gives is) e.life.index ok.ripe.spent ok.ripe.mine same)) (state_by PushFree sizes e (state sizes past)) refl
+    held_after StoreFree is ok = put_held e.life.index _ (λ same. absurd (unstored is (subst (λ (j : ℕ). stands j ((state sizes past).edges x) ≡ true) same on))) (state_by StoreFree sizes e (state sizes past)) refl
+    held_after PushFree is ok = put_held e.life.index _ (λ same. let f : (node_in sizes past e.life.index).stored ≡ false = ap (λ (j : ℕ). (node_in sizes past j).stored) (sym same) ∙ h.unstored in let t = ok.stored in absurd (cc)) (state_by PushFree sizes e (state sizes past)) refl
     held_after MarkEdge is ok = handed_held (marked_state (state sizes past) e.life.index) (node_in sizes past e.life.index).source.index (put_held e.life.index _ (λ same. (refl, subst IsUsed (sym ok.linked.linked) tt, refl)) (marked_state (state sizes past) e.life.index) refl)
     held_after FreezeEdge is ok = handed_held (marked_state (state sizes past) e.life.index) (node_in sizes past e.life.index).source.index (put_held e.life.index _ (λ same. (refl, subst IsUsed (sym ok.linked.linked) tt, refl)) (marked_state (state sizes past) e.life.index) refl)
     held_after FreezeHead is ok = handed_held (closed_state (state sizes past) e.life.index) e.life.index record { life = h.life; used = h.used; unstored = h.unstored }
@@ -151,12 +148,24 @@ module _ (sizes : Sizes) (z : IsLayout sizes) (past : List Event) (e : Event) (k
   own_step k is ok =
       let same = own_still k is ok in record {
         there = c.there;
-        spent = ap (λ (n : Node). n.mode) same ∙ c.spent;
-        vertex = ap (λ (n : Node). n.vertex) same ∙ c.vertex;
-        mine = ap (λ (n : Node). n.who) same ∙ c.mine;
-        life = ap (λ (n : Node). n.tag) same ∙ c.life;
-        edges = λ l link h from stays. own_edge k is ok l link h (from ∙ ap (λ (n : Node). life_of x n) same) stays;
+        spent = same.mode ∙ c.spent;
+        vertex = same.vertex ∙ c.vertex;
+        mine = same.who ∙ c.mine;
+        life = same.tag ∙ c.life;
+        edges = λ l link h from stays. own_edge k is ok l link h (from ∙ ap (λ (t : ℕ). record { index = x; tag = t }) same.tag) stays;
       }
+
+-- a node that another caller stores for the free list or gives back is spent with that caller: it's neither the vertex nor an edge
+-- of its list
+module _ (sizes : Sizes) (z : IsLayout sizes) (past : List Event) (e : Event) (kept : IsKept sizes past) (caller x tag : ℕ) (c : IsOwnList sizes caller x tag past (state sizes past)) (ok : Allowed sizes past e) (other : e.caller ≢ caller) where
+  not_stored : e.kind ≡ StoreFree → stands e.life.index ((state sizes past).edges x) ≡ true → ⊥
+  not_stored is on =
+      let ripe = (subst (λ (k : Kind). AllowedAs k sizes past e) is ok.as_kind).ripe in
+      let who = ((spenders sizes z past kept).edge x e.life.index (subst IsUsed (sym c.spent) tt) c.vertex on ripe.spent).1 in
+      other (sym ripe.mine ∙ (who ∙ c.mine))
+
+  not_pushed : e.kind ≡ PushFree → x ≢ e.life.index
+  not_pushed is same = other (sym (subst (λ (k : Kind). AllowedAs k sizes past e) is ok.as_kind).ripe.mine ∙ (ap (λ (j : ℕ). (node_in sizes past j).who) (sym same) ∙ c.mine))
 
 -- while others act, the list of a vertex that the caller spent stays one
 pub own_list_stays : (sizes : Sizes) → IsLayout sizes → (caller last x : ℕ) (front journal : List Event) → IsPrefix front journal → IsKept sizes journal → IsQuiet journal caller last → last ≤ length front → IsSpentVertex sizes front caller x → KeepsList sizes front x
@@ -164,7 +173,7 @@ pub own_list_stays : (sizes : Sizes) → IsLayout sizes → (caller last x : ℕ
 own_list_stays sizes z caller last x front journal p kept quiet old spent k =
     let P : List Event → Type 0 = λ j. IsOwnList sizes caller x (node_in sizes front x).tag j (state sizes j) in
     let end : P journal = kept_beyond sizes P caller last
-    (λ past e before c other ok. subst (IsOwnList sizes caller x (node_in sizes front x).tag (past ++ e ∷ [])) (sym (state-snoc sizes past e)) (own_step sizes z past e before caller x (node_in sizes front x).tag c (λ _. other) e.kind refl ok.as_kind))
+    (λ past e before c other ok. subst (IsOwnList sizes caller x (node_in sizes front x).tag (past ++ e ∷ [])) (sym (state-snoc sizes past e)) (own_step sizes z past e before caller x (node_in sizes front x).tag c (not_stored sizes z past e before caller x (node_in sizes front x).tag c ok other) (not_pushed sizes z past e before caller x (node_in sizes front x).tag c ok other) e.kind refl ok.as_kind))
     front journal p kept quiet old record {
       there = k.there;
       spent = spent.spent;
@@ -183,9 +192,9 @@ own_list_stays sizes z caller last x front journal p kept quiet old spent k =
       end.life,
     )
 
--- and while the caller stores no node for the free list and gives none back
-pub own_list_steps : (sizes : Sizes) → IsLayout sizes → (past : List Event) (e : Event) (caller x : ℕ) → IsKept sizes past → Allowed sizes past e → e.kind ≢ StoreFree → e.kind ≢ PushFree → IsSpentVertex sizes past caller x → KeepsList sizes past x
-    → IsSpentVertex sizes (past ++ e ∷ []) caller x × KeepsList sizes (past ++ e ∷ []) x
+-- and while the caller stores no edge of it for the free list, and doesn't give the vertex back
+pub own_list_steps : (sizes : Sizes) → IsLayout sizes → (past : List Event) (e : Event) (caller x : ℕ) → IsKept sizes past → Allowed sizes past e → (e.kind ≡ StoreFree → is_listed (state sizes past) x e.life.index ≡ false) → (e.kind ≡ PushFree → e.life.index ≢ x) → IsSpentVertex sizes past caller x → KeepsList sizes past x
+    → IsSpentVertex sizes (past ++ e ∷ []) caller x × KeepsList sizes (past ++ e ∷ []) x × ((node_in sizes (past ++ e ∷ []) x).tag ≡ (node_in sizes past x).tag)
 own_list_steps sizes z past e caller x kept ok unstored unpushed spent k =
     let end : IsOwnList sizes caller x (node_in sizes past x).tag (past ++ e ∷ []) (state sizes (past ++ e ∷ [])) =
     subst (IsOwnList sizes caller x (node_in sizes past x).tag (past ++ e ∷ [])) (sym (state-snoc sizes past e)) (own_step sizes z past e kept caller x (node_in sizes past x).tag record {
@@ -195,7 +204,7 @@ own_list_steps sizes z past e caller x kept ok unstored unpushed spent k =
       mine = spent.mine;
       life = refl;
       edges = λ l link is from stays. let d = k.edges l record { link = link; is = is; from = from; stays = stays } in record { life = d.life; used = d.used; unstored = d.unstored };
-    } (none e.kind refl) e.kind refl ok.as_kind) in (
+    } (λ is t. let f = unstored is in absurd (cc)) (λ is same. unpushed is (sym same)) e.kind refl ok.as_kind) in (
       record { spent = end.spent; vertex = end.vertex; mine = end.mine },
       record {
         there = end.there;
@@ -203,9 +212,5 @@ own_list_steps sizes z past e caller x kept ok unstored unpushed spent k =
         vertex = end.vertex;
         edges = λ y f. let h = end.edges y f.link f.is f.from f.stays in record { life = h.life; used = h.used; unstored = h.unstored };
       },
+      end.life,
     )
-  where
-    none : (k : Kind) → e.kind ≡ k → gives k ≡ true → e.caller ≢ caller
-    none StoreFree is h = absurd (unstored is)
-    none PushFree is h = absurd (unpushed is)
-    none _ is h = absurd (cc)

@@ -71,3 +71,10 @@ pub mod FoundFrozen
 pub mod EndsBefore
 pub mod WalkLaw
 pub mod WorkedWalk
+pub mod OwnSteps
+pub mod NewNumbers
+pub mod FrozenWords
+pub mod Stamps
+pub mod ViewsShown
+pub mod Passed
+pub mod OwnViews

@@ -48,7 +48,7 @@ node_else FreezeEdge sizes e s x m ne =
 node_else FreezeHead sizes e s x m ne = handed_else (closed_state s e.life.index) e.life.index x m
 node_else _ sizes e s x m ne = refl
 
-module _ (sizes : Sizes) (z : IsLayout sizes) (past : List Event) (e : Event) (kept : IsKept sizes past) (caller x : ℕ) (there : x < sizes.nodes) (f : IsFreshWith sizes past caller x) (other : e.caller ≢ caller) where
+module _ (sizes : Sizes) (z : IsLayout sizes) (past : List Event) (e : Event) (kept : IsKept sizes past) (caller x : ℕ) (there : x < sizes.nodes) (f : IsFreshWith sizes past caller x) (apart : (node_in sizes past e.life.index).who ≡ e.caller → x ≢ e.life.index) where
   -- another node's mode tells it apart
   not_free : (i : ℕ) → (node_in sizes past i).mode ≡ Free → x ≢ i
   not_free i m same = let t : (node_in sizes past x).mode ≡ Free = ap (λ (y : ℕ). (node_in sizes past y).mode) same ∙ m in let u = f.fresh in absurd (cc)
@@ -62,17 +62,14 @@ module _ (sizes : Sizes) (z : IsLayout sizes) (past : List Event) (e : Event) (k
   not_used : (i : ℕ) → IsUsed (node_in sizes past i).mode → x ≢ i
   not_used i m same = absurd (subst IsUsed (ap (λ (y : ℕ). (node_in sizes past y).mode) (sym same) ∙ f.fresh) m)
 
-  not_theirs : (i : ℕ) → (node_in sizes past i).who ≡ e.caller → x ≢ i
-  not_theirs i m same = other (sym m ∙ (ap (λ (y : ℕ). (node_in sizes past y).who) (sym same) ∙ f.mine))
-
-  -- another caller's event changes neither the node nor any of its words
-  nowhere_near : (k : Kind) → AllowedAs k sizes past e → (state_by k sizes e (state sizes past)).node x ≡ node_in sizes past x × ((key_at sizes x ≢ e.place) × (link_at sizes x ≢ e.place) × (second_at sizes x ≢ e.place) × (third_at sizes x ≢ e.place))
+  -- an event that isn't about the node changes neither it nor any of its words
+  pub nowhere_near : (k : Kind) → AllowedAs k sizes past e → (state_by k sizes e (state sizes past)).node x ≡ node_in sizes past x × ((key_at sizes x ≢ e.place) × (link_at sizes x ≢ e.place) × (second_at sizes x ≢ e.place) × (third_at sizes x ≢ e.place))
   nowhere_near PopFree ok = (node_else PopFree sizes e (state sizes past) x f.fresh (not_free e.life.index (first_is_free sizes z past kept e.life.index ok.there ok.seen)), ((λ h. omega (arith, ok.place, h)), (λ h. omega (arith, ok.place, h)), (λ h. omega (arith, ok.place, h)), (λ h. omega (arith, ok.place, h))))
-  nowhere_near StorePrivate ok = let ne = not_theirs e.life.index ok.fresh.mine in (refl, ((λ h. ne (omega (arith, ok.place, h))), (λ h. ne (omega (arith, ok.place, h))), (λ h. ne (omega (arith, ok.place, h))), (λ h. ne (omega (arith, ok.place, h)))))
-  nowhere_near LinkVertex ok = (node_else LinkVertex sizes e (state sizes past) x f.fresh (not_theirs e.life.index ok.fresh.mine), ((λ h. omega (arith, ok.place, h)), (λ h. not_linked x (ok.linked x (sym h)).linked refl), (λ h. omega (arith, ok.place, h)), (λ h. omega (arith, ok.place, h))))
+  nowhere_near StorePrivate ok = let ne = apart ok.fresh.mine in (refl, ((λ h. ne (omega (arith, ok.place, h))), (λ h. ne (omega (arith, ok.place, h))), (λ h. ne (omega (arith, ok.place, h))), (λ h. ne (omega (arith, ok.place, h)))))
+  nowhere_near LinkVertex ok = (node_else LinkVertex sizes e (state sizes past) x f.fresh (apart ok.fresh.mine), ((λ h. omega (arith, ok.place, h)), (λ h. not_linked x (ok.linked x (sym h)).linked refl), (λ h. omega (arith, ok.place, h)), (λ h. omega (arith, ok.place, h))))
   nowhere_near MarkVertex ok = let ne = not_linked e.life.index ok.linked.linked in (node_else MarkVertex sizes e (state sizes past) x f.fresh ne, ((λ h. omega (arith, ok.place, h)), (λ h. ne (omega (arith, ok.place, h))), (λ h. omega (arith, ok.place, h)), (λ h. omega (arith, ok.place, h))))
   nowhere_near UnlinkVertex ok = (node_else UnlinkVertex sizes e (state sizes past) x f.fresh (not_linked e.life.index ok.linked.linked), ((λ h. omega (arith, ok.place, h)), (λ h. not_linked x (ok.before_linked x (sym h)).linked refl), (λ h. omega (arith, ok.place, h)), (λ h. omega (arith, ok.place, h))))
-  nowhere_near LinkEdge ok = let ne = not_used e.source.index ok.source.used in (node_else LinkEdge sizes e (state sizes past) x f.fresh (not_theirs e.life.index ok.fresh.mine), ((λ h. omega (arith, ok.place, h)), (λ h. not_linked x (ok.linked x (sym h)).linked.linked refl), (λ h. ne (omega (arith, ok.place, h))), (λ h. omega (arith, ok.place, h))))
+  nowhere_near LinkEdge ok = let ne = not_used e.source.index ok.source.used in (node_else LinkEdge sizes e (state sizes past) x f.fresh (apart ok.fresh.mine), ((λ h. omega (arith, ok.place, h)), (λ h. not_linked x (ok.linked x (sym h)).linked.linked refl), (λ h. ne (omega (arith, ok.place, h))), (λ h. omega (arith, ok.place, h))))
   nowhere_near Raise ok = let ne = not_used e.life.index ok.vertex.used in (refl, ((λ h. omega (arith, ok.place, h)), (λ h. omega (arith, ok.place, h)), (λ h. omega (arith, ok.place, h)), (λ h. ne (omega (arith, ok.place, h)))))
   nowhere_near MarkEdge ok = let ne = not_linked e.life.index ok.linked.linked in (node_else MarkEdge sizes e (state sizes past) x f.fresh ne, ((λ h. omega (arith, ok.place, h)), (λ h. ne (omega (arith, ok.place, h))), (λ h. omega (arith, ok.place, h)), (λ h. omega (arith, ok.place, h))))
   nowhere_near UnlinkEdge ok = let ne = not_used (node_in sizes past e.life.index).source.index ok.source.used in (node_else UnlinkEdge sizes e (state sizes past) x f.fresh (not_linked e.life.index ok.linked.linked), ((λ h. omega (arith, ok.place, h)), (λ h. not_linked x (ok.before_linked x (sym h)).linked.linked refl), (λ h. ne (omega (arith, ok.place, h))), (λ h. omega (arith, ok.place, h))))
@@ -89,7 +86,7 @@ fresh_stays sizes z caller last x there front journal p kept quiet old f = kept_
     step : (past : List Event) (e : Event) → IsKept sizes past → IsHeld sizes front past x → e.caller ≢ caller → Allowed sizes past e → IsHeld sizes front (past ++ e ∷ []) x
     step past e kept c other ok =
         let now : IsFreshWith sizes past caller x = record { fresh = ap (λ (v : Node). v.mode) c.node ∙ f.fresh; mine = ap (λ (v : Node). v.who) c.node ∙ f.mine } in
-        let t = nowhere_near sizes z past e kept caller x there now other e.kind ok.as_kind in
+        let t = nowhere_near sizes z past e kept caller x there now (λ m same. other (sym m ∙ (ap (λ (y : ℕ). (node_in sizes past y).who) (sym same) ∙ now.mine))) e.kind ok.as_kind in
         let a = after_event sizes past e in
         record {
           node = ap (λ (s : State). s.node x) (state-snoc sizes past e) ∙ (t.0 ∙ c.node);
@@ -102,9 +99,9 @@ fresh_stays sizes z caller last x there front journal p kept quiet old f = kept_
 mark_was : (s : State) (i caller x : ℕ) → (put i (record (s.node i) { marked = true }) s.node x).mode ≡ Fresh → (put i (record (s.node i) { marked = true }) s.node x).who ≡ caller → ((s.node x).mode ≡ Fresh) × ((s.node x).who ≡ caller)
 mark_was s i caller x = put_case (λ (v : Node). v.mode ≡ Fresh → v.who ≡ caller → ((s.node x).mode ≡ Fresh) × ((s.node x).who ≡ caller)) i (record (s.node i) { marked = true }) s.node x (λ same m w. (ap (λ (y : ℕ). (s.node y).mode) same ∙ m, ap (λ (y : ℕ). (s.node y).who) same ∙ w)) (λ _ m w. (m, w))
 
--- a node that is fresh with a caller after an event of another was so before it
-fresh_was : (k : Kind) (sizes : Sizes) (e : Event) (s : State) (caller x : ℕ) → e.caller ≢ caller → ((state_by k sizes e s).node x).mode ≡ Fresh → ((state_by k sizes e s).node x).who ≡ caller → ((s.node x).mode ≡ Fresh) × ((s.node x).who ≡ caller)
-fresh_was PopFree sizes e s caller x other = put_case (λ (v : Node). v.mode ≡ Fresh → v.who ≡ caller → ((s.node x).mode ≡ Fresh) × ((s.node x).who ≡ caller)) e.life.index _ s.node x (λ _ _ w. absurd (other w)) (λ _ m w. (m, w))
+-- a node that is fresh with a caller after an event by which it takes none was so before it
+pub fresh_was : (k : Kind) (sizes : Sizes) (e : Event) (s : State) (caller x : ℕ) → (k ≡ PopFree → e.caller ≢ caller) → ((state_by k sizes e s).node x).mode ≡ Fresh → ((state_by k sizes e s).node x).who ≡ caller → ((s.node x).mode ≡ Fresh) × ((s.node x).who ≡ caller)
+fresh_was PopFree sizes e s caller x other = put_case (λ (v : Node). v.mode ≡ Fresh → v.who ≡ caller → ((s.node x).mode ≡ Fresh) × ((s.node x).who ≡ caller)) e.life.index _ s.node x (λ _ _ w. absurd (other refl w)) (λ _ m w. (m, w))
 fresh_was LinkVertex sizes e s caller x other = put_case (λ (v : Node). v.mode ≡ Fresh → v.who ≡ caller → ((s.node x).mode ≡ Fresh) × ((s.node x).who ≡ caller)) e.life.index _ s.node x (λ _ m w. absurd (cc)) (λ _ m w. (m, w))
 fresh_was UnlinkVertex sizes e s caller x other = put_case (λ (v : Node). v.mode ≡ Fresh → v.who ≡ caller → ((s.node x).mode ≡ Fresh) × ((s.node x).who ≡ caller)) e.life.index _ s.node x (λ _ m w. absurd (cc)) (λ _ m w. (m, w))
 fresh_was LinkEdge sizes e s caller x other = put_case (λ (v : Node). v.mode ≡ Fresh → v.who ≡ caller → ((s.node x).mode ≡ Fresh) × ((s.node x).who ≡ caller)) e.life.index _ s.node x (λ _ m w. absurd (cc)) (λ _ m w. (m, w))
@@ -123,5 +120,5 @@ pub none_fresh_stays : (sizes : Sizes) (caller last : ℕ) (front journal : List
 none_fresh_stays sizes caller last front journal p kept quiet old none = kept_beyond sizes (λ (j : List Event). (x : ℕ) → x < sizes.nodes → IsFreshWith sizes j caller x → ⊥) caller last
     (λ past e _ h other _ x t f.
     let is = ap (λ (s : State). s.node x) (state-snoc sizes past e) in
-    let was = fresh_was e.kind sizes e (state sizes past) caller x other (sym (ap (λ (v : Node). v.mode) is) ∙ f.fresh) (sym (ap (λ (v : Node). v.who) is) ∙ f.mine) in
+    let was = fresh_was e.kind sizes e (state sizes past) caller x (λ _. other) (sym (ap (λ (v : Node). v.mode) is) ∙ f.fresh) (sym (ap (λ (v : Node). v.who) is) ∙ f.mine) in
     h x t (record { fresh = was.0; mine = was.1 })) front journal p kept quiet old none

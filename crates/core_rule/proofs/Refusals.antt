@@ -23,9 +23,9 @@ use Rattle.core_rule.specs.Refused.{IsRefused, holding, outside, made_in_a_pass,
 use Rattle.core_rule.specs.TwoLives.{raises_source, links_new, marks_first, stores_link, moves_epoch, with_other, removes_vertex}
 use Rattle.core_rule.proofs.Announcements.{epoch_was}
 use Rattle.core_journal.proofs.KeptLives.{link_more}
-use Rattle.core_rule.proofs.Counted.{allowed_at, edge_event}
+use Rattle.core_rule.proofs.Counted.{edge_event}
 use Rattle.core_rule.proofs.Epochs.{checked}
-use Rattle.core_rule.proofs.Induction.{kept_snoc}
+use Rattle.core_rule.proofs.Induction.{allowed_at, kept_snoc}
 use Rattle.core_rule.proofs.SmallSteps.{none_such, none_fresh, announced, filled, withdrawn, moved}
 use Rattle.core_rule.proofs.TwoLives.{before, kept_3, kept_4, kept_8, kept_16, kept_19, kept_24, kept_27, kept_28, kept_29, kept_32, kept_37, kept_40, kept_41, kept_42, kept_46}
 

@@ -19,6 +19,7 @@ pub mod Fronts
 pub mod OwnEvents
 pub mod Raised
 pub mod Walks
+pub mod Views
 pub mod TwoLives
 pub mod Refused
 pub mod Beside

@@ -1,10 +1,11 @@
-//! The laws of kept journals: their fronts, and one more event. Worked journals that are kept, and events that are refused.
+//! The laws of kept journals: their fronts, and one more event. Worked journals that are kept, and events that are
+//! refused.
 //!
-//! A fact that each allowed event keeps holds of all kept journals (`IsKept` of `specs/Kept.antt`), and one that each event
-//! of another caller keeps goes on from a front with all events of its caller: `proofs/Induction.antt` has these for all
-//! facts at once.
+//! A fact that each allowed event keeps holds of all kept journals (`IsKept` of `specs/Kept.antt`), and one that each
+//! event of another caller keeps goes on from a front with all events of its caller: `proofs/Induction.antt` has these
+//! for all facts at once.
 
-ghost use Rattle.std.specs.Prelude.{◌≡◌, ℕ, List, [], ◌∷◌, ◌++◌, Contains, map};
+ghost use Rattle.std.specs.Prelude.{◌≡◌, ℕ, List, [], ◌∷◌, ◌++◌, Contains, Some, map, slice_get, take};
 ghost use Rattle.graph_kinds.specs.History.{Every};
 ghost use Rattle.packed_link.specs.Layout.{Sizes, IsLayout};
 ghost use Rattle.core_journal.specs.declared.event.Event.{Event};
@@ -26,13 +27,20 @@ ghost use Rattle.core_rule.specs.TwoLives.{two_lives, with_edge, without_edge, w
 ghost use Rattle.core_rule.specs.TwoLives.{key_two, links_new, lives_words, marks_first, moves_epoch, raises_source};
 ghost use Rattle.core_rule.specs.TwoLives.{stores_link, two_keys};
 
-/// The empty journal is kept, one more allowed event keeps it so, and a front of a kept journal is kept.
+/// The empty journal is kept, one more allowed event keeps it so, and a front of a kept journal is kept, also one that
+/// is given by its length. Each event of a kept journal, and so the last one, was allowed after those before it.
 pub fn kept_journals_grow()
     ensures opening { (sizes : Sizes) → IsKept sizes [] }
     ensures next { (sizes : Sizes) (journal : List Event) (e : Event) → IsKept sizes journal → Allowed sizes journal e
         → IsKept sizes (journal ++ e ∷ []) }
     ensures front { (sizes : Sizes) (front journal : List Event) → IsPrefix front journal → IsKept sizes journal
         → IsKept sizes front }
+    ensures taken { (sizes : Sizes) (journal : List Event) (n : ℕ) → IsKept sizes journal
+        → IsKept sizes (take n journal) }
+    ensures each { (sizes : Sizes) (journal : List Event) → IsKept sizes journal → (p : ℕ) (e : Event)
+        → slice_get journal p ≡ Some e → Allowed sizes (take p journal) e }
+    ensures last { (sizes : Sizes) (past : List Event) (e : Event) → IsKept sizes (past ++ e ∷ [])
+        → IsKept sizes past × Allowed sizes past e }
 {}
 
 /// The worked journal of eight events, in which one caller adds a vertex to a new table, is kept.

@@ -15,6 +15,7 @@ mod raises;
 mod reuse;
 mod rule;
 mod view;
+mod views;
 mod walks;
 mod words;
 
@@ -34,20 +35,27 @@ pub use lifts::{
 };
 pub use lists::{
     a_closed_list_is_a_list, a_present_edge_is_on_its_list, closed_lists_stay,
-    frozen_parts_are_handed_over, linked_edges_are_at_their_source, lists_hold_their_edges,
-    one_edge_has_a_pair,
+    frozen_parts_are_handed_over, frozen_words_stay, linked_edges_are_at_their_source,
+    lists_hold_their_edges, one_edge_has_a_pair,
 };
-pub use own::{callers_have_numbers, own_events_are_counted, own_facts_stay};
-pub use raises::marked_edges_were_linked_at_a_lower_counter;
+pub use own::{
+    a_caller_fills_one_node, a_new_number_has_nothing, callers_have_numbers,
+    each_event_changes_its_node, each_event_keeps_the_rest, own_events_are_counted, own_facts_stay,
+};
+pub use raises::{a_raise_is_for_edges_linked_before, marked_edges_were_linked_at_a_lower_counter};
 pub use reuse::{
     each_node_has_one_standing, nodes_are_given_again_safely, ripe_nodes_are_not_met,
-    spent_nodes_stay_with_their_caller, what_is_met_keeps_its_words,
+    spent_nodes_become_ripe, spent_nodes_stay_with_their_caller, what_is_met_keeps_its_words,
 };
 pub use rule::{
     a_draw_keeps_the_rule, a_last_token_knows_the_journal, a_new_table_meets_the_rule,
     a_reply_keeps_the_rule, splits_and_joins_keep_the_rule, steps_keep_the_rule,
 };
 pub use view::View;
+pub use views::{
+    a_later_view_has_met_it, a_passed_key_is_absent, a_step_keeps_what_is_the_tokens_own,
+    a_view_goes_on, a_word_leads_to_what_is_met, the_words_of_a_met_node_tell_its_life,
+};
 pub use walks::{
     a_walk_goes_on_from_a_spent_vertex, a_walk_meets_what_its_pass_may_hold,
     spent_nodes_lead_no_further_back,

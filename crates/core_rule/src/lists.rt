@@ -1,12 +1,13 @@
 //! The laws of the lists of edges: after each kept journal each list holds the edges of its vertex's life.
 //!
 //! A vertex has a list while it is linked or spent and its list isn't frozen to its end (`HasList` of
-//! `specs/Chains.antt`). An edge joins the list of its source with its link and leaves it when it's unlinked; marked, or
-//! handed over with the frozen part, it's on it in between. Since keys rise strictly along a list, it has one edge a key.
+//! `specs/Chains.antt`). An edge joins the list of its source with its link and leaves it when it's unlinked; marked,
+//! or handed over with the frozen part, it's on it in between. Since keys rise strictly along a list, it has one edge a
+//! key.
 
 ghost use Rattle.std.specs.Prelude.{◌≡◌, ◌≢◌, ◌⊎◌, ◌↔◌, ℕ, ◌<◌, ◌≤◌, false, true, List, [], ◌∷◌, ◌++◌, Some, length};
-ghost use Rattle.packed_link.specs.Link.{index_of, nowhere};
-ghost use Rattle.packed_link.specs.Layout.{IsLayout, Sizes};
+ghost use Rattle.packed_link.specs.Link.{index_of, mark_of, nowhere};
+ghost use Rattle.packed_link.specs.Layout.{IsLayout, Sizes, link_at, second_at};
 ghost use Rattle.packed_link.specs.declared.link.Life.{Life};
 ghost use Rattle.core_chain.specs.Met.{IsMet};
 ghost use Rattle.core_journal.specs.declared.event.Event.{Event};
@@ -17,13 +18,16 @@ ghost use Rattle.core_journal.specs.State.{Fresh, Spent, state};
 ghost use Rattle.core_rule.specs.Chains.{EdgeLists, FrozenParts, HasList, IsAtSource, IsEdgeOf, IsInList, KeepsList};
 ghost use Rattle.core_rule.specs.Chains.{Sources, edge_chain, life_in};
 ghost use Rattle.core_rule.specs.Freezing.{IsFrozenWord, IsSpentVertex};
-ghost use Rattle.core_rule.specs.Kept.{Allowed, IsKept, IsQuiet};
-ghost use Rattle.core_journal.specs.declared.event.Kind.TheVariants.{StoreFree, PushFree};
-ghost use Rattle.core_rule.specs.Nodes.{IsFrozenToEnd, IsLinkedEdge, IsLinkedVertex, IsUsed, node_in, is_frozen, is_listed};
+ghost use Rattle.core_rule.specs.Kept.{IsKept, IsQuiet};
+ghost use Rattle.core_journal.specs.declared.event.Kind.TheVariants.{FreezeEdge, FreezeHead, PushFree, StoreFree};
+ghost use Rattle.core_rule.specs.Nodes.{IsFrozenToEnd, IsLinkedEdge, IsLinkedVertex, IsSpentWith, IsUsed};
+ghost use Rattle.core_rule.specs.Nodes.{is_frozen, is_listed, node_in};
 
 /// From the second word of each vertex that has a list, link after link, one meets the edges of its list, each once, by
-/// strictly rising keys. They are the lives that were linked as edges of the vertex's life, and not unlinked. Each linked vertex
-/// has a list; and what stands on any list, also one that is frozen to its end, was linked so and not unlinked.
+/// strictly rising keys. They are the lives that were linked as edges of the vertex's life, and not unlinked. Each
+/// linked vertex has a list, and so has each vertex that is linked or spent and whose second word is unmarked. What
+/// stands on any list, also one that is frozen to its end, was linked so and not unlinked; it's an edge node whose
+/// source is the vertex, and stands on no other list.
 pub fn lists_hold_their_edges()
     ensures lists { (sizes : Sizes) → IsLayout sizes → (journal : List Event) → IsKept sizes journal
         → EdgeLists sizes journal }
@@ -35,11 +39,21 @@ pub fn lists_hold_their_edges()
     ensures on { (sizes : Sizes) → IsLayout sizes → (journal : List Event) → IsKept sizes journal
         → (x y : ℕ) → is_listed (state sizes journal) x y ≡ true
         → IsEdgeOf journal (life_in sizes journal x) (life_in sizes journal y) }
+    ensures node { (sizes : Sizes) → IsLayout sizes → (journal : List Event) → IsKept sizes journal
+        → (x y : ℕ) → is_listed (state sizes journal) x y ≡ true
+        → (y < sizes.nodes) × ((node_in sizes journal y).vertex ≡ false)
+        × ((node_in sizes journal y).source ≡ life_in sizes journal x) }
+    ensures one { (sizes : Sizes) → IsLayout sizes → (journal : List Event) → IsKept sizes journal
+        → (w x y : ℕ) → is_listed (state sizes journal) w y ≡ true → is_listed (state sizes journal) x y ≡ true
+        → w ≡ x }
+    ensures unclosed { (sizes : Sizes) → IsLayout sizes → (journal : List Event) → IsKept sizes journal
+        → (x : ℕ) → x < sizes.nodes → IsUsed (node_in sizes journal x).mode → (node_in sizes journal x).vertex ≡ true
+        → mark_of (word_at sizes journal (second_at sizes x)) ≡ 0 → HasList sizes journal x }
 {}
 
-/// The frozen part of a list holds exactly its edges that were handed over, and the others are linked. A frozen word leads
-/// to none, or to an edge of the list. Each edge of a frozen part that isn't given back is spent, by the caller who spent
-/// the vertex.
+/// The frozen part of a list holds exactly its edges that were handed over, and the others are linked. A frozen word
+/// leads to none, or to an edge of the list. Each edge of a frozen part that isn't given back is spent, by the caller
+/// who spent the vertex. A frozen part is one of a closed list, and its edges stand on that list (`listed`).
 pub fn frozen_parts_are_handed_over()
     ensures parts { (sizes : Sizes) → IsLayout sizes → (journal : List Event) → IsKept sizes journal
         → FrozenParts sizes journal }
@@ -47,14 +61,16 @@ pub fn frozen_parts_are_handed_over()
         → (x y : ℕ) → IsUsed (node_in sizes journal x).mode → (node_in sizes journal x).vertex ≡ true
         → is_frozen (state sizes journal) x y ≡ true → IsUsed (node_in sizes journal y).mode
         → (node_in sizes journal y).mode ≡ Spent × ((node_in sizes journal y).who ≡ (node_in sizes journal x).who) }
+    ensures listed { (sizes : Sizes) (journal : List Event) (x y : ℕ) → is_frozen (state sizes journal) x y ≡ true
+        → (is_listed (state sizes journal) x y ≡ true) × ((state sizes journal).frozen x ≡ true) }
 {}
 
-/// A list that is frozen to its end is one still while no edge of its vertex's life is stored for the free list: one meets
-/// its edges from the second word of the vertex, they are all edges of the vertex's life that weren't unlinked, and a frozen
-/// word leads to none or to one of them. Where it leads to none, the list is frozen to its end; where it leads to a marked edge,
-/// that edge is of the frozen part. Each list that isn't frozen to its end is such a list. That of a vertex which a caller spent
-/// stays one while others act, and behind each event of anyone that neither stores a link for the free list nor gives a node
-/// back.
+/// A list that is frozen to its end is one still while no edge of its vertex's life is stored for the free list: one
+/// meets its edges from the second word of the vertex, they are all edges of the vertex's life that weren't unlinked,
+/// and a frozen word leads to none or to one of them. Where it leads to none, the list is frozen to its end; where it
+/// leads to a marked edge, that edge is of the frozen part. Each list that isn't frozen to its end is such a list. That
+/// of a vertex which a caller spent stays one while others act, and behind each event of anyone that neither stores the
+/// link of an edge of it for the free list nor gives the vertex back.
 pub fn a_closed_list_is_a_list()
     ensures list { (sizes : Sizes) → IsLayout sizes → (journal : List Event) → IsKept sizes journal
         → (x : ℕ) → HasList sizes journal x → KeepsList sizes journal x }
@@ -68,9 +84,10 @@ pub fn a_closed_list_is_a_list()
         → (index_of (word_at sizes journal place) ≡ nowhere)
         ⊎ (is_listed (state sizes journal) x (index_of (word_at sizes journal place)) ≡ true) }
     ensures own { (sizes : Sizes) → IsLayout sizes → (past : List Event) (e : Event) (caller x : ℕ)
-        → IsKept sizes past → Allowed sizes past e → e.kind ≢ StoreFree → e.kind ≢ PushFree
-        → IsSpentVertex sizes past caller x → KeepsList sizes past x
-        → IsSpentVertex sizes (past ++ e ∷ []) caller x × KeepsList sizes (past ++ e ∷ []) x }
+        → IsKept sizes (past ++ e ∷ []) → (e.kind ≡ StoreFree → is_listed (state sizes past) x e.life.index ≡ false)
+        → (e.kind ≡ PushFree → e.life.index ≢ x) → IsSpentVertex sizes past caller x → KeepsList sizes past x
+        → IsSpentVertex sizes (past ++ e ∷ []) caller x × KeepsList sizes (past ++ e ∷ []) x
+        × ((node_in sizes (past ++ e ∷ []) x).tag ≡ (node_in sizes past x).tag) }
     ensures next { (sizes : Sizes) → IsLayout sizes → (journal : List Event) → IsKept sizes journal
         → (x place y : ℕ) → KeepsList sizes journal x → IsFrozenWord sizes journal x place
         → index_of (word_at sizes journal place) ≡ y → y ≢ nowhere → (node_in sizes journal y).marked ≡ true
@@ -83,6 +100,38 @@ pub fn a_closed_list_is_a_list()
         → IsSpentVertex sizes front caller x → KeepsList sizes front x
         → IsSpentVertex sizes journal caller x × KeepsList sizes journal x
         × ((node_in sizes journal x).tag ≡ (node_in sizes front x).tag) }
+{}
+
+/// A frozen word of a list stays as it is, and frozen, while the list is one: where the vertex is spent with a caller,
+/// while others act, and behind each event of anyone that neither stores the link of an edge of the list for the free
+/// list nor gives the vertex back. The second word of a vertex whose list is closed is such a word, and so is the link
+/// of an edge that was frozen: that edge is spent with the caller.
+pub fn frozen_words_stay()
+    ensures others { (sizes : Sizes) → IsLayout sizes → (caller last x place : ℕ) (front journal : List Event)
+        → IsPrefix front journal → IsKept sizes journal → IsQuiet journal caller last → last ≤ length front
+        → IsSpentVertex sizes front caller x → KeepsList sizes front x → IsFrozenWord sizes front x place
+        → IsFrozenWord sizes journal x place × (word_at sizes journal place ≡ word_at sizes front place) }
+    ensures own { (sizes : Sizes) → IsLayout sizes → (past : List Event) (e : Event) (caller x place : ℕ)
+        → IsKept sizes (past ++ e ∷ []) → (e.kind ≡ StoreFree → is_listed (state sizes past) x e.life.index ≡ false)
+        → (e.kind ≡ PushFree → e.life.index ≢ x) → IsSpentVertex sizes past caller x → KeepsList sizes past x
+        → IsFrozenWord sizes past x place → IsFrozenWord sizes (past ++ e ∷ []) x place
+        × (word_at sizes (past ++ e ∷ []) place ≡ word_at sizes past place) }
+    ensures marked { (sizes : Sizes) → IsLayout sizes → (journal : List Event) → IsKept sizes journal
+        → (x place : ℕ) → KeepsList sizes journal x → IsFrozenWord sizes journal x place
+        → mark_of (word_at sizes journal place) ≡ 1 }
+    ensures head { (sizes : Sizes) (past : List Event) (e : Event) → IsKept sizes (past ++ e ∷ [])
+        → e.kind ≡ FreezeHead → IsSpentVertex sizes (past ++ e ∷ []) e.caller e.life.index
+        × IsFrozenWord sizes (past ++ e ∷ []) e.life.index (second_at sizes e.life.index) }
+    ensures edge { (sizes : Sizes) → IsLayout sizes → (past : List Event) (e : Event) (x place : ℕ)
+        → IsKept sizes (past ++ e ∷ []) → e.kind ≡ FreezeEdge → IsSpentVertex sizes past e.caller x
+        → KeepsList sizes past x → IsFrozenWord sizes past x place
+        → index_of (word_at sizes past place) ≡ e.life.index → IsSpentWith sizes (past ++ e ∷ []) e.caller e.life.index
+        × IsFrozenWord sizes (past ++ e ∷ []) x (link_at sizes e.life.index) }
+    ensures found { (sizes : Sizes) → IsLayout sizes → (journal : List Event) → IsKept sizes journal
+        → (caller x place y : ℕ) → IsSpentVertex sizes journal caller x → KeepsList sizes journal x
+        → IsFrozenWord sizes journal x place → index_of (word_at sizes journal place) ≡ y → y ≢ nowhere
+        → mark_of (word_at sizes journal (link_at sizes y)) ≡ 1 → IsSpentWith sizes journal caller y
+        × IsFrozenWord sizes journal x (link_at sizes y) }
 {}
 
 /// While a vertex is in its life, a closed head stays closed, a list that is frozen to its end stays so, and an edge of the

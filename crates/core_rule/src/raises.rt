@@ -1,12 +1,14 @@
 //! The laws of counters: how the counter of a vertex stood when an edge of it was linked, against later.
 //!
-//! A caller raises the counter of an edge's source before it marks the edge. So whoever saw the counter before the edge was
-//! linked, and sees it again after the edge was marked, sees another number.
+//! A caller raises the counter of an edge's source before it marks the edge. So whoever saw the counter before the edge
+//! was linked, and sees it again after the edge was marked, sees another number.
 
-ghost use Rattle.std.specs.Prelude.{◌≡◌, ◌≢◌, ℕ, ◌<◌, ◌≤◌, false, List, Some, length, slice_get, take, true};
+ghost use Rattle.std.specs.Prelude.{◌≡◌, ◌≢◌, ℕ, ◌<◌, ◌≤◌, false, List, [], ◌∷◌, ◌++◌, Some, length, slice_get, take};
+ghost use Rattle.std.specs.Prelude.{true};
 ghost use Rattle.packed_link.specs.Layout.{IsLayout, Sizes, third_at};
 ghost use Rattle.packed_link.specs.declared.link.Life.{Life};
 ghost use Rattle.core_journal.specs.declared.event.Event.{Event};
+ghost use Rattle.core_journal.specs.declared.event.Kind.TheVariants.{Raise};
 ghost use Rattle.core_journal.specs.Event.{marks_edge};
 ghost use Rattle.core_journal.specs.Life.{link_of, vertex_marked};
 ghost use Rattle.core_journal.specs.Machine.{word_at};
@@ -39,4 +41,12 @@ pub fn marked_edges_were_linked_at_a_lower_counter()
         → IsKept sizes journal → (node_in sizes front x).mode ≢ Fresh
         → (node_in sizes journal x).tag ≡ (node_in sizes front x).tag
         → word_at sizes front (third_at sizes x) ≤ word_at sizes journal (third_at sizes x) }
+{}
+
+/// A raise is for each edge that was linked before it: its caller raised the counter of its vertex in its pass, when
+/// the edge was linked.
+pub fn a_raise_is_for_edges_linked_before()
+    ensures { (sizes : Sizes) (past : List Event) (e : Event) → IsKept sizes (past ++ e ∷ []) → e.kind ≡ Raise
+        → (edge : Life) (link : Event) → link_of past edge ≡ Some link
+        → IsRaisedFor sizes (past ++ e ∷ []) e.caller edge e.life }
 {}

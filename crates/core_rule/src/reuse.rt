@@ -1,16 +1,17 @@
 //! The laws of reuse: when a node is given again, in which state each node is, and what an open pass may rely on.
 
-ghost use Rattle.std.specs.Prelude.{◌≡◌, ℕ, ◌<◌, ◌≤◌, false, Contains, List, length};
-ghost use Rattle.packed_link.specs.Layout.{Sizes, IsLayout, key_at, link_at, second_at, third_at};
+ghost use Rattle.std.specs.Prelude.{◌≡◌, ◌≢◌, ℕ, ◌+◌, ◌<◌, ◌≤◌, false, Contains, List, [], ◌∷◌, ◌++◌, length};
+ghost use Rattle.packed_link.specs.Layout.{Sizes, IsLayout, epoch_at, key_at, link_at, second_at, third_at};
 ghost use Rattle.packed_link.specs.Link.{mark_of};
 ghost use Rattle.core_journal.specs.declared.event.Event.{Event};
+ghost use Rattle.core_journal.specs.declared.event.Kind.TheVariants.{PushFree};
 ghost use Rattle.core_journal.specs.Prefix.{IsPrefix};
 ghost use Rattle.core_journal.specs.Machine.{word_at};
 ghost use Rattle.core_journal.specs.Reuse.{ReusesSafely};
 ghost use Rattle.core_journal.specs.State.{Free, state};
 ghost use Rattle.core_rule.specs.Facts.{HasMet, IsKeptSpent, IsSamePass};
 ghost use Rattle.core_rule.specs.Kept.{IsKept, IsQuiet};
-ghost use Rattle.core_rule.specs.Nodes.{IsRipe, node_in, IsSpentWith};
+ghost use Rattle.core_rule.specs.Nodes.{IsRipe, IsSpentWith, IsStamped, node_in};
 ghost use Rattle.core_rule.specs.Standings.{Standing, StandsAs};
 
 /// No node is given again while an older pass is open: whenever a node is taken, each life for which it was taken before has
@@ -43,6 +44,30 @@ pub fn spent_nodes_stay_with_their_caller()
 pub fn ripe_nodes_are_not_met()
     ensures { (sizes : Sizes) → IsLayout sizes → (journal : List Event) → IsKept sizes journal
         → (caller i x : ℕ) → IsRipe sizes journal caller x → HasMet sizes journal i x → ⊥ }
+{}
+
+/// How a spent node becomes ripe. A node that is spent with a caller at a moment has each stamp that is at least the
+/// epoch then (`stamp`), and one with a stamp is ripe once an epoch of stamp + 2 was shown (`ripens`). Stamps and
+/// ripeness stay while others act (`stamp_beyond`, `ripe_beyond`), and behind each event but that which gives the node
+/// back (`stamp_behind`, `ripe_behind`).
+pub fn spent_nodes_become_ripe()
+    ensures stamp { (sizes : Sizes) (journal : List Event) (caller x stamp : ℕ) → IsSpentWith sizes journal caller x
+        → word_at sizes journal (epoch_at sizes) ≤ stamp → IsStamped sizes journal caller x stamp }
+    ensures ripens { (sizes : Sizes) (shown journal : List Event) → IsPrefix shown journal → (caller x stamp : ℕ)
+        → IsStamped sizes journal caller x stamp → stamp + 2 ≤ word_at sizes shown (epoch_at sizes)
+        → IsRipe sizes journal caller x }
+    ensures stamp_beyond { (sizes : Sizes) → IsLayout sizes → (caller last x stamp : ℕ) (front journal : List Event)
+        → IsPrefix front journal → IsKept sizes journal → IsQuiet journal caller last → last ≤ length front
+        → IsStamped sizes front caller x stamp → IsStamped sizes journal caller x stamp }
+    ensures stamp_behind { (sizes : Sizes) → IsLayout sizes → (past : List Event) (e : Event)
+        → IsKept sizes (past ++ e ∷ []) → (caller x stamp : ℕ) → (e.kind ≡ PushFree → e.life.index ≢ x)
+        → IsStamped sizes past caller x stamp → IsStamped sizes (past ++ e ∷ []) caller x stamp }
+    ensures ripe_beyond { (sizes : Sizes) → IsLayout sizes → (caller last x : ℕ) (front journal : List Event)
+        → IsPrefix front journal → IsKept sizes journal → IsQuiet journal caller last → last ≤ length front
+        → IsRipe sizes front caller x → IsRipe sizes journal caller x }
+    ensures ripe_behind { (sizes : Sizes) → IsLayout sizes → (past : List Event) (e : Event)
+        → IsKept sizes (past ++ e ∷ []) → (caller x : ℕ) → (e.kind ≡ PushFree → e.life.index ≢ x)
+        → IsRipe sizes past caller x → IsRipe sizes (past ++ e ∷ []) caller x }
 {}
 
 /// What an open pass has met it has met still while the pass is open: the node is in the same life, a vertex or an edge as it

@@ -1,11 +1,12 @@
 //! The laws of the words beside the state: what the words of the table are after each kept journal.
 //!
 //! The state after a journal (core_journal's `state`) has no words, and the words have no states; each record of
-//! `specs/Facts.antt` ties some of them together. They are proved by one induction each. What core_epoch has laws of, passes,
-//! ends of lives and the free list, is said here of the state in its form (`specs/Moments.antt`, `specs/Free.antt`).
+//! `specs/Facts.antt` ties some of them together. They are proved by one induction each. What core_epoch has laws of,
+//! passes, ends of lives and the free list, is said here of the state in its form (`specs/Moments.antt`,
+//! `specs/Free.antt`).
 
-ghost use Rattle.std.specs.Prelude.{◌≡◌, ◌≢◌, ℕ, ◌+◌, ◌<◌, ◌≤◌, true, false, List};
-ghost use Rattle.packed_link.specs.Link.{index_of, mark_of};
+ghost use Rattle.std.specs.Prelude.{◌≡◌, ◌≢◌, ◌⊎◌, ℕ, ◌+◌, ◌<◌, ◌≤◌, true, false, List};
+ghost use Rattle.packed_link.specs.Link.{index_of, mark_of, nowhere};
 ghost use Rattle.packed_link.specs.Layout.{Sizes, IsLayout, epoch_at, free_at, link_at, second_at};
 ghost use Rattle.core_epoch.specs.Clock.{Announcements, IsClear, IsNear};
 ghost use Rattle.core_epoch.specs.Ends.{Ended, Ordered};
@@ -37,12 +38,15 @@ pub fn announcements_tell_passes()
         → Announcements sizes.callers (clock_in sizes journal) }
 {}
 
-/// The free list holds exactly the free nodes, each once, and its word's tag counts its changes. So a node that is taken
-/// was free, and begins its next life; and where the word of the list is again one that was seen before its node's link
-/// was, that link is still the same.
+/// The free list holds exactly the free nodes, each once, and its word's tag counts its changes. So a node that is
+/// taken was free, and begins its next life; and where the word of the list is again one that was seen before its
+/// node's link was, that link is still the same. The word leads to none or to a node of the table (`first`).
 pub fn free_list_is_exact()
     ensures list { (sizes : Sizes) → IsLayout sizes → (journal : List Event) → IsKept sizes journal
         → FreeList sizes.nodes (pool_in sizes journal) }
+    ensures first { (sizes : Sizes) → IsLayout sizes → (journal : List Event) → IsKept sizes journal
+        → (index_of (word_at sizes journal (free_at sizes)) ≡ nowhere)
+        ⊎ (index_of (word_at sizes journal (free_at sizes)) < sizes.nodes) }
     ensures free { (sizes : Sizes) → IsLayout sizes → (past : List Event) (e : Event) → IsKept sizes past
         → IsPopFree sizes past e → (node_in sizes past e.life.index).mode ≡ Free }
     ensures next_life { (sizes : Sizes) → IsLayout sizes → (past : List Event) (e : Event) → IsKept sizes past

@@ -1,6 +1,7 @@
 use Rattle.core_rule.proofs.ClosedLists.{kept_met, kept_lives, kept_leads, has_keeps}
 use Rattle.core_rule.proofs.FrozenOn.{frozen_next, frozen_finished}
-use Rattle.core_rule.proofs.KeptLists.{own_list_stays, own_list_steps}
+use Rattle.core_rule.proofs.FrozenWords.{list_steps}
+use Rattle.core_rule.proofs.KeptLists.{own_list_stays}
 use Rattle.core_rule.proofs.lists.a_closed_list_is_a_list.Goals as goal
 
 pub returns-clause-list : goal.returns-clause-list
@@ -25,4 +26,4 @@ pub returns-clause-end : goal.returns-clause-end
 returns-clause-end c = λ sizes z journal kept x place k f none. frozen_finished sizes z journal kept x place k f none
 
 pub returns-clause-own : goal.returns-clause-own
-returns-clause-own c = λ sizes z past e caller x kept ok unstored unpushed spent k. own_list_steps sizes z past e caller x kept ok unstored unpushed spent k
+returns-clause-own c = λ sizes z past e caller x kept unstored unpushed spent k. list_steps sizes z past e caller x kept unstored unpushed spent k

@@ -1,9 +1,13 @@
-use Rattle.std.proofs.Common.{sym, subst}
+use Rattle.std.proofs.Common.{◌∙◌, sym, ap, subst, arith}
+use Rattle.packed_link.specs.Link.{mark_bit}
 use Rattle.core_rule.specs.Nodes.{IsUsed}
 use Rattle.core_rule.proofs.ClosedLists.{edge_on}
 use Rattle.core_rule.proofs.SpentLinks.{unclosed}
 use Rattle.core_rule.proofs.EdgeChains.{edge_lists}
 use Rattle.core_rule.proofs.EdgeLives.{edge_of, of_edge}
+use Rattle.core_rule.proofs.Contents.{contents}
+use Rattle.core_rule.proofs.ListSteps.{listing}
+use Rattle.core_rule.proofs.Named.{life_is}
 use Rattle.core_rule.proofs.lists.lists_hold_their_edges.Goals as goal
 
 pub returns-clause-lists : goal.returns-clause-lists
@@ -22,3 +26,21 @@ returns-clause-linked c = λ sizes z journal kept x there l. record {
 
 pub returns-clause-on : goal.returns-clause-on
 returns-clause-on c = λ sizes z journal kept x y on. edge_on sizes z journal kept x y on
+
+pub returns-clause-node : goal.returns-clause-node
+returns-clause-node c = λ sizes z journal kept x y on.
+    let d = (listing sizes z journal kept).on x y on in
+    (d.there, d.edge, life_is _ x _ d.index d.life)
+
+pub returns-clause-one : goal.returns-clause-one
+returns-clause-one c = λ sizes z journal kept w x y a b.
+    let l = listing sizes z journal kept in
+    sym (l.on w y a).index ∙ (l.on x y b).index
+
+pub returns-clause-unclosed : goal.returns-clause-unclosed
+returns-clause-unclosed c = λ sizes z journal kept x there used vertex live. record {
+  there = there;
+  used = used;
+  vertex = vertex;
+  unfinished = λ f. let m = (((contents sizes z journal kept).each x there).vertex used vertex).second_mark ∙ ap mark_bit f.head in absurd (omega (arith, m, live));
+}

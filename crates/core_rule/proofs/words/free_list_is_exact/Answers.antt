@@ -1,4 +1,4 @@
-use Rattle.core_rule.proofs.FreeList.{free_list, pop_again}
+use Rattle.core_rule.proofs.FreeList.{free_list, first_leads, pop_again}
 use Rattle.core_rule.proofs.LinkWords.{taken}
 use Rattle.core_rule.proofs.words.free_list_is_exact.Goals as goal
 
@@ -13,3 +13,6 @@ returns-clause-next_life c = λ sizes z past e kept ok. (taken sizes z past e ke
 
 pub returns-clause-again : goal.returns-clause-again
 returns-clause-again c = λ sizes z seen next there first second journal p q kept was link is. (pop_again sizes z seen next there first second journal p q kept was link is).0
+
+pub returns-clause-first : goal.returns-clause-first
+returns-clause-first c = λ sizes z journal kept. first_leads sizes z journal kept
