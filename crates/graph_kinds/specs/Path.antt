@@ -56,8 +56,8 @@ least (x ∷ xs) = Some (min x (unwrap_or (least xs) x))
 abbrev pub least_cost : Graph → ℕ → ℕ → Option ℕ
 least_cost g a b = least (map (cost_of g) (filter (ends_with b) (short_paths g (key_count g) a)))
 
--- of the least cost of x, the weight of the pair from x to y and the least cost of y: there are all three, and the first
--- two make the third
+-- of the least cost of x, the weight of the pair from x to y and the least cost of y: there are all three, and the
+-- first two make the third
 abbrev pub reaches_by : Option ℕ → Option ℕ → Option ℕ → Bool
 reaches_by (Some c) (Some w) (Some d) = c + w == d
 reaches_by _ _ _ = false
