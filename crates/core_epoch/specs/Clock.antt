@@ -1,9 +1,9 @@
--- The epoch, and the pass of each caller beside it, at one moment (Fraser 2004). While its pass is open a caller holds on to
--- what it meets.
+-- The epoch, and the pass of each caller beside it, at one moment (Fraser 2004). While its pass is open a caller holds
+-- on to what it meets.
 use Rattle.std.specs.Prelude.{◌≡◌, ℕ, ◌+◌, ◌<◌, ◌≤◌, Bool, true, false}
 
--- how many steps were made, and the epoch; of each caller whether its pass is open, the epoch at its last announcement, how
--- many steps were made before that, and its announcement word
+-- how many steps were made, and the epoch; of each caller whether its pass is open, the epoch at its last announcement,
+-- how many steps were made before that, and its announcement word
 pub record Clock : Type 0 where
   pub count : ℕ
   pub epoch : ℕ
@@ -25,7 +25,7 @@ pub record IsOpenPass (callers : ℕ) (clock : Clock) (i : ℕ) : Type 0 where
   pub born : clock.birth i ≤ clock.epoch
   pub began : clock.since i < clock.count
 
--- a caller's announcement is 0 outside its pass
+-- what announcements tell of passes: 0 outside a pass, and in it one above an epoch that is at most that of its birth
 pub record Announcements (callers : ℕ) (clock : Clock) : Type 0 where
   pub inside : (i : ℕ) → clock.is_open i ≡ true → IsOpenPass callers clock i
   pub outside : (i : ℕ) → i < callers → clock.is_open i ≡ false → clock.word i ≡ 0

@@ -1,9 +1,12 @@
--- The free list at one moment: nodes that lead to one another through their link words, from one word on (Treiber 1986).
-use Rattle.std.specs.Prelude.{◌≡◌, ◌≢◌, ◌≤◌, ℕ, ◌+◌, ◌<◌, ◌==◌, cond, Bool, true, false, List, [], ◌∷◌, drop, AllPairs, Contains}
+-- The free list at one moment: nodes that lead to one another through their link words, from one word on (Treiber
+-- 1986).
+use Rattle.std.specs.Prelude.{◌≡◌, ◌≢◌, ◌≤◌, ℕ, ◌+◌, ◌<◌, ◌==◌, cond, Bool, true, false, List, [], ◌∷◌, drop, AllPairs}
+use Rattle.std.specs.Prelude.{Contains}
 use Rattle.std.specs.List.{range_with_len}
 use Rattle.packed_link.specs.Link.{pack, index_of, mark_of, tag_of, nowhere}
 
--- the word of the free list and the link word of each node; which nodes are free, the list of them, and how often it changed
+-- the word of the free list and the link word of each node; which nodes are free, the list of them, and how often it
+-- changed
 pub record Pool : Type 0 where
   pub first : ℕ
   pub link : ℕ → ℕ

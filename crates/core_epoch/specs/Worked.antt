@@ -1,5 +1,5 @@
--- A worked run of two callers: both open passes, the epoch moves on, node 5 is unlinked while a pass is open that may have
--- met it, and it's given back once no such pass is left.
+-- A worked run of two callers: both open passes, the epoch moves on, node 5 is unlinked while a pass is open that may
+-- have met it, and it's given back once no such pass is left.
 use Rattle.std.specs.Prelude.{ℕ, ◌+◌, true, false, List, [], ◌∷◌, nat_eq, if◌then◌else◌}
 use Rattle.core_epoch.specs.Ends.{Moment}
 
@@ -75,10 +75,11 @@ five_unlinked = unlinked 5 first_moved
 abbrev pub one_announced : Moment
 one_announced = announced 1 0 five_unlinked
 
--- both withdraw
+-- caller 0 withdraws
 abbrev pub zero_withdrawn : Moment
 zero_withdrawn = withdrawn 0 one_announced
 
+-- caller 1 withdraws too, and no pass is open
 abbrev pub both_withdrawn : Moment
 both_withdrawn = withdrawn 1 zero_withdrawn
 

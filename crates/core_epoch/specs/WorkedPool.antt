@@ -16,19 +16,29 @@ both_free = record {
 
 -- node 0 is taken: the word leads to node 1
 abbrev pub zero_taken : Pool
-zero_taken = record both_free { first = pack 1 0 1; is_free = put 0 false both_free.is_free; free = 1 ∷ []; changes = 1 }
+zero_taken = record both_free {
+  first = pack 1 0 1;
+  is_free = put 0 false both_free.is_free;
+  free = 1 ∷ [];
+  changes = 1;
+}
 
 -- the link of node 0 is written for its life, which nobody else sees
 abbrev pub zero_written : Pool
 zero_written = record zero_taken { link = put 0 (pack nowhere 0 1) zero_taken.link }
 
--- and written again for the free list
+-- the link of node 0 is written again, for the free list
 abbrev pub zero_ready : Pool
 zero_ready = record zero_written { link = put 0 (pack 1 1 1) zero_written.link }
 
 -- node 0 is given back: the word leads to node 0 again, and has another tag
 abbrev pub zero_given : Pool
-zero_given = record zero_ready { first = pack 0 0 2; is_free = put 0 true zero_ready.is_free; free = 0 ∷ 1 ∷ []; changes = 2 }
+zero_given = record zero_ready {
+  first = pack 0 0 2;
+  is_free = put 0 true zero_ready.is_free;
+  free = 0 ∷ 1 ∷ [];
+  changes = 2;
+}
 
 -- the whole run after its first moment
 abbrev pub worked_pool : List Pool

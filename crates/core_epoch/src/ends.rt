@@ -13,8 +13,8 @@ pub fn ends_are_in_the_past()
 
 /// The law of ends beside open passes: a life that ended after a pass began ended in the epoch of the pass's birth or
 /// later, and a node that isn't spent had its last end before each open pass began. Each step keeps this, whoever
-/// announces, whichever lives end, and where the epoch moves on; a spent node must be given back no sooner than two epochs
-/// after its end.
+/// announces, whichever lives end, and where the epoch moves on; a spent node must be given back no sooner than two
+/// epochs after its end.
 pub fn ends_stand_beside_passes()
     ensures opening { (callers : ℕ) (clock : Clock) (ends : Ends) → IsNewClock callers clock → Ordered clock ends }
     ensures step { (callers : ℕ) (old new : Clock) (before after : Ends)
@@ -22,8 +22,8 @@ pub fn ends_stand_beside_passes()
         → Step callers old new → EndsSome old before after → GivesOld old before after → Ordered new after }
 {}
 
-/// The law of ripe nodes: where a node's life ended in an epoch that is at most its stamp, and an epoch was shown that is at
-/// least two above the stamp, that life ended before each open pass was announced.
+/// The law of ripe nodes: where a node's life ended in an epoch that is at most its stamp, and an epoch was shown that
+/// is at least two above the stamp, that life ended before each open pass was announced.
 pub fn a_ripe_node_ended_before_passes()
     ensures { (clock : Clock) (ends : Ends) (i x stamp shown : ℕ) → IsNear clock → Ordered clock ends
         → ends.epoch x ≤ stamp → stamp + 2 ≤ shown → shown ≤ clock.epoch → clock.is_open i ≡ true

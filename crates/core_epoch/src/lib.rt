@@ -1,5 +1,5 @@
-//! Laws of epochs, passes and the free list, as plain data: what an announcement tells, how far the epoch may run ahead of
-//! an open pass, when a node may be given back, and why a node that is taken is the one that was seen.
+//! Laws of epochs, passes and the free list, as plain data: what an announcement tells, how far the epoch may run ahead
+//! of an open pass, when a node may be given back, and why a node that is taken is the one that was seen.
 //!
 //! A moment is a `Clock` with the ends of lives beside it, or a `Pool` of free nodes; a step is a fact of two moments.
 //! Nothing here runs: each function is a law, and its contract is what it says.

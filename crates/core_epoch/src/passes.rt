@@ -1,14 +1,15 @@
 //! The epoch and the passes of callers.
 //!
 //! A caller announces the epoch when it opens its pass, and whoever moves the epoch on first checks each announcement
-//! (Fraser 2004). So an open pass is never more than one epoch behind, although an announced epoch may be older than that.
+//! (Fraser 2004). So an open pass is never more than one epoch behind, although an announced epoch may be older than
+//! that.
 ghost use Rattle.std.specs.Prelude.{◌≡◌, ℕ, ◌<◌, ◌≤◌, List, true};
 ghost use Rattle.core_epoch.specs.Run.{IsRun, last_of};
 ghost use Rattle.core_epoch.specs.Clock.{Announcements, Clock, IsClear, IsNear, IsNewClock};
 ghost use Rattle.core_epoch.specs.Steps.{IsFoundClear, MovesClear, Step};
 
-/// The law of announcements: outside a pass the word is 0; in it the announced epoch is at most that of the pass's birth,
-/// which is at most the epoch. This holds where no pass is open, and each step keeps it.
+/// The law of announcements: outside a pass the word is 0; in it the announced epoch is at most that of the pass's
+/// birth, which is at most the epoch. This holds where no pass is open, and each step keeps it.
 pub fn announcements_tell_passes()
     ensures opening { (callers : ℕ) (clock : Clock) → IsNewClock callers clock → Announcements callers clock }
     ensures step { (callers : ℕ) (old new : Clock)
@@ -29,9 +30,10 @@ pub fn passes_stay_near()
         → Step callers old new → MovesClear callers old new → IsNear new }
 {}
 
-/// The law of the checks before the epoch moves on: a caller whose word was found to be 0, or one above an epoch that is at
-/// least the one seen, at a moment at which the epoch seen was reached, is clear; and being clear is kept by each step,
-/// whatever is announced in between. So the checks may be made one after the other, each once, after the epoch was loaded.
+/// The law of the checks before the epoch moves on: a caller whose word was found to be 0, or one above an epoch that
+/// is at least the one seen, at a moment at which the epoch seen was reached, is clear; and being clear is kept by each
+/// step, whatever is announced in between. So the checks may be made one after the other, each once, after the epoch
+/// was loaded.
 pub fn a_checked_caller_is_clear()
     ensures found { (callers seen caller : ℕ) (clock : Clock) → Announcements callers clock → seen ≤ clock.epoch
         → IsFoundClear seen caller clock → IsClear seen caller clock }

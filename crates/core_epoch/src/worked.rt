@@ -1,5 +1,5 @@
-//! A worked run of two callers, one in which the epoch moves on without a check (`specs/Worked.antt`), and a worked free list
-//! of two nodes (`specs/WorkedPool.antt`).
+//! A worked run of two callers, one in which the epoch moves on without a check (`specs/Worked.antt`), and a worked
+//! free list of two nodes (`specs/WorkedPool.antt`).
 ghost use Rattle.std.specs.Prelude.{◌≡◌, ◌≢◌, ℕ, ◌+◌, ◌<◌, ◌≤◌, true, [], ◌∷◌};
 ghost use Rattle.packed_link.specs.Link.{index_of, tag_of};
 ghost use Rattle.core_epoch.specs.Run.{IsRun};
@@ -11,8 +11,8 @@ ghost use Rattle.core_epoch.specs.Worked.{five_unlinked, moved, one_announced, o
 ghost use Rattle.core_epoch.specs.Worked.{third_moved, unchecked, unlinked, worked, zero_announced};
 ghost use Rattle.core_epoch.specs.WorkedPool.{both_free, worked_pool, zero_given, zero_taken};
 
-/// The worked run: it begins with no open pass and each step is one that the epoch allows. Node 5 ended after caller 0's
-/// first pass began; it's given back when the only open pass was announced after that end.
+/// The worked run: it begins with no open pass and each step is one that the epoch allows. Node 5 ended after caller
+/// 0's first pass began; it's given back when the only open pass was announced after that end.
 pub fn a_worked_run()
     ensures opens { IsNewMoment 2 opened }
     ensures runs { IsRun (Follows 2) opened worked }
@@ -25,8 +25,8 @@ pub fn a_worked_run()
     ensures began_later { third_moved.ends.ended 5 ≤ third_moved.clock.since 0 }
 {}
 
-/// Where the epoch moves on without a check, an open pass is two epochs behind, and a node looks ripe that ended after that
-/// pass began.
+/// Where the epoch moves on without a check, an open pass is two epochs behind, and a node looks ripe that ended after
+/// that pass began.
 pub fn an_unchecked_move_is_unsafe()
     ensures is_found { IsFoundClear 1 0 (moved (unlinked 5 zero_announced)).clock → ⊥ }
     ensures far { IsNear unchecked.clock → ⊥ }
@@ -35,8 +35,8 @@ pub fn an_unchecked_move_is_unsafe()
     ensures may_be_met { unchecked.clock.since 0 < unchecked.ends.ended 5 }
 {}
 
-/// The worked free list: node 0 is taken, written and given back. The word then leads to node 0 as it did before, and its tag
-/// tells the two apart.
+/// The worked free list: node 0 is taken, written and given back. The word then leads to node 0 as it did before, and
+/// its tag tells the two apart.
 pub fn a_worked_free_list()
     ensures opens { IsNewPool 2 both_free }
     ensures runs { IsRun (Change 2) both_free worked_pool }

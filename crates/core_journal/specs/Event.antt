@@ -4,7 +4,8 @@ use Rattle.std.specs.Prelude.{Bool, true, false, ◌&&◌, ◌==◌}
 use Rattle.packed_link.specs.Link.{nowhere}
 use Rattle.packed_link.specs.declared.link.Life.{Life}
 use Rattle.core_journal.specs.declared.event.Kind.{Kind}
-use Rattle.core_journal.specs.declared.event.Kind.TheVariants.{DrawNumber, LinkVertex, MarkVertex, UnlinkVertex, LinkEdge, MarkEdge, UnlinkEdge, FreezeHead, FreezeEdge}
+use Rattle.core_journal.specs.declared.event.Kind.TheVariants.{DrawNumber, LinkVertex, MarkVertex, UnlinkVertex}
+use Rattle.core_journal.specs.declared.event.Kind.TheVariants.{LinkEdge, MarkEdge, UnlinkEdge, FreezeHead, FreezeEdge}
 use Rattle.core_journal.specs.declared.event.Event.{Event}
 
 -- whether two lives are one: the same node in the same use
@@ -49,4 +50,14 @@ no_life = record { index = nowhere; tag = 0 }
 
 -- an event that is about no life and holds no key and no weight; other events are written as changes of it
 abbrev pub blank : Event
-blank = record { caller = 0; kind = DrawNumber; place = 0; word = 0; life = no_life; key = 0; source = no_life; target = no_life; weight = 0 }
+blank = record {
+  caller = 0;
+  kind = DrawNumber;
+  place = 0;
+  word = 0;
+  life = no_life;
+  key = 0;
+  source = no_life;
+  target = no_life;
+  weight = 0;
+}

@@ -1,5 +1,6 @@
 -- The graph of a journal, and what an event is to it. No list is walked: the graph is that of the lives.
-use Rattle.std.specs.Prelude.{◌≡◌, ℕ, Bool, true, cond, not, ◌&&◌, ◌==◌, List, [], ◌∷◌, ◌++◌, Option, Some, None, filter_map, reverse, nat_eq, option_map, option_and_then}
+use Rattle.std.specs.Prelude.{◌≡◌, ℕ, Bool, true, cond, not, ◌&&◌, ◌==◌, List, [], ◌∷◌, ◌++◌, Option, Some, None}
+use Rattle.std.specs.Prelude.{filter_map, reverse, nat_eq, option_map, option_and_then}
 use Rattle.std.specs.Cmp.Lexicographic.{pointwise}
 use Rattle.std.specs.FinMap as map
 use Rattle.std.specs.FinSet as set
@@ -14,7 +15,7 @@ use Rattle.core_journal.specs.declared.event.Event.{Event}
 use Rattle.core_journal.specs.Event.{links_vertex, marks_vertex, links_edge}
 use Rattle.core_journal.specs.Life.{key_of, link_of, vertex_marked, edge_marked}
 
--- ends of an edge: both or none
+-- the keys of an edge's two ends, where both are told
 abbrev pub both : Option ℕ → Option ℕ → Option (ℕ × ℕ)
 both (Some a) (Some b) = Some (a, b)
 both _ _ = None
@@ -23,23 +24,24 @@ both _ _ = None
 abbrev pub present_key : List Event → Life → Option ℕ
 present_key journal x = cond (vertex_marked journal x) None (key_of journal x)
 
--- a pair of keys with a weight
+-- a pair of keys, where it is told, with a weight
 abbrev pub weighed : ℕ → Option (ℕ × ℕ) → Option ((ℕ × ℕ) × ℕ)
 weighed w ends = option_map (λ p. (p, w)) ends
 
 -- the keys and the weight of an edge that was linked by this event, where its source and target are present
 abbrev pub pair_between : List Event → Event → Option ((ℕ × ℕ) × ℕ)
-pair_between journal link = weighed link.weight (both (present_key journal link.source) (present_key journal link.target))
+pair_between journal link =
+    weighed link.weight (both (present_key journal link.source) (present_key journal link.target))
 
 -- the keys and the weight of an edge life that is linked and not marked, where its source and target are present
 abbrev pub present_pair : List Event → Life → Option ((ℕ × ℕ) × ℕ)
 present_pair journal x = cond (edge_marked journal x) None (option_and_then (pair_between journal) (link_of journal x))
 
--- the key that a vertex link leaves in the graph
+-- the key that a vertex link has in the graph after a journal, if it has one still
 abbrev pub key_by : List Event → Event → Option ℕ
 key_by journal e = cond (links_vertex e.kind) (present_key journal e.life) None
 
--- the pair that an edge link leaves in the graph
+-- the pair that an edge link has in the graph after a journal, if it has one still
 abbrev pub pair_by : List Event → Event → Option ((ℕ × ℕ) × ℕ)
 pair_by journal e = cond (links_edge e.kind) (present_pair journal e.life) None
 
@@ -83,13 +85,16 @@ same_pair x y = (x.0.0 == y.0.0) && ((x.0.1 == y.0.1) && (x.1 == y.1))
 
 -- whether two graphs are one: the same keys, and the same pairs with the same weights
 unfoldable pub same_graph : Graph → Graph → Bool
-same_graph g h = pointwise nat_eq (set.items g.keys) (set.items h.keys) && pointwise same_pair (map.entries g.pairs) (map.entries h.pairs)
+same_graph g h =
+    pointwise nat_eq (set.items g.keys) (set.items h.keys)
+    && pointwise same_pair (map.entries g.pairs) (map.entries h.pairs)
 
 -- whether an event changes the graph
 unfoldable pub changes : List Event → Event → Bool
 changes past e = not (same_graph (graph_of past) (graph_of (past ++ e ∷ [])))
 
--- an event carries out its call: the call alters the graph before the event, and the graph after the event is that after the call
+-- an event carries out its call: the call alters the graph before the event, and the graph after the event is that
+-- after the call
 pub record CarriesOut (past : List Event) (e : Event) : Type 0 where
   pub call : Call
   pub is : call_of past e ≡ Some call

@@ -1,5 +1,6 @@
 -- The history of a journal and its callers' books: the calls of the books in the order of their places.
-use Rattle.std.specs.Prelude.{◌≡◌, ℕ, ◌+◌, Bool, true, false, cond, ◌&&◌, ◌==◌, ◌⊎◌, List, [], ◌∷◌, ◌++◌, Option, Some, None, filter, map, flat_map, slice_get, take, is_some}
+use Rattle.std.specs.Prelude.{◌≡◌, ℕ, ◌+◌, Bool, true, false, cond, ◌&&◌, ◌==◌, ◌⊎◌, List, [], ◌∷◌, ◌++◌, Option, Some}
+use Rattle.std.specs.Prelude.{None, filter, map, flat_map, slice_get, take, is_some}
 use Rattle.graph_kinds.specs.History.{Item}
 use Rattle.graph_kinds.specs.declared.call.Call.{Call}
 use Rattle.graph_kinds.specs.declared.entry.Class.{Class}
@@ -79,7 +80,8 @@ HasBook caller (b ∷ bs) = (b.caller ≡ caller) ⊎ HasBook caller bs
 
 -- each event that changes the graph is of a caller with a book
 pub record IsClosed (journal : List Event) (books : List Book) : Type 0 where
-  pub has : (p : ℕ) (e : Event) → slice_get journal p ≡ Some e → changes (take p journal) e ≡ true → HasBook e.caller books
+  pub has : (p : ℕ) (e : Event) → slice_get journal p ≡ Some e → changes (take p journal) e ≡ true
+      → HasBook e.caller books
 
 -- the item is a call that was answered
 abbrev pub IsAnswered : Item → Type 0

@@ -3,7 +3,8 @@ use Rattle.std.specs.Prelude.{ℕ, Bool, ◌&&◌, List, Option, find, option_ma
 use Rattle.std.specs.List.{list_any}
 use Rattle.packed_link.specs.declared.link.Life.{Life}
 use Rattle.core_journal.specs.declared.event.Event.{Event}
-use Rattle.core_journal.specs.Event.{same_life, links_vertex, marks_vertex, links_edge, marks_edge, unlinks, freezes_head}
+use Rattle.core_journal.specs.Event.{same_life, links_vertex, marks_vertex, links_edge, marks_edge, unlinks}
+use Rattle.core_journal.specs.Event.{freezes_head}
 
 -- the life was linked as a vertex
 abbrev pub vertex_linked : List Event → Life → Bool
@@ -29,10 +30,11 @@ unlinked journal x = list_any (λ (e : Event). unlinks e.kind && same_life x e.l
 abbrev pub head_frozen : List Event → Life → Bool
 head_frozen journal x = list_any (λ (e : Event). freezes_head e.kind && same_life x e.life) journal
 
--- the key with which a vertex life was linked
+-- the key with which a vertex life was linked, if it was: its first link counts
 unfoldable pub key_of : List Event → Life → Option ℕ
-key_of journal x = option_map (λ (e : Event). e.key) (find (λ (e : Event). links_vertex e.kind && same_life x e.life) journal)
+key_of journal x =
+    option_map (λ (e : Event). e.key) (find (λ (e : Event). links_vertex e.kind && same_life x e.life) journal)
 
--- the event that linked an edge life
+-- the event that linked an edge life, if one did: the first that did counts
 unfoldable pub link_of : List Event → Life → Option Event
 link_of journal x = find (λ (e : Event). links_edge e.kind && same_life x e.life) journal

@@ -29,7 +29,7 @@ placed_from p (t ∷ ts) books =
     placed_at p (entries_at Silent p books) (entries_at Late p books) (or_running t (entries_at Own p books))
     ++ placed_from (p + 1) ts books
 
--- silent comes before late, and late before own
+-- the order of the classes at one place: silent comes before late, and late before own
 abbrev pub rank : Class → ℕ
 rank Silent = 0
 rank Late = 1
@@ -75,6 +75,6 @@ pub record IsRunningOf (turns : List Turn) (books : List Book) (x : Placed) : Ty
   pub class : x.class ≡ Own
   pub alone : entries_at Own x.place books ≡ []
 
--- a placed item is one of the two
+-- a placed item is that of an entry, or of an event that changes the graph and has no own entry
 abbrev pub IsPlaced : List Turn → List Book → Placed → Type 0
 IsPlaced turns books x = IsEntryOf books x ⊎ IsRunningOf turns books x

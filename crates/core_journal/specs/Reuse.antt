@@ -14,7 +14,8 @@ use Rattle.core_journal.specs.State.{Pass, state}
 abbrev pub pass_in : Sizes → List Event → ℕ → Pass
 pass_in sizes journal caller = (state sizes journal).pass caller
 
--- an open pass lags: the epoch that it announced is below the epoch of the machine (an announcement is one above its epoch)
+-- an open pass lags: the epoch that it announced is below the epoch of the machine (an announcement is one above its
+-- epoch)
 pub record IsLagging (sizes : Sizes) (journal : List Event) (caller : ℕ) : Type 0 where
   pub is_open : (pass_in sizes journal caller).is_open ≡ true
   pub lags : word_at sizes journal (announce_at sizes caller) ≤ word_at sizes journal (epoch_at sizes)
@@ -26,7 +27,8 @@ pub record IsUnlinkedAt (journal : List Event) (x : Life) (p : ℕ) : Type 0 whe
   pub unlinks : unlinks event.kind ≡ true
   pub life : event.life ≡ x
 
--- an edge life that is never unlinked is marked, and the list of its source is closed; this place is that of the later of the two events
+-- an edge life that is never unlinked is marked, and the list of its source is closed; this place is that of the later
+-- of the two events
 pub record IsHandedAt (journal : List Event) (x : Life) (p : ℕ) : Type 0 where
   pub stays : unlinked journal x ≡ false
   pub link : Event
@@ -43,7 +45,7 @@ pub record IsHandedAt (journal : List Event) (x : Life) (p : ℕ) : Type 0 where
   pub head_life : head.life ≡ link.source
   pub later : p ≡ max mark_place head_place
 
--- the life ends at a place
+-- the life ends at a place: it is unlinked there, or handed over
 abbrev pub EndsAt : List Event → Life → ℕ → Type 0
 EndsAt journal x p = IsUnlinkedAt journal x p ⊎ IsHandedAt journal x p
 
@@ -56,5 +58,6 @@ pub record IsOver (sizes : Sizes) (journal : List Event) (x : Life) : Type 0 whe
 -- whenever a node is taken, each life for which it was taken before is over
 pub record ReusesSafely (sizes : Sizes) (journal : List Event) : Type 0 where
   pub each : (q : ℕ) (e : Event) → slice_get journal q ≡ Some e → e.kind ≡ PopFree
-      → (k : ℕ) (earlier : Event) → k < q → slice_get journal k ≡ Some earlier → earlier.kind ≡ PopFree → earlier.life.index ≡ e.life.index
+      → (k : ℕ) (earlier : Event) → k < q → slice_get journal k ≡ Some earlier → earlier.kind ≡ PopFree
+      → earlier.life.index ≡ e.life.index
       → IsOver sizes (take q journal) earlier.life

@@ -1,5 +1,7 @@
--- When a caller's book is true of a journal: each entry is right, the entries are framed, and they cover the caller's changes.
-use Rattle.std.specs.Prelude.{◌≡◌, ◌≢◌, ℕ, ◌<◌, ◌≤◌, Bool, true, false, ◌⊎◌, List, [], ◌∷◌, ◌++◌, length, take, Some, filter, slice_get}
+-- When a caller's book is true of a journal: each entry is right, the entries are framed, and they cover the caller's
+-- changes.
+use Rattle.std.specs.Prelude.{◌≡◌, ◌≢◌, ℕ, ◌<◌, ◌≤◌, Bool, true, false, ◌⊎◌, List, [], ◌∷◌, ◌++◌, length, take, Some}
+use Rattle.std.specs.Prelude.{filter, slice_get}
 use Rattle.graph_kinds.specs.Graph.{Graph}
 use Rattle.graph_kinds.specs.Answer.{answer, alters, needs_node, after, plain}
 use Rattle.graph_kinds.specs.History.{Every, Touches}
@@ -91,7 +93,8 @@ IsEdgeCall (AddEdge a b w) = Unit {0}
 IsEdgeCall (RemoveEdge a b) = Unit {0}
 IsEdgeCall _ = ⊥
 
--- after the entry's own event and before its call's end, another caller marks the source or target life of that event's edge
+-- after the entry's own event and before its call's end, another caller marks the source or target life of that event's
+-- edge
 pub record IsMarkedAfter (journal : List Event) (caller : ℕ) (e : Entry) (event : Event) : Type 0 where
   pub reply : e.answer ≡ plain Overtaken
   pub pair : IsEdgeCall e.call
@@ -157,8 +160,8 @@ pub record StandsAt (c : Class) (p : ℕ) (e : Entry) : Type 0 where
 pub record IsBookOf (sizes : Sizes) (journal : List Event) (book : Book) : Type 0 where
   pub right : Every (λ (e : Entry). Right sizes journal book.caller e) book.entries
   pub framed : IsFramed journal book
-  pub covers : (p : ℕ) (e : Event) → slice_get journal p ≡ Some e → e.caller ≡ book.caller → changes (take p journal) e ≡ true
-      → length (filter (stands Own p) book.entries) ≡ 1
+  pub covers : (p : ℕ) (e : Event) → slice_get journal p ≡ Some e → e.caller ≡ book.caller
+      → changes (take p journal) e ≡ true → length (filter (stands Own p) book.entries) ≡ 1
 
 -- no two books are one caller's
 abbrev pub CallersApart : List Book → Type 0

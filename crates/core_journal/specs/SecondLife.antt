@@ -1,7 +1,8 @@
--- A node is given back and taken again: behind the first eight events, the vertex is removed, the epoch is moved on twice, and
--- its node is stored, given back and taken for a second life.
+-- A node is given back and taken again: behind the first eight events, the vertex is removed, the epoch is moved on
+-- twice, and its node is stored, given back and taken for a second life.
 use Rattle.std.specs.Prelude.{ℕ, List, [], ◌∷◌, ◌++◌}
-use Rattle.core_journal.specs.declared.event.Kind.TheVariants.{PopFree, MarkVertex, UnlinkVertex, Announce, Withdraw, MoveEpoch, FreezeHead, StoreFree, PushFree}
+use Rattle.core_journal.specs.declared.event.Kind.TheVariants.{PopFree, MarkVertex, UnlinkVertex, Announce, Withdraw}
+use Rattle.core_journal.specs.declared.event.Kind.TheVariants.{MoveEpoch, FreezeHead, StoreFree, PushFree}
 use Rattle.core_journal.specs.declared.event.Event.{Event}
 use Rattle.core_journal.specs.Event.{blank}
 use Rattle.core_journal.specs.Worked.{first_life}
@@ -23,7 +24,7 @@ given_back =
     ∷ record blank { kind = Announce; place = 4; word = 3 }
     ∷ []
 
--- event 19
+-- event 19: node 0 is taken for its second life
 abbrev pub taken_again : Event
 taken_again = record blank { kind = PopFree; place = 3; word = 100663297; life = record { index = 0; tag = 2 } }
 

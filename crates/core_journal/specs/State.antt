@@ -5,7 +5,10 @@ use Rattle.std.specs.List.{range_with_len, list_any}
 use Rattle.packed_link.specs.Layout.{Sizes, bucket_at, link_at, second_at}
 use Rattle.packed_link.specs.declared.link.Life.{Life}
 use Rattle.core_journal.specs.declared.event.Kind.{Kind}
-use Rattle.core_journal.specs.declared.event.Kind.TheVariants.{DrawNumber, PopFree, LinkVertex, MarkVertex, UnlinkVertex, LinkEdge, MarkEdge, UnlinkEdge, Announce, Withdraw, MoveEpoch, FreezeHead, FreezeEdge, StoreFree, PushFree}
+use Rattle.core_journal.specs.declared.event.Kind.TheVariants.{DrawNumber, PopFree, LinkVertex, MarkVertex}
+use Rattle.core_journal.specs.declared.event.Kind.TheVariants.{UnlinkVertex, LinkEdge, MarkEdge, UnlinkEdge, Announce}
+use Rattle.core_journal.specs.declared.event.Kind.TheVariants.{Withdraw, MoveEpoch, FreezeHead, FreezeEdge, StoreFree}
+use Rattle.core_journal.specs.declared.event.Kind.TheVariants.{PushFree}
 use Rattle.core_journal.specs.declared.event.Event.{Event}
 use Rattle.core_journal.specs.Event.{no_life}
 
@@ -76,7 +79,8 @@ put_behind is y (x ∷ xs) = cond (is x) (x ∷ y ∷ xs) (x ∷ put_behind is y
 -- a chain into which a node is linked at a place: at the front where the place is its head, else behind the node
 -- whose link stands at that place
 abbrev pub linked_in : Sizes → ℕ → ℕ → ℕ → List ℕ → List ℕ
-linked_in sizes head place y chain = cond (place == head) (y ∷ chain) (put_behind (λ x. place == link_at sizes x) y chain)
+linked_in sizes head place y chain =
+    cond (place == head) (y ∷ chain) (put_behind (λ x. place == link_at sizes x) y chain)
 
 -- a chain without a node
 abbrev pub unlinked_from : ℕ → List ℕ → List ℕ
@@ -101,7 +105,14 @@ state_by PopFree sizes e s = record s {
   count = s.count + 1;
   changes = s.changes + 1;
   free = behind s.free;
-  node = put e.life.index (record (s.node e.life.index) { mode = Fresh; who = e.caller; tag = e.life.tag; marked = false; stored = false }) s.node;
+  node =
+      put e.life.index (record (s.node e.life.index) {
+        mode = Fresh;
+        who = e.caller;
+        tag = e.life.tag;
+        marked = false;
+        stored = false;
+      }) s.node;
   edges = put e.life.index [] (λ x. unlinked_from e.life.index (s.edges x));
   frozen = put e.life.index false s.frozen;
 }
@@ -116,12 +127,22 @@ state_by MarkVertex sizes e s = record s {
 }
 state_by UnlinkVertex sizes e s = record s {
   count = s.count + 1;
-  node = put e.life.index (record (s.node e.life.index) { mode = Spent; who = e.caller; ended = s.count + 1; epoch = s.epoch }) s.node;
+  node =
+      put e.life.index
+      (record (s.node e.life.index) { mode = Spent; who = e.caller; ended = s.count + 1; epoch = s.epoch }) s.node;
   bucket = λ j. unlinked_from e.life.index (s.bucket j);
 }
 state_by LinkEdge sizes e s = record s {
   count = s.count + 1;
-  node = put e.life.index (record (s.node e.life.index) { mode = Linked; vertex = false; key = e.key; source = e.source; target = e.target; weight = e.weight }) s.node;
+  node =
+      put e.life.index (record (s.node e.life.index) {
+        mode = Linked;
+        vertex = false;
+        key = e.key;
+        source = e.source;
+        target = e.target;
+        weight = e.weight;
+      }) s.node;
   edges = λ x. linked_in sizes (second_at sizes x) e.place e.life.index (s.edges x);
 }
 state_by MarkEdge sizes e s = handed (s.node e.life.index).source.index (record s {
@@ -130,7 +151,9 @@ state_by MarkEdge sizes e s = handed (s.node e.life.index).source.index (record 
 })
 state_by UnlinkEdge sizes e s = record s {
   count = s.count + 1;
-  node = put e.life.index (record (s.node e.life.index) { mode = Spent; who = e.caller; ended = s.count + 1; epoch = s.epoch }) s.node;
+  node =
+      put e.life.index
+      (record (s.node e.life.index) { mode = Spent; who = e.caller; ended = s.count + 1; epoch = s.epoch }) s.node;
   edges = λ x. unlinked_from e.life.index (s.edges x);
 }
 state_by Announce sizes e s = record s {

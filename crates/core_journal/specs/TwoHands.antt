@@ -12,7 +12,9 @@ use Rattle.graph_kinds.specs.declared.entry.Entry.{Entry}
 use Rattle.packed_link.specs.Link.{pack, nowhere}
 use Rattle.packed_link.specs.Layout.{number_at, free_at, announce_at, bucket_at, key_at, link_at, second_at, third_at}
 use Rattle.core_journal.specs.declared.book.Book.{Book}
-use Rattle.core_journal.specs.declared.event.Kind.TheVariants.{DrawNumber, PopFree, StorePrivate, LinkVertex, MarkVertex, UnlinkVertex, LinkEdge, Announce, Withdraw, FreezeHead}
+use Rattle.core_journal.specs.declared.event.Kind.TheVariants.{DrawNumber, PopFree, StorePrivate, LinkVertex}
+use Rattle.core_journal.specs.declared.event.Kind.TheVariants.{MarkVertex, UnlinkVertex, LinkEdge, Announce, Withdraw}
+use Rattle.core_journal.specs.declared.event.Kind.TheVariants.{FreezeHead}
 use Rattle.core_journal.specs.declared.event.Event.{Event}
 use Rattle.core_journal.specs.Event.{blank}
 use Rattle.core_journal.specs.History.{item}
@@ -32,7 +34,13 @@ withdraws c = record blank { caller = c; kind = Withdraw; place = announce_at sm
 
 -- caller c takes node x for its first life; the free list then begins with the node behind it, and has changed so often
 abbrev pub takes : ℕ → ℕ → ℕ → Event
-takes c x changes = record blank { caller = c; kind = PopFree; place = free_at small; word = pack (x + 1) 0 changes; life = first_life x }
+takes c x changes = record blank {
+  caller = c;
+  kind = PopFree;
+  place = free_at small;
+  word = pack (x + 1) 0 changes;
+  life = first_life x;
+}
 
 -- caller c fills one word of node x
 abbrev pub fills : ℕ → ℕ → ℕ → ℕ → Event
@@ -68,14 +76,41 @@ overtaken_edge =
     ∷ announces 1
     ∷ takes 0 2 3
     ∷ fills 0 2 (key_at small 2) 2
-    ∷ record blank { caller = 1; kind = MarkVertex; place = link_at small 1; word = pack nowhere 1 1; life = first_life 1 }
+    ∷ record blank {
+      caller = 1;
+      kind = MarkVertex;
+      place = link_at small 1;
+      word = pack nowhere 1 1;
+      life = first_life 1;
+    }
     ∷ fills 0 2 (link_at small 2) (pack nowhere 0 1)
-    ∷ record blank { caller = 1; kind = UnlinkVertex; place = link_at small 0; word = pack nowhere 0 1; life = first_life 1 }
+    ∷ record blank {
+      caller = 1;
+      kind = UnlinkVertex;
+      place = link_at small 0;
+      word = pack nowhere 0 1;
+      life = first_life 1;
+    }
     ∷ fills 0 2 (second_at small 2) (pack 1 0 1)
-    ∷ record blank { caller = 1; kind = FreezeHead; place = second_at small 1; word = pack nowhere 1 1; life = first_life 1 }
+    ∷ record blank {
+      caller = 1;
+      kind = FreezeHead;
+      place = second_at small 1;
+      word = pack nowhere 1 1;
+      life = first_life 1;
+    }
     ∷ fills 0 2 (third_at small 2) 5
     ∷ withdraws 1
-    ∷ record blank { kind = LinkEdge; place = second_at small 0; word = pack 2 0 1; life = first_life 2; key = 2; source = first_life 0; target = first_life 1; weight = 5 }
+    ∷ record blank {
+      kind = LinkEdge;
+      place = second_at small 0;
+      word = pack 2 0 1;
+      life = first_life 2;
+      key = 2;
+      source = first_life 0;
+      target = first_life 1;
+      weight = 5;
+    }
     ∷ withdraws 0
     ∷ announces 1
     ∷ withdraws 1
@@ -87,11 +122,27 @@ hands_journal = two_vertices ++ overtaken_edge
 
 -- the edge is overtaken by the mark of event 22
 abbrev pub late_entry : Entry
-late_entry = record { call = AddEdge 1 2 5; tries = 1; answer = plain Overtaken; class = Late; place = 22; start = 18; end = 31 }
+late_entry = record {
+  call = AddEdge 1 2 5;
+  tries = 1;
+  answer = plain Overtaken;
+  class = Late;
+  place = 22;
+  start = 18;
+  end = 31;
+}
 
 -- behind the link, caller 1 looks for the edge
 abbrev pub look_up : Entry
-look_up = record { call = HasEdge 1 2; tries = 1; answer = plain NoVertex; class = Silent; place = 32; start = 29; end = 33 }
+look_up = record {
+  call = HasEdge 1 2;
+  tries = 1;
+  answer = plain NoVertex;
+  class = Silent;
+  place = 32;
+  start = 29;
+  end = 33;
+}
 
 -- the calls of the two callers
 abbrev pub hands_books : List Book

@@ -32,13 +32,28 @@ abbrev pub worked_journal : List Event
 worked_journal =
     record blank { kind = LinkVertex; life = first_life 0; key = 1 }
     ∷ record blank { kind = LinkVertex; life = first_life 1; key = 2 }
-    ∷ record blank { kind = LinkEdge; life = first_life 2; key = 2; source = first_life 0; target = first_life 1; weight = 5 }
+    ∷ record blank {
+      kind = LinkEdge;
+      life = first_life 2;
+      key = 2;
+      source = first_life 0;
+      target = first_life 1;
+      weight = 5;
+    }
     ∷ record blank { caller = 1; kind = MarkVertex; life = first_life 1 }
     ∷ []
 
 -- an own entry with one try
 abbrev pub own : Call → Outcome → ℕ → ℕ → ℕ → Entry
-own call outcome place start end = record { call = call; tries = 1; answer = plain outcome; class = Own; place = place; start = start; end = end }
+own call outcome place start end = record {
+  call = call;
+  tries = 1;
+  answer = plain outcome;
+  class = Own;
+  place = place;
+  start = start;
+  end = end;
+}
 
 -- the calls of caller 0
 abbrev pub first_book : Book

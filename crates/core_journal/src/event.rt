@@ -2,7 +2,9 @@
 
 use packed_link::Life;
 
-/// What a won step does. Loads, lost exchanges, and marks on words that were marked before are no events.
+/// What a won step does. Loads, lost exchanges, and marks on words that were marked before are no events. The kinds are
+/// the steps of lists with marks (Harris 2001, Michael 2002), of epochs (Fraser 2004) and of a free list (Treiber
+/// 1986).
 pub enum Kind {
     /// A caller draws its number.
     DrawNumber,

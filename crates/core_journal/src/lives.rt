@@ -1,6 +1,7 @@
 //! The laws of prefixes and lives: what a front shows stays true.
 
-ghost use Rattle.std.specs.Prelude.{◌≡◌, ℕ, ◌≤◌, List, ◌∷◌, [], ◌++◌, Option, Some, true, length, slice_get, take, is_some};
+ghost use Rattle.std.specs.Prelude.{◌≡◌, ℕ, ◌≤◌, List, ◌∷◌, [], ◌++◌, Option, Some, true, length, slice_get, take};
+ghost use Rattle.std.specs.Prelude.{is_some};
 ghost use Rattle.packed_link.specs.Layout.{Sizes};
 ghost use Rattle.packed_link.specs.declared.link.Life.{Life};
 ghost use Rattle.core_journal.specs.declared.event.Event.{Event};

@@ -1,10 +1,12 @@
 -- What a call answers on a graph, and what it changes.
-use Rattle.std.specs.Prelude.{ℕ, ◌≤◌, ◌==◌, Bool, true, false, cond, not, ◌&&◌, List, [], ◌∷◌, Option, Some, None, length}
+use Rattle.std.specs.Prelude.{ℕ, ◌≤◌, ◌==◌, Bool, true, false, cond, not, ◌&&◌, List, [], ◌∷◌, Option, Some, None}
+use Rattle.std.specs.Prelude.{length}
 use Rattle.std.specs.List.{concat}
 use Rattle.std.specs.FinMap as map
 use Rattle.std.specs.FinSet as set
 use Rattle.graph_kinds.specs.declared.call.Call.{Call}
-use Rattle.graph_kinds.specs.declared.call.Call.TheVariants.{AddVertex, RemoveVertex, HasVertex, AddEdge, RemoveEdge, HasEdge, Reach, Levels, Cheapest}
+use Rattle.graph_kinds.specs.declared.call.Call.TheVariants.{AddVertex, RemoveVertex, HasVertex, AddEdge, RemoveEdge}
+use Rattle.graph_kinds.specs.declared.call.Call.TheVariants.{HasEdge, Reach, Levels, Cheapest}
 use Rattle.graph_kinds.specs.declared.outcome.Outcome.{Outcome}
 use Rattle.graph_kinds.specs.declared.outcome.Outcome.TheVariants as out
 use Rattle.graph_kinds.specs.declared.answer.Answer.{Answer}
@@ -28,25 +30,25 @@ IsPathCall _ = ⊥
 abbrev pub plain : Outcome → Answer
 plain o = record { outcome = o; keys = []; ends = [] }
 
--- by the weight of a pair, if it has one
+-- by the weight of a pair: the answer with it where there is such a pair, and another where there is none
 abbrev pub by_weight : Option ℕ → (ℕ → Outcome) → Outcome → Answer
 by_weight None there gone = plain gone
 by_weight (Some w) there gone = plain (there w)
 
--- on two keys: NoVertex where one of them is no key
+-- a call on two keys is answered NoVertex where one of them is no key, and else as given
 abbrev pub on_keys : Graph → ℕ → ℕ → Answer → Answer
 on_keys g a b then = cond (has g a && has g b) then (plain out.NoVertex)
 
--- a path by reach, if there is one
+-- the answer to reach: Path with the keys of the path, or NoPath where there is none
 abbrev pub by_path : Option (List ℕ) → Answer
 by_path None = plain out.NoPath
 by_path (Some p) = record { outcome = out.Path; keys = p; ends = [] }
 
--- levels, with all their keys and where each ends
+-- the answer to levels: how many there are, the keys of all in order, and where each level ends among them
 abbrev pub by_levels : List (List ℕ) → Answer
 by_levels ls = record { outcome = out.Levels (length ls); keys = concat ls; ends = level_ends 0 ls }
 
--- a cheapest path, if there is a least cost
+-- the answer to cheapest: Cost with the least cost and the keys of the path, or NoPath where there is none
 abbrev pub by_cost : Option ℕ → List ℕ → Answer
 by_cost None p = plain out.NoPath
 by_cost (Some c) p = record { outcome = out.Cost c; keys = p; ends = [] }
@@ -63,11 +65,13 @@ answer g (Reach a b) = on_keys g a b (by_path (reach_path g a b))
 answer g (Levels a) = cond (has g a) (by_levels (levels_of g a)) (plain out.NoVertex)
 answer g (Cheapest a b) = on_keys g a b (by_cost (least_cost g a b) (cheapest_path g a b))
 
+-- the outcome tells of a change: something was added or removed
 abbrev pub is_change : Outcome → Bool
 is_change out.Added = true
 is_change (out.Removed w) = true
 is_change _ = false
 
+-- the outcome tells that something was added
 abbrev pub is_added : Outcome → Bool
 is_added out.Added = true
 is_added _ = false
@@ -87,7 +91,7 @@ without g k = record {
   pairs = map.retain_keys g.pairs (λ p. not (p.0 == k) && not (p.1 == k));
 }
 
--- the change of a call that alters the graph
+-- the graph as a call leaves it that alters it; every other call leaves it as it was
 abbrev pub change : Graph → Call → Graph
 change g (AddVertex k) = record g { keys = set.insert g.keys k }
 change g (RemoveVertex k) = without g k
@@ -95,7 +99,7 @@ change g (AddEdge a b w) = record g { pairs = map.insert g.pairs (a, b) w }
 change g (RemoveEdge a b) = record g { pairs = map.remove g.pairs (a, b) }
 change g _ = g
 
--- the graph after a call
+-- the graph after a call: changed where the call alters it, and else the same
 unfoldable pub after : Graph → Call → Graph
 after g call = cond (alters g call) (change g call) g
 

@@ -1,5 +1,6 @@
 -- Histories: what callers asked and were answered, in one order, and when that order is legal.
-use Rattle.std.specs.Prelude.{◌≡◌, ◌≢◌, ℕ, ◌==◌, true, ◌⊎◌, List, [], ◌∷◌, ◌++◌, Option, Some, None, filter, map, length}
+use Rattle.std.specs.Prelude.{◌≡◌, ◌≢◌, ℕ, ◌==◌, true, ◌⊎◌, List, [], ◌∷◌, ◌++◌, Option, Some, None, filter, map}
+use Rattle.std.specs.Prelude.{length}
 use Rattle.std.specs.List.{zip}
 use Rattle.graph_kinds.specs.declared.call.Call.{Call}
 use Rattle.graph_kinds.specs.declared.call.Call.TheVariants.{RemoveVertex, AddEdge, RemoveEdge}
@@ -26,10 +27,11 @@ module _ {A : Type 0} where
 abbrev pub items_of : ℕ → List Item → List Item
 items_of caller h = filter (λ (i : Item). i.caller == caller) h
 
--- the items of rows and their answers, in the order of the rows
+-- the item of a row with its answer
 abbrev pub item_by : Row × Answer → Item
 item_by p = record { caller = p.0.caller; call = p.0.call; reply = Some p.1 }
 
+-- the items of rows with their answers, in the order of the rows
 abbrev pub answered : List Row → List Answer → List Item
 answered rows replies = map item_by (zip rows replies)
 
@@ -37,7 +39,8 @@ answered rows replies = map item_by (zip rows replies)
 abbrev pub calls_of : List Row → List Call
 calls_of rows = map (λ (r : Row). r.call) rows
 
--- a history holds the rows with these answers, one item each and no other, those of each caller in the order of the rows
+-- a history holds the rows with these answers, one item each and no other, those of each caller in the order of the
+-- rows
 pub record IsInterleaving (rows : List Row) (replies : List Answer) (h : List Item) : Type 0 where
   pub one_each : length replies ≡ length rows
   pub in_order : (caller : ℕ) → items_of caller h ≡ items_of caller (answered rows replies)
@@ -80,16 +83,18 @@ abbrev pub Meets : Option Answer → Graph → Item → List Item → Type 0
 Meets None g i later = alters g i.call ≡ true
 Meets (Some r) g i later = Demand r.outcome r g i later
 
+-- the graph that an answered call leaves, by its outcome: Full and Again change nothing
 abbrev pub left_by : Outcome → Graph → Call → Graph
 left_by Full g c = g
 left_by Again g c = g
 left_by _ g c = after g c
 
--- the graph after an item: Full and Again change nothing
+-- the graph after an item; a call that still runs has made its change
 abbrev pub next : Graph → Call → Option Answer → Graph
 next g c None = after g c
 next g c (Some r) = left_by r.outcome g c
 
+-- replayed from a graph, each item meets its demand, and the graph after the last is this one
 abbrev pub LegalFrom : Graph → List Item → Graph → Type 0
 LegalFrom g [] last = g ≡ last
 LegalFrom g (i ∷ later) last = Meets i.reply g i later × LegalFrom (next g i.call i.reply) later last

@@ -1,5 +1,6 @@
 -- Breadth-first levels, and the path of first parents.
-use Rattle.std.specs.Prelude.{◌≡◌, ℕ, zero, suc, ◌+◌, ◌<◌, ◌==◌, Bool, not, cond, List, [], ◌∷◌, ◌++◌, Option, Some, None, is_some, filter, flat_map, find, length, unwrap_or, slice_index, slice_index_or}
+use Rattle.std.specs.Prelude.{◌≡◌, ℕ, zero, suc, ◌+◌, ◌<◌, ◌==◌, Bool, not, cond, List, [], ◌∷◌, ◌++◌, Option, Some}
+use Rattle.std.specs.Prelude.{None, is_some, filter, flat_map, find, length, unwrap_or, slice_index, slice_index_or}
 use Rattle.std.specs.List.{list_any}
 use Rattle.graph_kinds.specs.Graph.{Graph, weight_of, neighbours, key_count}
 
@@ -21,7 +22,8 @@ level_after g known level = firsts_of (filter (λ y. not (stands_in known y)) (f
 abbrev pub levels_from : Graph → ℕ → List ℕ → List ℕ → List (List ℕ)
 levels_from g zero known level = []
 levels_from g (suc n) known [] = []
-levels_from g (suc n) known (x ∷ xs) = (x ∷ xs) ∷ levels_from g n (known ++ x ∷ xs) (level_after g (known ++ x ∷ xs) (x ∷ xs))
+levels_from g (suc n) known (x ∷ xs) =
+    (x ∷ xs) ∷ levels_from g n (known ++ x ∷ xs) (level_after g (known ++ x ∷ xs) (x ∷ xs))
 
 -- the levels from a: each holds a key at least, so there are no more of them than keys
 abbrev pub levels_of : Graph → ℕ → List (List ℕ)
@@ -48,7 +50,8 @@ way_back g (level ∷ earlier) y = way_back g earlier (parent_in g y level) ++ y
 -- the way to b by parents, if b stands in one of the levels; earlier are those before them, the nearest first
 abbrev pub way_in : Graph → List (List ℕ) → List (List ℕ) → ℕ → Option (List ℕ)
 way_in g earlier [] b = None
-way_in g earlier (level ∷ later) b = cond (stands_in level b) (Some (way_back g earlier b)) (way_in g (level ∷ earlier) later b)
+way_in g earlier (level ∷ later) b =
+    cond (stands_in level b) (Some (way_back g earlier b)) (way_in g (level ∷ earlier) later b)
 
 -- the path from a to b by parents, if a path leads there
 abbrev pub reach_path : Graph → ℕ → ℕ → Option (List ℕ)

@@ -1,5 +1,6 @@
 -- Paths, and the least cost of them.
-use Rattle.std.specs.Prelude.{◌≡◌, ℕ, zero, suc, ◌+◌, ◌≤◌, ◌==◌, Bool, true, false, cond, List, [], ◌∷◌, ◌++◌, Option, Some, None, is_some, map, filter, flat_map, length, min, unwrap_or}
+use Rattle.std.specs.Prelude.{◌≡◌, ℕ, zero, suc, ◌+◌, ◌≤◌, ◌==◌, Bool, true, false, cond, List, [], ◌∷◌, ◌++◌, Option}
+use Rattle.std.specs.Prelude.{Some, None, is_some, map, filter, flat_map, length, min, unwrap_or}
 use Rattle.std.specs.FinSet as set
 use Rattle.graph_kinds.specs.Graph.{Graph, has, weight_of, neighbours, key_count}
 
@@ -55,7 +56,8 @@ least (x ∷ xs) = Some (min x (unwrap_or (least xs) x))
 abbrev pub least_cost : Graph → ℕ → ℕ → Option ℕ
 least_cost g a b = least (map (cost_of g) (filter (ends_with b) (short_paths g (key_count g) a)))
 
--- the least cost of x and the weight of the pair from x to y make the least cost of y
+-- of the least cost of x, the weight of the pair from x to y and the least cost of y: there are all three, and the
+-- first two make the third
 abbrev pub reaches_by : Option ℕ → Option ℕ → Option ℕ → Bool
 reaches_by (Some c) (Some w) (Some d) = c + w == d
 reaches_by _ _ _ = false
@@ -64,7 +66,7 @@ reaches_by _ _ _ = false
 abbrev pub is_before : Graph → ℕ → ℕ → ℕ → Bool
 is_before g a y x = reaches_by (least_cost g a x) (weight_of g x y) (least_cost g a y)
 
--- the least key that does
+-- the least key that stands before y on a cheapest path from a, if there is one
 abbrev pub key_before : Graph → ℕ → ℕ → Option ℕ
 key_before g a y = least (filter (is_before g a y) (set.items g.keys))
 
@@ -73,7 +75,8 @@ abbrev pub behind_before : (ℕ → List ℕ) → ℕ → Option ℕ → List �
 behind_before back y None = y ∷ []
 behind_before back y (Some x) = back x ++ y ∷ []
 
--- the cheapest path from a to y, found backwards: the key before y, the key before that one, until a; in n turns at most
+-- the cheapest path from a to y, found backwards: the key before y, the key before that one, until a; in n turns at
+-- most
 abbrev pub cheapest_back : Graph → ℕ → ℕ → ℕ → List ℕ
 cheapest_back g a zero y = y ∷ []
 cheapest_back g a (suc n) y = cond (y == a) (y ∷ []) (behind_before (cheapest_back g a n) y (key_before g a y))
@@ -90,7 +93,7 @@ pub record LeadsOver (g : Graph) (a x y : ℕ) : Type 0 where
   pub pair : weight_of g x y ≡ Some weight
   pub to_y : least_cost g a y ≡ Some (cost + weight)
 
--- x is the least key over which one leads
+-- x is the least key over which a cheapest way to y leads
 pub record IsKeyBefore (g : Graph) (a x y : ℕ) : Type 0 where
   pub leads : LeadsOver g a x y
   pub least : (z : ℕ) → LeadsOver g a z y → x ≤ z

@@ -23,30 +23,34 @@ abbrev pub Puts : Option (List ℕ) → Option (List ℕ) → List ℕ → Type 
 Puts None new bytes = new ≡ None
 Puts (Some old) new bytes = new ≡ Some (old ++ bytes)
 
--- the same of a first part of these
+-- where the bytes taken are told: a first part of these came behind them
 abbrev pub PutsSome : Option (List ℕ) → Option (List ℕ) → List ℕ → Type 0
 PutsSome old new bytes = (n : ℕ) × (n ≤ length bytes) × Puts old new (take n bytes)
 
--- a fact for one variant of what a read or a write answered
+-- a fact of how many bytes a read got, where it got some
 abbrev pub IfGot : ReadAnswer → (ℕ → Type 0) → Type 0
 IfGot (read.Got n) P = P n
 IfGot read.End P = Unit {0}
 IfGot read.Failed P = Unit {0}
 
+-- a fact where a read answered that nothing is left
 abbrev pub IfEnd : ReadAnswer → Type 0 → Type 0
 IfEnd (read.Got n) P = Unit {0}
 IfEnd read.End P = P
 IfEnd read.Failed P = Unit {0}
 
+-- a fact where a read failed
 abbrev pub IfReadFailed : ReadAnswer → Type 0 → Type 0
 IfReadFailed (read.Got n) P = Unit {0}
 IfReadFailed read.End P = Unit {0}
 IfReadFailed read.Failed P = P
 
+-- a fact of how many bytes a write took, where it took some
 abbrev pub IfTook : WriteAnswer → (ℕ → Type 0) → Type 0
 IfTook (write.Took n) P = P n
 IfTook write.Failed P = Unit {0}
 
+-- a fact where a write failed
 abbrev pub IfWriteFailed : WriteAnswer → Type 0 → Type 0
 IfWriteFailed (write.Took n) P = Unit {0}
 IfWriteFailed write.Failed P = P

@@ -10,7 +10,9 @@ graph_from keys pairs = record { keys = set.from_list keys; pairs = map.from_sor
 
 -- from 1 to 10 over 2 and 9, or over 3 and 4
 abbrev pub two_ways : Graph
-two_ways = graph_from (1 ∷ 2 ∷ 3 ∷ 4 ∷ 9 ∷ 10 ∷ []) (((1, 2), 1) ∷ ((1, 3), 1) ∷ ((2, 9), 1) ∷ ((3, 4), 1) ∷ ((4, 10), 1) ∷ ((9, 10), 1) ∷ [])
+two_ways =
+    graph_from (1 ∷ 2 ∷ 3 ∷ 4 ∷ 9 ∷ 10 ∷ [])
+    (((1, 2), 1) ∷ ((1, 3), 1) ∷ ((2, 9), 1) ∷ ((3, 4), 1) ∷ ((4, 10), 1) ∷ ((9, 10), 1) ∷ [])
 
 -- from 1 to 2 by one dear pair, or by two cheap ones
 abbrev pub detour : Graph

@@ -5,14 +5,23 @@
 /// A call on a graph. Keys are u32 numbers; a weight is at least 1 (`IsWellMade` in `specs/Answer.antt`).
 #[derive(Debug, Drop, Clone, Copy, PartialEq, Eq)]
 pub enum Call {
+    /// Makes the key a vertex.
     AddVertex { key: u32 },
+    /// Takes the vertex out, with each edge from it or to it.
     RemoveVertex { key: u32 },
+    /// Asks whether the key is a vertex.
     HasVertex { key: u32 },
+    /// Puts an edge of this weight where there is none.
     AddEdge { from: u32, to: u32, weight: u32 },
+    /// Takes the edge out.
     RemoveEdge { from: u32, to: u32 },
+    /// Asks for the edge and its weight.
     HasEdge { from: u32, to: u32 },
+    /// Asks for a path of fewest edges.
     Reach { from: u32, to: u32 },
+    /// Asks for the breadth-first levels from a vertex.
     Levels { from: u32 },
+    /// Asks for a path of the least cost.
     Cheapest { from: u32, to: u32 },
 }
 

@@ -15,7 +15,7 @@ pub enum Class {
 
 /// A call with its answer, and where it stands in the journal of all events: it was entered when the
 /// journal that its caller had seen had the length `start`, took effect at `place`, and was answered
-/// at the length `end`.
+/// at the length `end`. `tries` is how often it might try to win its step.
 pub struct Entry {
     pub call: Call,
     pub tries: u64,

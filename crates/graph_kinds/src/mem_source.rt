@@ -1,4 +1,5 @@
-//! A source over bytes in memory, whose reads can be made small and made to fail: for tests and for the top call's rows.
+//! A source over bytes in memory, whose reads can be made small and made to fail: for tests and for the top call's
+//! rows.
 
 ghost use Rattle.std.specs.Prelude.{◌≡◌, ◌≤◌, ◌<◌, true, false, [], Some, vec_len, drop};
 

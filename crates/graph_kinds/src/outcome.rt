@@ -9,21 +9,38 @@
 /// caller has used up its uses.
 #[derive(Debug, Drop, Clone, Copy, PartialEq, Eq)]
 pub enum Outcome {
+    /// The vertex or the edge was added.
     Added,
+    /// The vertex to be added is there, or the edge, with this weight.
     Present(u32),
+    /// The vertex was removed, or the edge, which had this weight.
     Removed(u32),
+    /// There is no such vertex to be removed.
     Absent,
+    /// There is such a vertex.
     Yes,
+    /// There is no such vertex.
     No,
+    /// There is such an edge, with this weight.
     Edge(u32),
+    /// A key that the call names is no vertex.
     NoVertex,
+    /// There is no such edge, between two vertices.
     NoEdge,
+    /// A path leads there: the answer has its keys.
     Path,
+    /// A cheapest path leads there at this cost: the answer has its keys.
     Cost(u64),
+    /// No path leads there.
     NoPath,
+    /// There are so many levels: the answer has their keys and ends.
     Levels(u32),
+    /// The call won on an edge, and a vertex of that edge was removed meanwhile.
     Overtaken,
+    /// The call would add, and no node is free.
     Full,
+    /// The call lost all tries that it was given.
     Again,
+    /// The caller has used up its uses.
     Worn,
 }

@@ -35,7 +35,8 @@ pub trait Source {
         ensures goes_on { IfGot result (λ _. ended self.new ≡ ended self.old) }
         ensures nothing_left { IfEnd result ((bytes : List ℕ) → rest self.old ≡ Some bytes → bytes ≡ []) }
         ensures end { IfEnd result (Takes (rest self.old) (rest self.new) [] × (ended self.new ≡ true)) }
-        ensures failed { IfReadFailed result (Takes (rest self.old) (rest self.new) [] × (ended self.new ≡ ended self.old)) }
+        ensures failed { IfReadFailed result (Takes (rest self.old) (rest self.new) []
+            × (ended self.new ≡ ended self.old)) }
         ensures rose { IfReadFailed result (Rose (faults self.old) (faults self.new)) }
         ensures stays { ended self.old ≡ true → result ≡ ReadAnswer.End }
         ensures faults { faults self.old ≤ faults self.new };

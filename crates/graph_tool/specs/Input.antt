@@ -8,11 +8,12 @@ use Rattle.graph_tool.specs.declared.input.InputFault.TheVariants.{TooLong, Fail
 abbrev pub most_bytes : ℕ
 most_bytes = 8388608
 
--- a fact for one fault
+-- a fact where a read failed
 abbrev pub IfFailed : {A : Type 0} → Result A InputFault → Type 0 → Type 0
 IfFailed (Err Failed) P = P
 IfFailed _ P = Unit {0}
 
+-- a fact where the input was too long
 abbrev pub IfTooLong : {A : Type 0} → Result A InputFault → Type 0 → Type 0
 IfTooLong (Err TooLong) P = P
 IfTooLong _ P = Unit {0}

@@ -55,7 +55,8 @@ pub record Asks (words : List (String Global)) (bytes written : List ℕ) : Type
 -- why the rows of an input were not read, by what was taken of the source (left before and after), whether it has
 -- ended, and its count of faults before and after
 abbrev pub IsRefused : Option (List ℕ) → Option (List ℕ) → Bool → ℕ → ℕ → Status → Type 0
-IsRefused old new ended before after (Usage cause) = (cause ≡ InputTooLong) × TakesMany old new (most_bytes + 1) × (ended ≡ false)
+IsRefused old new ended before after (Usage cause) =
+    (cause ≡ InputTooLong) × TakesMany old new (most_bytes + 1) × (ended ≡ false)
 IsRefused old new ended before after (BadRow row cause) =
     (ended ≡ true) × IfSome old (λ bytes. rows callers bytes ≡ Err (row, cause)) × TakesAtMost old new most_bytes
 IsRefused old new ended before after ReadFault = Rose before after × TakesAtMost old new most_bytes × (ended ≡ false)

@@ -3,7 +3,8 @@
 //! The order is words, reading, rows, running, writing. Memory may take the place of any answer up to
 //! running, and never comes once writing began. What is written is `Asks` of `specs/Run.antt`.
 
-ghost use Rattle.std.specs.Prelude.{◌≡◌, ◌+◌, ◌≤◌, ◌⊎◌, ℕ, List, true, false, Ok, Err, All, IfOk, IfErr, IfSome, OnOk, OnErr, Some, length, vec_len};
+ghost use Rattle.std.specs.Prelude.{◌≡◌, ◌+◌, ◌≤◌, ◌⊎◌, ℕ, List, true, false, Ok, Err, All, IfOk, IfErr, IfSome, OnOk};
+ghost use Rattle.std.specs.Prelude.{OnErr, Some, length, vec_len};
 ghost use Rattle.graph_kinds.specs.Answer.{IsWellMade};
 ghost use Rattle.graph_kinds.specs.Stream.{Rose, Puts, PutsSome, TakesMany};
 ghost use Rattle.graph_kinds.specs.declared.call.Row.{Row};
@@ -11,7 +12,8 @@ ghost use Rattle.op_text.specs.Rows.{rows};
 ghost use Rattle.graph_tool.specs.Command.{command_of};
 ghost use Rattle.graph_tool.specs.Input.{TakesAtMost, most_bytes};
 ghost use Rattle.graph_tool.specs.Run.{Asks, IsAccepted, IsRefused, callers};
-ghost use Rattle.graph_tool.specs.Status.{IfDone, IfUsage, IfBadRow, IfReadFault, IfWriteFault, UnlessMemory, UnlessWriting};
+ghost use Rattle.graph_tool.specs.Status.{IfDone, IfUsage, IfBadRow, IfReadFault, IfWriteFault, UnlessMemory};
+ghost use Rattle.graph_tool.specs.Status.{UnlessWriting};
 ghost use Rattle.graph_tool.specs.declared.status.UsageCause.{UsageCause};
 ghost use Rattle.op_text.specs.declared.rows.RowCause.{RowCause};
 

@@ -9,9 +9,13 @@ use std::fmt;
 /// What is wrong with the words of the command line, or that the input is too long.
 #[derive(Debug, Drop, Clone, Copy, PartialEq, Eq)]
 pub enum UsageCause {
+    /// There is no word.
     NoCommand,
+    /// The first word is no command, or an argument is no text.
     UnknownCommand,
+    /// A word stands after the command.
     UnknownOption,
+    /// The input has more than 8,388,608 bytes.
     InputTooLong,
 }
 

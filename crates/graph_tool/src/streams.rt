@@ -24,7 +24,7 @@ pub struct ReadSource<R> {
 }
 
 impl<R: io::Read> ReadSource<R> {
-    /// No read has failed, and none has answered `End`.
+    /// A source of what the reader gives; no read has failed yet, and none has answered `End`. O(1).
     pub fn new(reader: R) -> Self
         ensures ended { ⟦<ReadSource<R> as Source>⟧.ended result ≡ false }
         ensures faults { ⟦<ReadSource<R> as Source>⟧.faults result ≡ 0 }
@@ -88,7 +88,7 @@ pub struct WriteSink<W> {
 }
 
 impl<W: io::Write> WriteSink<W> {
-    /// No write has failed.
+    /// A sink of what the writer takes; no write has failed yet. O(1).
     pub fn new(writer: W) -> Self
         ensures { ⟦<WriteSink<W> as Sink>⟧.faults result ≡ 0 }
     {

@@ -1,17 +1,20 @@
 -- The rows of an input: one operation a record, or the first bad record with its cause.
-use Rattle.std.specs.Prelude.{ℕ, ◌+◌, ◌&&◌, ◌||◌, ◌==◌, not, Bool, true, false, cond, List, [], ◌∷◌, Option, Some, None, find, codes, nat_lt, nat_le, unwrap_or, is_some, Result, Ok, Err}
+use Rattle.std.specs.Prelude.{ℕ, ◌+◌, ◌&&◌, ◌||◌, ◌==◌, not, Bool, true, false, cond, List, [], ◌∷◌, Option, Some, None}
+use Rattle.std.specs.Prelude.{find, codes, nat_lt, nat_le, unwrap_or, is_some, Result, Ok, Err}
 use Rattle.std.specs.Char.{is_ascii_digit}
 use Rattle.std.specs.List.{list_all}
 use Rattle.std.specs.Str.{bytes_eq}
 use Rattle.std.specs.Str.Parse.{digits_value}
 use Rattle.csv.specs.Reading.{records, default_config, strip_bom}
 use Rattle.graph_kinds.specs.declared.call.Call.{Call}
-use Rattle.graph_kinds.specs.declared.call.Call.TheVariants.{AddVertex, RemoveVertex, HasVertex, AddEdge, RemoveEdge, HasEdge, Reach, Levels, Cheapest}
+use Rattle.graph_kinds.specs.declared.call.Call.TheVariants.{AddVertex, RemoveVertex, HasVertex, AddEdge, RemoveEdge}
+use Rattle.graph_kinds.specs.declared.call.Call.TheVariants.{HasEdge, Reach, Levels, Cheapest}
 use Rattle.graph_kinds.specs.declared.call.Row.{Row}
 use Rattle.op_text.specs.declared.rows.kind.CallKind.{CallKind}
 use Rattle.op_text.specs.declared.rows.kind.CallKind.TheVariants as kind
 use Rattle.op_text.specs.declared.rows.RowCause.{RowCause}
-use Rattle.op_text.specs.declared.rows.RowCause.TheVariants.{FieldCount, BadCaller, UnknownOp, BadNumber, MissingField, ExtraField, ZeroWeight, TooManyRows}
+use Rattle.op_text.specs.declared.rows.RowCause.TheVariants.{FieldCount, BadCaller, UnknownOp, BadNumber, MissingField}
+use Rattle.op_text.specs.declared.rows.RowCause.TheVariants.{ExtraField, ZeroWeight, TooManyRows}
 
 -- the most rows of an input
 abbrev pub most_rows : ℕ
@@ -25,7 +28,8 @@ is_numeral (d ∷ e ∷ ds) = not (d == 48) && list_all is_ascii_digit (d ∷ e 
 
 -- the number that a field writes, if it writes one of at most 4294967295
 abbrev pub number_of : List ℕ → Option ℕ
-number_of field = cond (is_numeral field && nat_le (digits_value 10 field) 4294967295) (Some (digits_value 10 field)) None
+number_of field =
+    cond (is_numeral field && nat_le (digits_value 10 field) 4294967295) (Some (digits_value 10 field)) None
 
 -- an operation: its name, whether it needs a second key and a weight beside the first key, and its call
 pub record Operation : Type 0 where
@@ -47,14 +51,19 @@ abbrev pub operation : CallKind → Operation
 operation kind.AddVertex = on_key (codes "add-vertex") (λ a. AddVertex a)
 operation kind.RemoveVertex = on_key (codes "remove-vertex") (λ a. RemoveVertex a)
 operation kind.HasVertex = on_key (codes "has-vertex") (λ a. HasVertex a)
-operation kind.AddEdge = record { name = codes "add-edge"; needs_second = true; needs_weight = true; call = λ a b w. AddEdge a b w }
+operation kind.AddEdge = record {
+  name = codes "add-edge";
+  needs_second = true;
+  needs_weight = true;
+  call = λ a b w. AddEdge a b w;
+}
 operation kind.RemoveEdge = on_keys (codes "remove-edge") (λ a b. RemoveEdge a b)
 operation kind.HasEdge = on_keys (codes "has-edge") (λ a b. HasEdge a b)
 operation kind.Reach = on_keys (codes "reach") (λ a b. Reach a b)
 operation kind.Levels = on_key (codes "levels") (λ a. Levels a)
 operation kind.Cheapest = on_keys (codes "cheapest") (λ a b. Cheapest a b)
 
--- the operations
+-- all operations that an input may name
 abbrev pub operations : List Operation
 operations =
     operation kind.AddVertex
@@ -68,7 +77,7 @@ operations =
     ∷ operation kind.Cheapest
     ∷ []
 
--- the operation of a name
+-- the operation of a name, if it is one's
 abbrev pub operation_of : List ℕ → Option Operation
 operation_of name = find (λ (o : Operation). bytes_eq name o.name) operations
 
@@ -111,6 +120,7 @@ row_by o caller a b w =
     (cond (o.needs_weight && (value_of w == 0)) (Err ZeroWeight)
     (Ok (record { caller = caller; call = o.call (value_of a) (value_of b) (value_of w) })))))
 
+-- the row of an operation by its name and its three fields; a name of none is an unknown operation
 abbrev pub row_of_operation : Option Operation → ℕ → List ℕ → List ℕ → List ℕ → Result Row RowCause
 row_of_operation None caller a b w = Err UnknownOp
 row_of_operation (Some o) caller a b w = row_by o caller a b w
@@ -118,10 +128,11 @@ row_of_operation (Some o) caller a b w = row_by o caller a b w
 -- the row of a record's fields, for so many callers: caller, operation, first key, second key, weight
 abbrev pub row_of_fields : ℕ → List (List ℕ) → Result Row RowCause
 row_of_fields callers (caller ∷ name ∷ a ∷ b ∷ w ∷ []) =
-    cond (is_below callers (number_of caller)) (row_of_operation (operation_of name) (value_of caller) a b w) (Err BadCaller)
+    cond (is_below callers (number_of caller)) (row_of_operation (operation_of name) (value_of caller) a b w)
+    (Err BadCaller)
 row_of_fields callers _ = Err FieldCount
 
--- the row of the record of this number, counted from 1
+-- the row of the record of this number, counted from 1; the record behind the last allowed one is bad, whatever it is
 abbrev pub row_of : ℕ → ℕ → List (List ℕ) → Result Row RowCause
 row_of callers number fields = cond (number == most_rows + 1) (Err TooManyRows) (row_of_fields callers fields)
 
@@ -134,8 +145,10 @@ then_rows (Ok row) number (Ok more) = Ok (row ∷ more)
 -- the rows of records, of which the first has this number, or the first bad one's number and cause
 abbrev pub rows_from : ℕ → ℕ → List (List (List ℕ)) → Result (List Row) (ℕ × RowCause)
 rows_from callers number [] = Ok []
-rows_from callers number (fields ∷ more) = then_rows (row_of callers number fields) number (rows_from callers (number + 1) more)
+rows_from callers number (fields ∷ more) =
+    then_rows (row_of callers number fields) number (rows_from callers (number + 1) more)
 
--- the rows of an input for so many callers: its records are those that `csv` reads by its default settings, without a header
+-- the rows of an input for so many callers: its records are those that `csv` reads by its default settings, without a
+-- header
 unfoldable pub rows : ℕ → List ℕ → Result (List Row) (ℕ × RowCause)
 rows callers bytes = rows_from callers 1 (records default_config (strip_bom bytes))

@@ -1,13 +1,17 @@
 -- The text of answers and of a graph. Numbers are decimal without leading zeros; each line ends with a line feed.
-use Rattle.std.specs.Prelude.{◌≡◌, ℕ, ◌-◌, ◌<◌, ◌==◌, cond, List, [], ◌∷◌, ◌++◌, codes, flat_map, take, drop, length, slice_index}
+use Rattle.std.specs.Prelude.{◌≡◌, ℕ, ◌-◌, ◌<◌, ◌==◌, cond, List, [], ◌∷◌, ◌++◌, codes, flat_map, take, drop, length}
+use Rattle.std.specs.Prelude.{slice_index}
 use Rattle.std.specs.Fmt.{decimal}
 use Rattle.std.specs.List.Sorted.{IsStrictlyIncreasing}
 use Rattle.std.specs.FinMap as map
 use Rattle.graph_kinds.specs.declared.outcome.Outcome.{Outcome}
-use Rattle.graph_kinds.specs.declared.outcome.Outcome.TheVariants.{Added, Present, Removed, Absent, Yes, No, Edge, NoVertex, NoEdge, Path, Cost, NoPath, Levels, Overtaken, Full, Again, Worn}
+use Rattle.graph_kinds.specs.declared.outcome.Outcome.TheVariants.{Added, Present, Removed, Absent, Yes, No, Edge}
+use Rattle.graph_kinds.specs.declared.outcome.Outcome.TheVariants.{NoVertex, NoEdge, Path, Cost, NoPath, Levels}
+use Rattle.graph_kinds.specs.declared.outcome.Outcome.TheVariants.{Overtaken, Full, Again, Worn}
 use Rattle.graph_kinds.specs.declared.answer.Answer.{Answer}
 use Rattle.graph_kinds.specs.Graph.{Graph, sorted_keys}
 
+-- a text with its line feed
 abbrev pub line : List ℕ → List ℕ
 line text = text ++ codes "\n"
 
@@ -50,6 +54,7 @@ outcome_text Full keys ends = codes "full"
 outcome_text Again keys ends = codes "again"
 outcome_text Worn keys ends = codes "worn"
 
+-- the line of an answer
 abbrev pub answer_line : Answer → List ℕ
 answer_line a = line (outcome_text a.outcome a.keys a.ends)
 

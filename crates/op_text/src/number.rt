@@ -23,6 +23,7 @@ pub fn write_number<K: Sink>(sink: &mut K, number: u64) -> Result<(), WriteFaile
     give_number(sink, number)
 }
 
+/// `write_number` with its contract in one record, for the functions that write a line piece by piece. O(digits).
 pub(crate) fn give_number<K: Sink>(sink: &mut K, number: u64) -> Result<(), WriteFailed>
     ensures { Gives K.taken K.faults sink.old sink.new (decimal number) result }
 {

@@ -28,7 +28,7 @@ impl<K: Sink> Pieces<K> {
     ghost use Rattle.graph_kinds.specs.Stream.{Rose, PutsSome};
     ghost use Rattle.op_text.specs.Pieces.{inner, held, given};
 
-    /// Nothing held, over this sink. Takes its room at once, and no memory afterwards.
+    /// Nothing held, over this sink. Takes its room of 65,536 bytes at once, and no memory afterwards. O(1).
     ///
     /// # Errors
     /// `Memory` where there is no memory for the room.
@@ -63,6 +63,7 @@ impl<K: Sink> Pieces<K> {
         self.hand_on()
     }
 
+    /// Hands on all that is held, as `flush` and a full piece do. O(bytes held).
     fn hand_on(&mut self) -> Result<(), WriteFailed>
         ensures all { OnOk result (K.taken (inner self.new) ≡ given K.taken self.old) }
         ensures none { OnOk result (vec_len self.new.bytes ≡ 0) }
@@ -94,7 +95,7 @@ impl<K: Sink> Pieces<K> {
         Ok(())
     }
 
-    /// The sink behind, without what is held.
+    /// The sink behind; what is held is lost, so flush first. O(1).
     pub fn into_sink(self) -> K
         ensures { result ≡ inner self }
     {

@@ -5,7 +5,8 @@
 //! keeps `IsReadSoFar` of `proofs/RowSteps.antt`: what the rows read so far and the records that are left
 //! give together is what the whole input gives.
 
-ghost use Rattle.std.specs.Prelude.{◌≡◌, ◌≢◌, ◌<◌, ◌≤◌, All, IfOk, IfSome, IfNone, OnOk, Ok, Err, Some, [], ◌∷◌, ◌+◌, length, vec_len};
+ghost use Rattle.std.specs.Prelude.{◌≡◌, ◌≢◌, ◌<◌, ◌≤◌, All, IfOk, IfSome, IfNone, OnOk, Ok, Err, Some, [], ◌∷◌, ◌+◌};
+ghost use Rattle.std.specs.Prelude.{length, vec_len};
 ghost use Rattle.csv.specs.Records.{field_at, fields_of};
 ghost use Rattle.graph_kinds.specs.Answer.{IsWellMade};
 ghost use Rattle.op_text.specs.Rows.{most_rows, operation, row_by, row_of, rows};
@@ -78,19 +79,19 @@ fn row_of_kind(
     if (!needs_second && !second.is_empty()) || (!needs_weight && !weight.is_empty()) {
         return Err(RowCause::ExtraField);
     }
-    let (Some(from), Some(to), Some(cost)) = (
+    let (Some(from), Some(to), Some(weight)) = (
         number(first),
         number_if(needs_second, second),
         number_if(needs_weight, weight),
     ) else {
         return Err(RowCause::BadNumber);
     };
-    if needs_weight && cost == 0 {
+    if needs_weight && weight == 0 {
         return Err(RowCause::ZeroWeight);
     }
     Ok(Row {
         caller,
-        call: kind.call(from, to, cost),
+        call: kind.call(from, to, weight),
     })
 }
 

@@ -101,6 +101,7 @@ pub(crate) fn put_front<K: Sink>(sink: &mut K, text: &[u8]) -> usize
     done
 }
 
+/// `write_text` with its contract in one record, for the functions that write a line piece by piece. O(bytes).
 pub(crate) fn give_text<K: Sink>(sink: &mut K, text: &[u8]) -> Result<(), WriteFailed>
     ensures { Gives K.taken K.faults sink.old sink.new text.now result }
 {
@@ -139,6 +140,7 @@ fn give_weighted<K: Sink>(sink: &mut K, word: &[u8], weight: u32) -> Result<(), 
     give_spaced(sink, weight as u64)
 }
 
+/// The answer with an edge's weight.
 fn give_edge<K: Sink>(sink: &mut K, weight: u32) -> Result<(), WriteFailed>
     ensures { Gives K.taken K.faults sink.old sink.new (codes "edge " ++ decimal weight) result }
 {
@@ -146,6 +148,7 @@ fn give_edge<K: Sink>(sink: &mut K, weight: u32) -> Result<(), WriteFailed>
     give_number(sink, weight as u64)
 }
 
+/// The answer with a path's keys.
 fn give_path<K: Sink>(sink: &mut K, keys: &[u32]) -> Result<(), WriteFailed>
     ensures { Gives K.taken K.faults sink.old sink.new (codes "path" ++ spaced keys.now) result }
 {
@@ -153,8 +156,10 @@ fn give_path<K: Sink>(sink: &mut K, keys: &[u32]) -> Result<(), WriteFailed>
     give_all_spaced(sink, keys)
 }
 
+/// The answer with a cost and the keys of its path.
 fn give_cost<K: Sink>(sink: &mut K, cost: u64, keys: &[u32]) -> Result<(), WriteFailed>
-    ensures { Gives K.taken K.faults sink.old sink.new (codes "cost " ++ (decimal cost ++ (codes " path" ++ spaced keys.now))) result }
+    ensures { Gives K.taken K.faults sink.old sink.new
+        (codes "cost " ++ (decimal cost ++ (codes " path" ++ spaced keys.now))) result }
 {
     give_text(sink, b"cost ")?;
     give_number(sink, cost)?;
@@ -162,9 +167,11 @@ fn give_cost<K: Sink>(sink: &mut K, cost: u64, keys: &[u32]) -> Result<(), Write
     give_path(sink, keys)
 }
 
+/// The answer with the keys of each level.
 fn give_levels<K: Sink>(sink: &mut K, keys: &[u32], ends: &[u32]) -> Result<(), WriteFailed>
     requires { (n : ℕ) × AreEnds n keys.now ends.now }
-    ensures { Gives K.taken K.faults sink.old sink.new (codes "levels" ++ barred (levels_by 0 keys.now ends.now)) result }
+    ensures { Gives K.taken K.faults sink.old sink.new
+        (codes "levels" ++ barred (levels_by 0 keys.now ends.now)) result }
 {
     give_text(sink, b"levels")?;
     give_barred(sink, keys, ends)

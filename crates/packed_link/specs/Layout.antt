@@ -9,7 +9,7 @@ pub record Sizes : Type 0 where
   pub nodes : ℕ
   pub buckets : ℕ
 
--- sizes within the limits
+-- sizes within the limits: 1 to 16 callers, 1 to 65,536 nodes and as many buckets
 pub record IsLayout (sizes : Sizes) : Type 0 where
   pub some_callers : 1 ≤ sizes.callers
   pub few_callers : sizes.callers ≤ 16
@@ -22,39 +22,39 @@ pub record IsLayout (sizes : Sizes) : Type 0 where
 abbrev pub word_count : Sizes → ℕ
 word_count sizes = 4 + sizes.callers + sizes.buckets + 4 * sizes.nodes
 
--- the number of caller numbers drawn
+-- the place of the word that counts how many caller numbers are drawn
 abbrev pub number_at : Sizes → ℕ
 number_at sizes = 1
 
--- the epoch
+-- the place of the epoch
 abbrev pub epoch_at : Sizes → ℕ
 epoch_at sizes = 2
 
--- the link to the first free node
+-- the place of the link to the first free node
 abbrev pub free_at : Sizes → ℕ
 free_at sizes = 3
 
--- the announcement of a caller
+-- the place of a caller's announcement
 abbrev pub announce_at : Sizes → ℕ → ℕ
 announce_at sizes caller = 4 + caller
 
--- the link to the first vertex of a bucket
+-- the place of the link to the first vertex of a bucket
 abbrev pub bucket_at : Sizes → ℕ → ℕ
 bucket_at sizes bucket = 4 + sizes.callers + bucket
 
--- the key of a node
+-- the place of a node's key
 abbrev pub key_at : Sizes → ℕ → ℕ
 key_at sizes index = 4 + sizes.callers + sizes.buckets + 4 * index
 
--- the link of a node to the next
+-- the place of a node's link to the next
 abbrev pub link_at : Sizes → ℕ → ℕ
 link_at sizes index = 4 + sizes.callers + sizes.buckets + 4 * index + 1
 
--- the second word of a node: a vertex's link to its first edge, or an edge's target
+-- the place of a node's second word: a vertex's link to its first edge, or an edge's target
 abbrev pub second_at : Sizes → ℕ → ℕ
 second_at sizes index = 4 + sizes.callers + sizes.buckets + 4 * index + 2
 
--- the third word of a node: a vertex's counter of edge changes, or an edge's weight
+-- the place of a node's third word: a vertex's counter of edge changes, or an edge's weight
 abbrev pub third_at : Sizes → ℕ → ℕ
 third_at sizes index = 4 + sizes.callers + sizes.buckets + 4 * index + 3
 

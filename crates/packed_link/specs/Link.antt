@@ -2,7 +2,7 @@
 -- From its lowest bit on, a word has an index of 24 bits, a mark of one bit and a tag of 39 bits.
 use Rattle.std.specs.Prelude.{ℕ, ◌+◌, ◌*◌, ◌/◌, ◌%◌, ◌^◌, ◌<◌, Bool, true, false}
 
--- the word that is packed of an index below 2 ^ 24, a mark that is 0 or 1, and a tag
+-- the word of an index below 2 ^ 24, a mark that is 0 or 1, and a tag
 abbrev pub pack : ℕ → ℕ → ℕ → ℕ
 pack index mark tag = index + mark * 2 ^ 24 + tag * 2 ^ 25
 
@@ -33,6 +33,6 @@ abbrev pub mark_bit : Bool → ℕ
 mark_bit true = 1
 mark_bit false = 0
 
--- the index that names no node
+-- the index that names no node: the greatest one of 24 bits
 abbrev pub nowhere : ℕ
 nowhere = 16777215

@@ -7,6 +7,7 @@ use Rattle.scan_record.specs.Scan.{ScanValue}
 abbrev pub states_of : ScanValue → List ℕ
 states_of s = map (λ v. min v 2) s.slot_one
 
+-- what one row is to the search
 abbrev pub state_of : ScanValue → ℕ → ℕ
 state_of s r = slice_index (states_of s) r
 
@@ -35,7 +36,8 @@ pub record IsHeap (s : ScanValue) (places : ℕ) : Type 0 where
   pub placed : IsPlaced s places
   pub ordered : (q p : ℕ) → p < places → IsBelow q p → cost_at s q ≤ cost_at s p
 
--- the same but for the row at one place, round which it holds without that row
+-- a heap but for the row at one place, which may cost too much or too little there: no other row costs more than one
+-- below it, nor does a row right above that place cost more than one right below it
 pub record IsHeapBut (s : ScanValue) (places at : ℕ) : Type 0 where
   pub placed : IsPlaced s places
   pub others : (q p : ℕ) → p < places → IsBelow q p → q ≢ at → p ≢ at → cost_at s q ≤ cost_at s p

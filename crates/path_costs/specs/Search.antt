@@ -8,17 +8,19 @@ use Rattle.scan_record.specs.ScanGraph.{graph_of_scan}
 use Rattle.scan_record.specs.Asked.{root_of, KeepsRows}
 use Rattle.path_costs.specs.Heap.{state_of, settled_count}
 
--- the key of a row, its cost, and the row before it on its way
+-- the key of a row
 abbrev pub key_of : ScanValue → ℕ → ℕ
 key_of s r = (row_at s r).key
 
+-- the cost of a row: that of the way by which it was met
 abbrev pub row_cost : ScanValue → ℕ → ℕ
 row_cost s r = slice_index s.costs r
 
+-- the row before a row on that way
 abbrev pub parent_of : ScanValue → ℕ → ℕ
 parent_of s r = slice_index s.slot_two r
 
--- a weight is below 2 ^ 32
+-- the greatest weight, since weights are below 2 ^ 32
 abbrev pub greatest_weight : ℕ
 greatest_weight = 2 ^ 32 - 1
 
@@ -56,9 +58,11 @@ pub record IsSearchBut (s : ScanValue) (left_out : ℕ) : Type 0 where
   pub root_cost : row_cost s 0 ≡ 0
   pub reached : (y : ℕ) → y < length s.rows → 1 ≤ state_of s y → IsReached s y
   pub parents : (y : ℕ) → 0 < y → y < length s.rows → 1 ≤ state_of s y → HasParent s y
-  pub ordered : (x y : ℕ) → x < length s.rows → y < length s.rows → state_of s x ≡ 1 → state_of s y ≡ 2 → row_cost s x ≤ row_cost s y
+  pub ordered : (x y : ℕ) → x < length s.rows → y < length s.rows → state_of s x ≡ 1 → state_of s y ≡ 2
+      → row_cost s x ≤ row_cost s y
   pub below : (y : ℕ) → y < length s.rows → 1 ≤ state_of s y → row_cost s y ≤ settled_count s * greatest_weight
-  pub followed : (x y w : ℕ) → x < length s.rows → y < length s.rows → state_of s x ≡ 1 → x ≢ left_out → HasPair s x y w → IsFollowed s x y w
+  pub followed : (x y w : ℕ) → x < length s.rows → y < length s.rows → state_of s x ≡ 1 → x ≢ left_out
+      → HasPair s x y w → IsFollowed s x y w
 
 -- the same, with no row left out
 abbrev pub IsSearch : ScanValue → Type 0
@@ -84,6 +88,8 @@ pub record FollowsPair (old new : ScanValue) (x y w : ℕ) : Type 0 where
 -- a settled row has the least cost of a path to its key, below 2 ^ 48, and its parent's key is the least before its own
 pub record IsSettledTree (s : ScanValue) : Type 0 where
   pub graph : IsGraph (graph_of_scan s)
-  pub costs : (y : ℕ) → y < length s.rows → state_of s y ≡ 1 → least_cost (graph_of_scan s) (root_of s) (key_of s y) ≡ Some (row_cost s y)
-  pub parents : (y : ℕ) → 0 < y → y < length s.rows → state_of s y ≡ 1 → HasParent s y × IsKeyBefore (graph_of_scan s) (root_of s) (key_of s (parent_of s y)) (key_of s y)
+  pub costs : (y : ℕ) → y < length s.rows → state_of s y ≡ 1
+      → least_cost (graph_of_scan s) (root_of s) (key_of s y) ≡ Some (row_cost s y)
+  pub parents : (y : ℕ) → 0 < y → y < length s.rows → state_of s y ≡ 1 → HasParent s y
+      × IsKeyBefore (graph_of_scan s) (root_of s) (key_of s (parent_of s y)) (key_of s y)
   pub below : (y : ℕ) → y < length s.rows → state_of s y ≡ 1 → row_cost s y ≤ 65536 * greatest_weight

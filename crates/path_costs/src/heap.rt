@@ -55,7 +55,8 @@ fn swap(scan: &mut Scan, places: u32, first: u32, second: u32)
     ensures placed { IsPlaced scan.new places }
     ensures at_first { slice_index scan.new.slot_zero first ≡ slice_index scan.old.slot_zero second }
     ensures at_second { slice_index scan.new.slot_zero second ≡ slice_index scan.old.slot_zero first }
-    ensures others { (p : ℕ) → p ≢ first → p ≢ second → slice_index scan.new.slot_zero p ≡ slice_index scan.old.slot_zero p }
+    ensures others { (p : ℕ) → p ≢ first → p ≢ second
+        → slice_index scan.new.slot_zero p ≡ slice_index scan.old.slot_zero p }
     ensures states { states_of scan.new ≡ states_of scan.old }
     ensures rest { scan.new ≡ record scan.old { slot_zero = scan.new.slot_zero; slot_one = scan.new.slot_one } }
 {

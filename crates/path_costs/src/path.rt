@@ -23,7 +23,8 @@ fn gather(scan: &mut Scan, row: u32) -> u32
     ensures count { result ≤ length scan.old.rows }
     ensures path { IsPath (graph_of_scan scan.old) (root_of scan.old) (key_of scan.old row)
         (reverse (take result scan.new.slot_zero)) }
-    ensures keys { GoesByLeastKeys (graph_of_scan scan.old) (root_of scan.old) (reverse (take result scan.new.slot_zero)) }
+    ensures keys { GoesByLeastKeys (graph_of_scan scan.old) (root_of scan.old)
+        (reverse (take result scan.new.slot_zero)) }
     ensures kept { KeepsRows scan.old scan.new }
 {
     prove!(row < scan.vertices());
@@ -50,12 +51,15 @@ pub fn cheapest(scan: &mut Scan, goal: u32) -> Outcome
     // What the rules of least costs and of the way back come to:
     ensures cost { (c : ℕ) → result ≡ Outcome.Cost c → IsLeastCost (graph_of_scan scan.old) (root_of scan.old) goal c }
     ensures bounded { (c : ℕ) → result ≡ Outcome.Cost c → c < 2 ^ 48 }
-    ensures path { (c : ℕ) → result ≡ Outcome.Cost c → IsPath (graph_of_scan scan.old) (root_of scan.old) goal scan.new.keys
+    ensures path { (c : ℕ) → result ≡ Outcome.Cost c
+        → IsPath (graph_of_scan scan.old) (root_of scan.old) goal scan.new.keys
         × (cost_of (graph_of_scan scan.old) scan.new.keys ≡ c) }
-    ensures cheapest { (c : ℕ) → result ≡ Outcome.Cost c → (p : List ℕ) → IsPath (graph_of_scan scan.old) (root_of scan.old) goal p
-        → c ≤ cost_of (graph_of_scan scan.old) p }
-    ensures least_keys { (c : ℕ) → result ≡ Outcome.Cost c → GoesByLeastKeys (graph_of_scan scan.old) (root_of scan.old) scan.new.keys }
-    ensures no_path { (result ≡ Outcome.NoPath) ↔ ((p : List ℕ) → ¬ (IsPath (graph_of_scan scan.old) (root_of scan.old) goal p)) }
+    ensures cheapest { (c : ℕ) → result ≡ Outcome.Cost c → (p : List ℕ)
+        → IsPath (graph_of_scan scan.old) (root_of scan.old) goal p → c ≤ cost_of (graph_of_scan scan.old) p }
+    ensures least_keys { (c : ℕ) → result ≡ Outcome.Cost c
+        → GoesByLeastKeys (graph_of_scan scan.old) (root_of scan.old) scan.new.keys }
+    ensures no_path { (result ≡ Outcome.NoPath)
+        ↔ ((p : List ℕ) → ¬ (IsPath (graph_of_scan scan.old) (root_of scan.old) goal p)) }
 
     ensures kept { KeepsRows scan.old scan.new }
     ensures graph { graph_of_scan scan.new ≡ graph_of_scan scan.old }

@@ -1,5 +1,6 @@
 -- The queue of a search in breadth: the keys that were met, in the order in which they were first met.
-use Rattle.std.specs.Prelude.{◌≡◌, ℕ, zero, suc, ◌<◌, ◌==◌, Bool, cond, List, [], ◌∷◌, ◌++◌, length, slice_index, find, is_some, Some}
+use Rattle.std.specs.Prelude.{◌≡◌, ℕ, zero, suc, ◌<◌, ◌==◌, Bool, cond, List, [], ◌∷◌, ◌++◌, length, slice_index, find}
+use Rattle.std.specs.Prelude.{is_some, Some}
 use Rattle.graph_kinds.specs.Graph.{Graph, weight_of}
 use Rattle.graph_kinds.specs.Levels.{stands_in}
 

@@ -92,7 +92,8 @@ pub fn expand(scan: &mut Scan, place: u32)
     requires complete { IsComplete scan.old }
     requires queue { IsQueue scan.old place }
     requires place { place < length scan.old.keys }
-    ensures keys { scan.new.keys ≡ with_all scan.old.keys (neighbours (graph_of_scan scan.old) (slice_index scan.old.keys place)) }
+    ensures keys { scan.new.keys
+        ≡ with_all scan.old.keys (neighbours (graph_of_scan scan.old) (slice_index scan.old.keys place)) }
     ensures queue { IsQueue scan.new (place + 1) }
     ensures ends { scan.new.ends ≡ scan.old.ends }
     ensures kept { KeepsRowsAndCosts scan.old scan.new }

@@ -61,7 +61,8 @@ pub fn reach(scan: &mut Scan, goal: u32) -> Outcome
     ensures path { result ≡ Outcome.Path → IsPath (graph_of_scan scan.old) (root_of scan.old) goal scan.new.keys }
     ensures shortest { result ≡ Outcome.Path → (p : List ℕ) → IsPath (graph_of_scan scan.old) (root_of scan.old) goal p
         → length scan.new.keys ≤ length p }
-    ensures no_path { (result ≡ Outcome.NoPath) ↔ ((p : List ℕ) → ¬ (IsPath (graph_of_scan scan.old) (root_of scan.old) goal p)) }
+    ensures no_path { (result ≡ Outcome.NoPath)
+        ↔ ((p : List ℕ) → ¬ (IsPath (graph_of_scan scan.old) (root_of scan.old) goal p)) }
 
     ensures kept { KeepsRowsAndCosts scan.old scan.new }
     ensures graph { graph_of_scan scan.new ≡ graph_of_scan scan.old }

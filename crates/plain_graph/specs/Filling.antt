@@ -1,6 +1,7 @@
 -- How a scan is filled with a whole graph: the root's row, then a row for each other vertex by rising key, and then the
 -- edges of each row by the rising key of their targets.
-use Rattle.std.specs.Prelude.{◌≡◌, ℕ, ◌+◌, ◌<◌, ◌==◌, cond, List, [], ◌∷◌, ◌++◌, length, map, slice_set, All, Option, Some, None}
+use Rattle.std.specs.Prelude.{◌≡◌, ℕ, ◌+◌, ◌<◌, ◌==◌, cond, List, [], ◌∷◌, ◌++◌, length, map, slice_set, All, Option}
+use Rattle.std.specs.Prelude.{Some, None}
 use Rattle.std.specs.Ordering.{nat_cmp}
 use Rattle.std.specs.BTreeMap.{BTreeMap, get}
 use Rattle.std.specs.Map.{keys_of}
@@ -25,7 +26,7 @@ row_keys s = map (λ row. row.key) s.rows
 abbrev pub Numbers : Type 0
 Numbers = BTreeMap ℕ ℕ
 
--- each row's number is found at its key, and nothing else is found
+-- the map has just the numbers of the rows: each is found at its row's key, and nothing else is found
 pub record IsNumbering (numbers : Numbers) (s : ScanValue) : Type 0 where
   pub number_of : (k : ℕ) → k < length s.rows → get nat_cmp numbers (row_at s k).key ≡ Some k
   pub row_of : (q k : ℕ) → get nat_cmp numbers q ≡ Some k → (k < length s.rows) × ((row_at s k).key ≡ q)
@@ -34,7 +35,7 @@ pub record IsNumbering (numbers : Numbers) (s : ScanValue) : Type 0 where
 abbrev pub IsIndexed : ScanValue → Type 0
 IsIndexed s = (k : ℕ) → k < length s.rows → (row_at s k).life.index ≡ k
 
--- the scan with one more row, whose life has the row's number
+-- the scan with one more row of this key, whose life has the row's number as its index
 abbrev pub with_key : ScanValue → ℕ → ScanValue
 with_key s key = with_vertex s (record { index = length s.rows; tag = 1 }) key
 
@@ -50,10 +51,12 @@ pub record IsBare (s : ScanValue) : Type 0 where
 abbrev pub edge_row : Numbers → ℕ × ℕ → EdgeRow
 edge_row numbers e = record { life = blank_life; link = 0; key = e.0; weight = e.1; target = get nat_cmp numbers e.0 }
 
--- the scan with the edges of its next row
+-- the scan with one more row started, the next in order, and these edges in it
 abbrev pub with_row : ScanValue → List EdgeRow → ScanValue
 with_row s edges = record s {
-  rows = slice_set s.rows s.next (record (row_at s s.next) { counter = 0; head = 0; first = length s.edges; count = length edges });
+  rows =
+      slice_set s.rows s.next
+      (record (row_at s s.next) { counter = 0; head = 0; first = length s.edges; count = length edges });
   started = s.started + 1;
   next = s.next + 1;
   edges = s.edges ++ edges;
@@ -73,7 +76,8 @@ pub record IsFilled (m : Vertices) (root : ℕ) (numbers : Numbers) (s : ScanVal
   pub row_order : row_keys s ≡ root_first root m
   pub numbering : IsNumbering numbers s
   pub started : s.started ≡ length s.rows
-  pub edge_rows : (k : ℕ) → k < length s.rows → edges_of s (row_at s k) ≡ map (edge_row numbers) (edges_at m (row_at s k).key)
+  pub edge_rows : (k : ℕ) → k < length s.rows
+      → edges_of s (row_at s k) ≡ map (edge_row numbers) (edges_at m (row_at s k).key)
   pub targets : All (λ e. e.target ≡ get nat_cmp numbers e.key) s.edges
   pub no_keys : s.keys ≡ []
   pub no_ends : s.ends ≡ []

@@ -93,6 +93,7 @@ impl PlainGraph {
         self.has(from) && self.has(to)
     }
 
+    /// Makes the key a vertex where it is none.
     fn add_vertex(&mut self, key: u32) -> Result<Outcome, Memory>
         requires { key_count self.old + pair_count self.old < 65536 }
         ensures answer { IfOk result (λ o. plain o ≡ answer self.old (Call.AddVertex key)) }
@@ -106,6 +107,7 @@ impl PlainGraph {
         Ok(Outcome::Added)
     }
 
+    /// Takes the vertex out with its edges, where it is there.
     fn remove_vertex(&mut self, key: u32) -> Outcome
         ensures answer { plain result ≡ answer self.old (Call.RemoveVertex key) }
         ensures change { self.new ≡ after self.old (Call.RemoveVertex key) }
@@ -117,6 +119,7 @@ impl PlainGraph {
         Outcome::Removed(0)
     }
 
+    /// Whether the key is a vertex, as an answer.
     fn has_vertex(&self, key: u32) -> Outcome
         ensures answer { plain result ≡ answer self.now (Call.HasVertex key) }
         ensures change { self.now ≡ after self.now (Call.HasVertex key) }
@@ -128,6 +131,7 @@ impl PlainGraph {
         }
     }
 
+    /// Puts the edge where both ends are there and it isn't.
     fn add_edge(&mut self, from: u32, to: u32, weight: u32) -> Result<Outcome, Memory>
         requires weighed { 1 ≤ weight }
         requires room { key_count self.old + pair_count self.old < 65536 }
@@ -145,6 +149,7 @@ impl PlainGraph {
         Ok(Outcome::Added)
     }
 
+    /// Takes the edge out where it is there.
     fn remove_edge(&mut self, from: u32, to: u32) -> Outcome
         ensures answer { plain result ≡ answer self.old (Call.RemoveEdge from to) }
         ensures change { self.new ≡ after self.old (Call.RemoveEdge from to) }
@@ -159,6 +164,7 @@ impl PlainGraph {
         Outcome::Removed(weight)
     }
 
+    /// The weight of the edge, as an answer.
     fn has_edge(&self, from: u32, to: u32) -> Outcome
         ensures answer { plain result ≡ answer self.now (Call.HasEdge from to) }
         ensures change { self.now ≡ after self.now (Call.HasEdge from to) }

@@ -4,7 +4,8 @@
 //! No second index is kept, so an edge stands at one place alone. What the functions leave is said by look-ups
 //! (`holds` and `weight_held` of `specs/Kept.antt`); all of them keep `Rises`.
 
-ghost use Rattle.std.specs.Prelude.{◌≡◌, ℕ, ◌+◌, ◌≤◌, ◌==◌, ◌&&◌, ◌||◌, true, false, cond, IsTrue, IfOk, OnOk, OnErr, Some, None};
+ghost use Rattle.std.specs.Prelude.{◌≡◌, ℕ, ◌+◌, ◌≤◌, ◌==◌, ◌&&◌, ◌||◌, true, false, cond, IsTrue, IfOk, OnOk, OnErr};
+ghost use Rattle.std.specs.Prelude.{Some, None};
 ghost use Rattle.plain_graph.specs.Kept.{Rises, edges_in, holds, weight_held};
 ghost use Rattle.std.specs.Ordering.{nat_cmp};
 ghost use Rattle.std.specs.BTreeMap.{get, IsOrdered, values, btree_map_len};
@@ -13,8 +14,10 @@ use graph_kinds::Memory;
 use std::alloc::Global;
 use std::collections::BTreeMap;
 
+/// The edges out of a vertex: the weight of each by the key of its target.
 pub type Edges = BTreeMap<u32, u32>;
 
+/// The vertices by their keys, each with its edges.
 pub type Vertices = BTreeMap<u32, BTreeMap<u32, u32>>;
 
 /// How many edges all vertices have. O(V).
@@ -30,6 +33,9 @@ pub fn edge_count(vertices: &Vertices) -> u32
 }
 
 /// Puts a vertex without edges at a key that has none. O(log V).
+///
+/// # Errors
+/// `Memory` where there is no room for it; all look-ups are as before then.
 pub fn insert_vertex(vertices: &mut Vertices, alloc: Global, key: u32) -> Result<(), Memory>
     requires absent { holds vertices.old key ≡ false }
     requires rises { Rises vertices.old }
@@ -44,7 +50,10 @@ pub fn insert_vertex(vertices: &mut Vertices, alloc: Global, key: u32) -> Result
     }
 }
 
-/// Puts an edge out of a vertex, or its new weight, and answers the weight before. O(log V + log E).
+/// Puts an edge out of a vertex that is there, or its new weight, and answers the weight before. O(log V + log E).
+///
+/// # Errors
+/// `Memory` where there is no room for it; all look-ups are as before then.
 pub fn insert_edge(
     vertices: &mut Vertices,
     from: u32,

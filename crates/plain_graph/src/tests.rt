@@ -1,3 +1,5 @@
+//! Tables of calls with what each is answered, the texts of graphs, scans of a graph, and writes that fail.
+
 ghost use Rattle.std.specs.Prelude.{◌+◌, ◌<◌, All, IsTrue};
 ghost use Rattle.graph_kinds.specs.Graph.{key_count, pair_count};
 ghost use Rattle.graph_kinds.specs.Answer.{IsWellMade};

@@ -99,12 +99,14 @@ fn give_spaced<K: Sink>(sink: &mut K, number: u32) -> Result<(), WriteFailed>
     give_number(sink, number)
 }
 
+/// The text, with its contract in one record.
 fn give_text<K: Sink>(sink: &mut K, text: &[u8]) -> Result<(), WriteFailed>
     ensures { Gives K.taken K.faults sink.old sink.new text.now result }
 {
     write_text(sink, text)
 }
 
+/// The number in decimal, with its contract in one record.
 fn give_number<K: Sink>(sink: &mut K, number: u32) -> Result<(), WriteFailed>
     ensures { Gives K.taken K.faults sink.old sink.new (decimal number) result }
 {

@@ -1,6 +1,7 @@
 -- A scan: one collected part of a graph as rows, beside an answer region and work room for each vertex row.
 -- Rows and edges are numbered from 0 in the order of their pushes; what a number past the end names is blank.
-use Rattle.std.specs.Prelude.{◌≡◌, ◌≢◌, ℕ, zero, suc, ◌+◌, ◌-◌, ◌<◌, ◌≤◌, ◌^◌, List, [], ◌∷◌, ◌++◌, length, take, drop, slice_index_or, slice_set, Some, None}
+use Rattle.std.specs.Prelude.{◌≡◌, ◌≢◌, ℕ, zero, suc, ◌+◌, ◌-◌, ◌<◌, ◌≤◌, ◌^◌, List, [], ◌∷◌, ◌++◌, length, take, drop}
+use Rattle.std.specs.Prelude.{slice_index_or, slice_set, Some, None}
 use Rattle.packed_link.specs.declared.link.Life.{Life}
 use Rattle.scan_record.specs.declared.rows.VertexRow.{VertexRow}
 use Rattle.scan_record.specs.declared.rows.EdgeRow.{EdgeRow}
@@ -41,17 +42,19 @@ empty_scan nodes = record {
 abbrev pub new_row : Life → ℕ → VertexRow
 new_row life key = record { life = life; key = key; counter = 0; head = 0; first = 0; count = 0 }
 
--- what a number of no row and a place of no edge name
+-- a life that no node has: a node's lives have tags from 1 on
 abbrev pub blank_life : Life
 blank_life = record { index = 0; tag = 0 }
 
+-- the edge row that stands for a place with none
 abbrev pub blank_edge : EdgeRow
 blank_edge = record { life = blank_life; link = 0; key = 0; weight = 0; target = None }
 
--- the vertex row of this number, and the edge row at this place
+-- the vertex row of this number, or a blank one where there is none
 abbrev pub row_at : ScanValue → ℕ → VertexRow
 row_at s k = slice_index_or s.rows k (new_row blank_life 0)
 
+-- the edge row at this place, or a blank one where there is none
 abbrev pub edge_at : ScanValue → ℕ → EdgeRow
 edge_at s place = slice_index_or s.edges place blank_edge
 
@@ -88,12 +91,13 @@ with_edge s edge = let last = row_at s (s.next - 1) in record s {
   edges = s.edges ++ edge ∷ [];
 }
 
--- the numbers in a slot, one for each vertex row, and the scan with other numbers there
+-- the numbers in a slot of the work room, one for each vertex row
 abbrev pub slot_of : ScanValue → ℕ → List ℕ
 slot_of s zero = s.slot_zero
 slot_of s (suc zero) = s.slot_one
 slot_of s (suc (suc _)) = s.slot_two
 
+-- the scan with other numbers in a slot of the work room
 abbrev pub with_slot : ScanValue → ℕ → List ℕ → ScanValue
 with_slot s zero numbers = record s { slot_zero = numbers }
 with_slot s (suc zero) numbers = record s { slot_one = numbers }
@@ -136,4 +140,5 @@ pub record IsComplete (s : ScanValue) : Type 0 where
   pub has_root : 0 < length s.rows
   pub all_started : s.started ≡ length s.rows
   pub keys_differ : (j k : ℕ) → j < k → k < length s.rows → (row_at s j).key ≢ (row_at s k).key
-  pub target_keys : (p t : ℕ) → p < length s.edges → (edge_at s p).target ≡ Some t → (row_at s t).key ≡ (edge_at s p).key
+  pub target_keys : (p t : ℕ) → p < length s.edges → (edge_at s p).target ≡ Some t
+      → (row_at s t).key ≡ (edge_at s p).key

@@ -15,6 +15,8 @@ pair_of s from edge = option_map (λ t. ((from, (row_at s t).key), edge.weight))
 abbrev pub pairs_of : ScanValue → VertexRow → List ((ℕ × ℕ) × ℕ)
 pairs_of s row = filter_map (pair_of s row.key) (edges_of s row)
 
+-- the graph of a scan: the keys of its rows, and the pairs of their edges; of two edge rows of one pair the first
+-- counts
 abbrev pub graph_of_scan : ScanValue → Graph
 graph_of_scan s = record {
   keys = set.from_list (map (λ row. row.key) s.rows);
@@ -29,9 +31,10 @@ target_key edge = option_map (λ _. edge.key) edge.target
 abbrev pub target_keys : List EdgeRow → List ℕ
 target_keys edges = filter_map target_key edges
 
--- the weight of the first edge that leads to a key, if there is one
+-- whether an edge leads to a row with this key
 abbrev pub leads_to : ℕ → EdgeRow → Bool
 leads_to key edge = is_some edge.target && (edge.key == key)
 
+-- the weight of the first edge that leads to a key, if there is one
 abbrev pub weight_to : ℕ → List EdgeRow → Option ℕ
 weight_to key edges = option_map (λ edge. edge.weight) (find (leads_to key) edges)

@@ -10,7 +10,8 @@ ghost use Rattle.graph_kinds.specs.Answer.{change};
 ghost use Rattle.packed_link.specs.declared.link.Life.{Life};
 ghost use Rattle.scan_record.specs.declared.rows.EdgeRow.{EdgeRow};
 ghost use Rattle.graph_kinds.specs.Graph.{IsGraph, empty_graph, has, neighbours, weight_of};
-ghost use Rattle.scan_record.specs.Scan.{ScanValue, IsScan, IsComplete, row_at, edges_of, empty_scan, with_vertex, with_started, with_edge};
+ghost use Rattle.scan_record.specs.Scan.{ScanValue, IsScan, IsComplete, row_at, edges_of, empty_scan, with_vertex};
+ghost use Rattle.scan_record.specs.Scan.{with_started, with_edge};
 ghost use Rattle.scan_record.specs.ScanGraph.{graph_of_scan, target_keys, weight_to};
 
 use graph_kinds::neighbours_rise;

@@ -64,6 +64,7 @@ impl Scan {
         }
     }
 
+    // An empty scan, with the allocator's own error.
     fn with_room(alloc: Global, nodes: u32) -> Result<Scan, AllocError>
         requires { nodes ≤ 65536 }
         ensures { IfOk result (λ scan. scan ≡ empty_scan nodes) }
@@ -177,7 +178,7 @@ impl Scan {
         last.count += 1;
     }
 
-    /// The number of the row of a life, by one look into the table. O(1).
+    /// The number of the row of a life, by one look into the table; none where no row has this life. O(1).
     pub fn row_of(&self, life: Life) -> Option<u32>
         ensures row { IfSome result (λ row. (row < length self.now.rows) × ((row_at self.now row).life ≡ life)) }
         ensures none { IfNone result ((k : ℕ) → k < length self.now.rows → (row_at self.now k).life ≢ life) }
@@ -187,7 +188,7 @@ impl Scan {
         if found.life == life { Some(row) } else { None }
     }
 
-    /// The vertex row of a number. O(1).
+    /// The vertex row of a number, as it stands. O(1).
     pub fn vertex(&self, row: u32) -> VertexRow
         requires { row < length self.now.rows }
         ensures { result ≡ row_at self.now row }

@@ -50,7 +50,7 @@ impl CallKind {
         }
     }
 
-    /// Whether the call needs a second key beside the first.
+    /// Whether the call needs a second key beside the first. O(1).
     pub fn needs_second(self) -> bool
         ensures { result ≡ (operation self).needs_second }
     {
@@ -65,7 +65,7 @@ impl CallKind {
         }
     }
 
-    /// Whether the call needs a weight.
+    /// Whether the call needs a weight. O(1).
     pub fn needs_weight(self) -> bool
         ensures { result ≡ (operation self).needs_weight }
     {
@@ -75,7 +75,7 @@ impl CallKind {
         }
     }
 
-    /// The call on these keys, with this weight; what the kind doesn't need is left out.
+    /// The call on these keys, with this weight; what the kind doesn't need is left out. O(1).
     pub fn call(self, first: u32, second: u32, weight: u32) -> Call
         ensures call { result ≡ (operation self).call first second weight }
         ensures well_made { ((operation self).needs_weight ≡ true → 1 ≤ weight) → IsWellMade result }

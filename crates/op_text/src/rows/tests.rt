@@ -1,3 +1,5 @@
+//! Records with one fault or two, records that are rows, and the most rows.
+
 use crate::{RowCause, RowsFault, numbers_are_decimal, read_rows};
 use graph_kinds::{Call, Row};
 use std::alloc::Global;
