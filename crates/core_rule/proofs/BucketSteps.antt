@@ -382,14 +382,14 @@ module _ (sizes : Sizes) (z : IsLayout sizes) (past : List Event) (e : Event) (k
   idle_bucket PopFree o ok = untouched sizes past e w (state_by PopFree sizes e (state sizes past)) j a (λ h. omega (arith, ok.place, h)) (λ x v. ((λ h. omega (arith, ok.place, h)), (λ h. omega (arith, ok.place, h))))
       (λ x. put_off sizes (state sizes past) e.life.index _ j x (λ v. let m = v.linked in let f = (taken sizes z past e kept ok).free in absurd (cc)) (λ v. let m = v.linked in absurd (cc)))
   idle_bucket PushFree o ok = untouched sizes past e w (state_by PushFree sizes e (state sizes past)) j a (λ h. omega (arith, ok.place, h)) (λ x v. ((λ h. omega (arith, ok.place, h)), (λ h. omega (arith, ok.place, h))))
-      (λ x. put_off sizes (state sizes past) e.life.index _ j x (λ v. let m = v.linked in let f = ok.ripe.spent in absurd (cc)) (λ v. let m = v.linked in absurd (cc)))
+      (λ x. put_off sizes (state sizes past) e.life.index _ j x (λ v. let m = v.linked in let f = ok.ripe.stamped.spent.spent in absurd (cc)) (λ v. let m = v.linked in absurd (cc)))
   idle_bucket StorePrivate o ok = untouched sizes past e w (state_by StorePrivate sizes e (state sizes past)) j a (λ h. omega (arith, ok.place, h, low))
       (λ x v.
       let off : x ≢ e.life.index = λ same. let m : (node_in sizes past e.life.index).mode ≡ Linked = subst (λ (y : ℕ). (node_in sizes past y).mode ≡ Linked) same v.linked in let f = ok.fresh.fresh in absurd (cc) in
       ((λ h. off (omega (arith, ok.place, h))), (λ h. off (omega (arith, ok.place, h)))))
       (λ x. refl)
   idle_bucket StoreFree o ok =
-      let off : IsVertexIn sizes (node_in sizes past e.life.index) j → ⊥ = λ v. let m = v.linked in let f = ok.ripe.spent in absurd (cc) in
+      let off : IsVertexIn sizes (node_in sizes past e.life.index) j → ⊥ = λ v. let m = v.linked in let f = ok.ripe.stamped.spent.spent in absurd (cc) in
       untouched sizes past e w (state_by StoreFree sizes e (state sizes past)) j a (λ h. omega (arith, ok.place, h, low))
       (λ x v. ((λ h. let same : x ≡ e.life.index = omega (arith, ok.place, h) in off (subst (λ (y : ℕ). IsVertexIn sizes (node_in sizes past y) j) same v)), (λ h. omega (arith, ok.place, h))))
       (λ x. put_off sizes (state sizes past) e.life.index _ j x off (λ v. off record { linked = v.linked; vertex = v.vertex; of_bucket = v.of_bucket }))

@@ -195,7 +195,7 @@ part_step sizes z x y past e kept LinkEdge ok ne c = part_put x y e.life.index (
 part_step sizes z x y past e kept UnlinkEdge ok ne c =
     let apart : y ≢ e.life.index = λ same. let l = ap (λ (i : ℕ). (node_in sizes past i).mode) same ∙ ok.linked.linked in let t = c.spent (subst IsUsed (sym l) tt) in absurd (cc) in
     part_put x y e.life.index (state sizes past) (state_by UnlinkEdge sizes e (state sizes past)) _ (unlinked_keeps e.life.index y ((state sizes past).edges x) c.on apart) refl (λ _ _. refl) c
-part_step sizes z x y past e kept StoreFree ok ne c = part_put x y e.life.index (state sizes past) (state_by StoreFree sizes e (state sizes past)) _ c.on refl (λ _ _. ok.ripe.spent) c
+part_step sizes z x y past e kept StoreFree ok ne c = part_put x y e.life.index (state sizes past) (state_by StoreFree sizes e (state sizes past)) _ c.on refl (λ _ _. ok.ripe.stamped.spent.spent) c
 part_step sizes z x y past e kept PushFree ok ne c = part_put x y e.life.index (state sizes past) (state_by PushFree sizes e (state sizes past)) _ c.on refl (λ _ u. absurd u) c
 part_step sizes z x y past e kept MarkEdge ok ne c = part_handed x y (node_in sizes past e.life.index).source.index (marked_state (state sizes past) e.life.index)
     (part_put x y e.life.index (state sizes past) (marked_state (state sizes past) e.life.index) _ c.on refl (λ same u. ap (λ (i : ℕ). (node_in sizes past i).mode) (sym same) ∙ c.spent (subst (λ (i : ℕ). IsUsed (node_in sizes past i).mode) (sym same) u)) c)

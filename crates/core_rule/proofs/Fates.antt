@@ -287,8 +287,8 @@ module _ (sizes : Sizes) (z : IsLayout sizes) (past : List Event) (e : Event) (k
   present_step MarkVertex is allowed to x there c = present_mark x c (skips MarkVertex is refl x)
   present_step UnlinkVertex is allowed to x there c = present_put x _ c (λ same. unlinked_end UnlinkVertex is refl x c same allowed.life _ refl refl refl)
   present_step UnlinkEdge is allowed to x there c = present_put x _ c (λ same. unlinked_end UnlinkEdge is refl x c same allowed.life _ refl refl refl)
-  present_step StoreFree is allowed to x there c = present_put x _ c (λ same. absurd (c.spent (mode_at x Spent same allowed.ripe.spent)))
-  present_step PushFree is allowed to x there c = present_put x _ c (λ same. absurd (c.spent (mode_at x Spent same allowed.ripe.spent)))
+  present_step StoreFree is allowed to x there c = present_put x _ c (λ same. absurd (c.spent (mode_at x Spent same allowed.ripe.stamped.spent.spent)))
+  present_step PushFree is allowed to x there c = present_put x _ c (λ same. absurd (c.spent (mode_at x Spent same allowed.ripe.stamped.spent.spent)))
   present_step MarkEdge is allowed to x there c = present_marked x there (node_in sizes past e.life.index).source.index to (skips MarkEdge is refl x) c
   present_step FreezeEdge is allowed to x there c = present_marked x there (node_in sizes past e.life.index).source.index to (skips FreezeEdge is refl x) c
   present_step FreezeHead is allowed to x there c = present_closed x there to (skips FreezeHead is refl x) c

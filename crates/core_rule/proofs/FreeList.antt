@@ -70,7 +70,7 @@ gives_back sizes past e ok w a =
     let v : Node = record (s.node e.life.index) { mode = Free } in
     record {
       there = ok.there;
-      used = ap is_free ok.ripe.spent;
+      used = ap is_free ok.ripe.stamped.spent.spent;
       ready = ok.ready;
       word = subst (λ (j : ℕ). w j ≡ e.word) ok.place (a.here (omega (arith, ok.place))) ∙ ok.word;
       given = ap (λ (u : Node). is_free u.mode) (put_same e.life.index v s.node);
@@ -138,7 +138,7 @@ other_kinds sizes past e FreezeEdge ok w a _ = let t = ok.linked.linked in elsew
     (λ x m. handed_stays (marked_state (state sizes past) e.life.index) (node_in sizes past e.life.index).source.index x (put_stays (state sizes past) e.life.index _ (λ (m : (node_in sizes past e.life.index).mode ≡ Free). absurd (cc)) x m))
     (λ x m. put_was (state sizes past) e.life.index (record (node_in sizes past e.life.index) { marked = true }) (λ (m : (node_in sizes past e.life.index).mode ≡ Free). absurd (cc)) x (handed_was (marked_state (state sizes past) e.life.index) (node_in sizes past e.life.index).source.index x m)) refl refl
 other_kinds sizes past e FreezeHead ok w a _ = elsewhere sizes past e (state_by FreezeHead sizes e (state sizes past)) w a (omega (arith, ok.place)) (λ x h m. omega (arith, ok.place, h)) (λ x m. handed_stays (closed_state (state sizes past) e.life.index) e.life.index x m) (λ x m. handed_was (closed_state (state sizes past) e.life.index) e.life.index x m) refl refl
-other_kinds sizes past e StoreFree ok w a _ = let t = ok.ripe.spent in elsewhere sizes past e (state_by StoreFree sizes e (state sizes past)) w a (omega (arith, ok.place))
+other_kinds sizes past e StoreFree ok w a _ = let t = ok.ripe.stamped.spent.spent in elsewhere sizes past e (state_by StoreFree sizes e (state sizes past)) w a (omega (arith, ok.place))
     (λ x h m. let u = same_place sizes past e.life.index x e.place Spent h ok.place t in absurd (cc)) (put_stays (state sizes past) e.life.index _ (λ m. absurd (cc))) (put_was (state sizes past) e.life.index _ (λ m. absurd (cc))) refl refl
 other_kinds sizes past e k ok w a _ = elsewhere sizes past e (state_by k sizes e (state sizes past)) w a (λ h. omega (arith, ok.place, h)) (λ x h m. omega (arith, ok.place, ok.there, h)) (λ x m. m) (λ x m. m) refl refl
 

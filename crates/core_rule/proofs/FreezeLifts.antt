@@ -45,9 +45,9 @@ use Rattle.core_rule.proofs.Steps.{put_case, put_other, handed_case, marked_stat
 -- a ripe node's link is stored for the free list
 pub lift_store_free : (v : View) → IsLayout v.sizes → (next : ℕ) (x : Life) → MayStoreFree v next x → (journal : List Event) → Reaches v journal → IsStoreFree v.sizes journal (store_free_event v next x)
 lift_store_free v z next x m journal r =
-    let s = own_spent v z journal r x.index m.life.there record { spent = m.ripe.spent; mine = m.ripe.mine } in
+    let s = own_spent v z journal r x.index m.life.there m.ripe.stamped.spent in
     let tag : (node_in v.sizes journal x.index).tag ≡ (node_in v.sizes v.front x.index).tag = ap (λ (u : Nodes). u.tag) s.node in
-    let unfresh : (node_in v.sizes v.front x.index).mode ≢ Fresh = λ h. let t = m.ripe.spent in absurd (cc) in
+    let unfresh : (node_in v.sizes v.front x.index).mode ≢ Fresh = λ h. let t = m.ripe.stamped.spent.spent in absurd (cc) in
     record {
       life = m.life.tag ∙ sym tag;
       there = m.life.there;
@@ -170,9 +170,9 @@ module _ (sizes : Sizes) (z : IsLayout sizes) (caller last place x : ℕ) (sourc
     -- nor is it given back by another caller
     not_pushed : (e : Event) → IsPushFree sizes journal e → e.caller ≢ caller → is_listed (state sizes journal) source.index x ≡ true → x ≢ e.life.index
     not_pushed e ok other on same =
-        let spent_x : (node_in sizes journal x).mode ≡ Spent = ap (λ (i : ℕ). (node_in sizes journal i).mode) same ∙ ok.ripe.spent in
+        let spent_x : (node_in sizes journal x).mode ≡ Spent = ap (λ (i : ℕ). (node_in sizes journal i).mode) same ∙ ok.ripe.stamped.spent.spent in
         let who = ((spenders sizes z journal kept).edge source.index x source_now.used source_now.vertex on spent_x).1 in
-        other (sym ok.ripe.mine ∙ (ap (λ (i : ℕ). (node_in sizes journal i).who) (sym same) ∙ (who ∙ spent_now.mine)))
+        other (sym ok.ripe.stamped.spent.mine ∙ (ap (λ (i : ℕ). (node_in sizes journal i).who) (sym same) ∙ (who ∙ spent_now.mine)))
 
     module _ (tag : ℕ) (e : Event) (other : e.caller ≢ caller) (c : IsBehind tag source.index x (state sizes journal)) where
       is_in : IsIn tag (node_in sizes journal x)

@@ -161,11 +161,11 @@ module _ (sizes : Sizes) (z : IsLayout sizes) (past : List Event) (e : Event) (k
   not_stored : e.kind ≡ StoreFree → stands e.life.index ((state sizes past).edges x) ≡ true → ⊥
   not_stored is on =
       let ripe = (subst (λ (k : Kind). AllowedAs k sizes past e) is ok.as_kind).ripe in
-      let who = ((spenders sizes z past kept).edge x e.life.index (subst IsUsed (sym c.spent) tt) c.vertex on ripe.spent).1 in
-      other (sym ripe.mine ∙ (who ∙ c.mine))
+      let who = ((spenders sizes z past kept).edge x e.life.index (subst IsUsed (sym c.spent) tt) c.vertex on ripe.stamped.spent.spent).1 in
+      other (sym ripe.stamped.spent.mine ∙ (who ∙ c.mine))
 
   not_pushed : e.kind ≡ PushFree → x ≢ e.life.index
-  not_pushed is same = other (sym (subst (λ (k : Kind). AllowedAs k sizes past e) is ok.as_kind).ripe.mine ∙ (ap (λ (j : ℕ). (node_in sizes past j).who) (sym same) ∙ c.mine))
+  not_pushed is same = other (sym (subst (λ (k : Kind). AllowedAs k sizes past e) is ok.as_kind).ripe.stamped.spent.mine ∙ (ap (λ (j : ℕ). (node_in sizes past j).who) (sym same) ∙ c.mine))
 
 -- while others act, the list of a vertex that the caller spent stays one
 pub own_list_stays : (sizes : Sizes) → IsLayout sizes → (caller last x : ℕ) (front journal : List Event) → IsPrefix front journal → IsKept sizes journal → IsQuiet journal caller last → last ≤ length front → IsSpentVertex sizes front caller x → KeepsList sizes front x

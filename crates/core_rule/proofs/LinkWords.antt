@@ -104,7 +104,7 @@ link_words_step sizes z past e kept c PopFree by ok w a =
     }
 link_words_step sizes z past e kept c PushFree by ok w a =
     record {
-      each = at_both sizes past e w _ (λ h. omega (arith, ok.place, h)) a (as_free sizes _ _ refl (let d = (c.each e.life.index ok.there).spent ok.ripe.spent in record { life = d.life; marked = d.marked }))
+      each = at_both sizes past e w _ (λ h. omega (arith, ok.place, h)) a (as_free sizes _ _ refl (let d = (c.each e.life.index ok.there).spent ok.ripe.stamped.spent.spent in record { life = d.life; marked = d.marked }))
           (λ x t. link_same sizes _ _ _ (a.else (link_at sizes x) (λ h. omega (arith, ok.place, h))) (c.each x t));
     }
 link_words_step sizes z past e kept c StorePrivate by ok w a = record {
@@ -156,7 +156,7 @@ link_words_step sizes z past e kept c FreezeHead by ok w a =
 link_words_step sizes z past e kept c StoreFree by ok w a =
     let low : ok.next < 16777216 = omega (arith, ok.next_there, z.few_nodes) in
     record {
-      each = at_link sizes past e w _ c a ok.there ok.place (as_spent sizes _ _ ok.ripe.spent record { life = omega (arith, ok.word, low); marked = omega (arith, ok.word, low) } ((c.each e.life.index ok.there).marked ok.ripe.spent)
+      each = at_link sizes past e w _ c a ok.there ok.place (as_spent sizes _ _ ok.ripe.stamped.spent.spent record { life = omega (arith, ok.word, low); marked = omega (arith, ok.word, low) } ((c.each e.life.index ok.there).marked ok.ripe.stamped.spent.spent)
           (λ _. ⊎_elim (λ h. inl (omega (arith, ok.word, low, h))) (λ h. inr (omega (arith, ok.word, low, h))) ok.next_there));
     }
 link_words_step sizes z past e kept c _ by ok w a = record { each = λ x t. link_same sizes _ _ _ (a.else (link_at sizes x) (λ h. omega (arith, ok.place, ok.there, h))) (c.each x t) }

@@ -494,7 +494,7 @@ module _ (sizes : Sizes) (z : IsLayout sizes) (past : List Event) (e : Event) (k
     member = λ x o h. let f = ok.list x o.there h in absurd (o.unfinished record { head = f.head; each = f.edges });
     used = λ u v. inl (u, v);
     unstored = λ u v f. let g = ok.own_list v in absurd (f record { head = g.head; each = g.edges });
-    linked = λ m _. let t = ok.ripe.spent in absurd (cc);
+    linked = λ m _. let t = ok.ripe.stamped.spent.spent in absurd (cc);
     still = λ o. (o.used, o.vertex);
   }
 

@@ -176,8 +176,8 @@ no_live s i v none tag k h = absurd (none h.linked)
 
 vertices_step : (sizes : Sizes) → IsLayout sizes → KeepsIn sizes (λ (j : List Event) (s : State) (w : ℕ → ℕ). LiveVertices j s)
 vertices_step sizes z past e kept c PopFree is ok w a = live_still past e (state sizes past) _ (ap links_vertex is) (ap unlinks is) c (put_live (state sizes past) e.life.index _ (no_live (state sizes past) e.life.index _ (λ m. let f = (taken sizes z past e kept ok).free in absurd (cc))))
-vertices_step sizes z past e kept c PushFree is ok w a = live_still past e (state sizes past) _ (ap links_vertex is) (ap unlinks is) c (put_live (state sizes past) e.life.index _ (no_live (state sizes past) e.life.index _ (λ m. let f = ok.ripe.spent in absurd (cc))))
-vertices_step sizes z past e kept c StoreFree is ok w a = live_still past e (state sizes past) _ (ap links_vertex is) (ap unlinks is) c (put_live (state sizes past) e.life.index _ (no_live (state sizes past) e.life.index _ (λ m. let f = ok.ripe.spent in absurd (cc))))
+vertices_step sizes z past e kept c PushFree is ok w a = live_still past e (state sizes past) _ (ap links_vertex is) (ap unlinks is) c (put_live (state sizes past) e.life.index _ (no_live (state sizes past) e.life.index _ (λ m. let f = ok.ripe.stamped.spent.spent in absurd (cc))))
+vertices_step sizes z past e kept c StoreFree is ok w a = live_still past e (state sizes past) _ (ap links_vertex is) (ap unlinks is) c (put_live (state sizes past) e.life.index _ (no_live (state sizes past) e.life.index _ (λ m. let f = ok.ripe.stamped.spent.spent in absurd (cc))))
 vertices_step sizes z past e kept c LinkEdge is ok w a = live_still past e (state sizes past) _ (ap links_vertex is) (ap unlinks is) c (put_live (state sizes past) e.life.index _ (no_live (state sizes past) e.life.index _ (λ m. let f = ok.fresh.fresh in absurd (cc))))
 vertices_step sizes z past e kept c MarkVertex is ok w a = live_still past e (state sizes past) _ (ap links_vertex is) (ap unlinks is) c (put_live (state sizes past) e.life.index _ (λ tag k h. record { life = h.life; linked = h.linked; vertex = h.vertex; key_is = h.key_is }))
 vertices_step sizes z past e kept c MarkEdge is ok w a = live_still past e (state sizes past) _ (ap links_vertex is) (ap unlinks is) c

@@ -66,8 +66,8 @@ edges_cut sizes z past e kept v l m life c = record { live = λ x link h f. by x
 
 edges_step : (sizes : Sizes) → IsLayout sizes → KeepsIn sizes (λ (j : List Event) (s : State) (w : ℕ → ℕ). LiveEdges j s)
 edges_step sizes z past e kept c PopFree is ok w a = edges_still past e (state sizes past) _ (ap links_edge is) (ap marks_edge is) c (put_edge past (state sizes past) e.life.index _ (λ x _ _ h. absurd (let m = h.linked in let f = (taken sizes z past e kept ok).free in cc)))
-edges_step sizes z past e kept c PushFree is ok w a = edges_still past e (state sizes past) _ (ap links_edge is) (ap marks_edge is) c (put_edge past (state sizes past) e.life.index _ (λ x _ _ h. absurd (let m = h.linked in let f = ok.ripe.spent in cc)))
-edges_step sizes z past e kept c StoreFree is ok w a = edges_still past e (state sizes past) _ (ap links_edge is) (ap marks_edge is) c (put_edge past (state sizes past) e.life.index _ (λ x _ _ h. absurd (let m = h.linked in let f = ok.ripe.spent in cc)))
+edges_step sizes z past e kept c PushFree is ok w a = edges_still past e (state sizes past) _ (ap links_edge is) (ap marks_edge is) c (put_edge past (state sizes past) e.life.index _ (λ x _ _ h. absurd (let m = h.linked in let f = ok.ripe.stamped.spent.spent in cc)))
+edges_step sizes z past e kept c StoreFree is ok w a = edges_still past e (state sizes past) _ (ap links_edge is) (ap marks_edge is) c (put_edge past (state sizes past) e.life.index _ (λ x _ _ h. absurd (let m = h.linked in let f = ok.ripe.stamped.spent.spent in cc)))
 edges_step sizes z past e kept c LinkVertex is ok w a = edges_still past e (state sizes past) _ (ap links_edge is) (ap marks_edge is) c (put_edge past (state sizes past) e.life.index _ (λ x _ _ h. absurd (let m = h.linked in let f = ok.fresh.fresh in cc)))
 edges_step sizes z past e kept c MarkVertex is ok w a = edges_still past e (state sizes past) _ (ap links_edge is) (ap marks_edge is) c (put_edge past (state sizes past) e.life.index _ (λ x _ _ h. absurd (let m = h.edge in let f = ok.linked.vertex in cc)))
 edges_step sizes z past e kept c UnlinkVertex is ok w a = edges_still past e (state sizes past) _ (ap links_edge is) (ap marks_edge is) c (put_edge past (state sizes past) e.life.index _ (λ x _ _ h. absurd (let m = h.edge in let f = ok.linked.vertex in cc)))

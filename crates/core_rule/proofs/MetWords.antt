@@ -26,7 +26,7 @@ met_used sizes journal caller x m = by (node_in sizes journal x).mode m.free m.f
 
 -- a ripe node is met in no open pass
 pub ripe_not_met : (sizes : Sizes) → IsLayout sizes → (journal : List Event) → IsKept sizes journal → (caller i x : ℕ) → IsRipe sizes journal caller x → HasMet sizes journal i x → ⊥
-ripe_not_met sizes z journal kept caller i x r m = omega (arith, ripe_before sizes z journal kept caller x i r m.pass, m.spent r.spent)
+ripe_not_met sizes z journal kept caller i x r m = omega (arith, ripe_before sizes z journal kept caller x i r m.pass, m.spent r.stamped.spent.spent)
 
 module _ (sizes : Sizes) (z : IsLayout sizes) (front journal : List Event) (kept : IsKept sizes journal) (caller x : ℕ) (p : IsSamePass sizes front journal caller) (m : HasMet sizes front caller x) where
   -- it's met still, in its life

@@ -68,7 +68,7 @@ module _ (sizes : Sizes) (z : IsLayout sizes) (past : List Event) (e : Event) (k
   turn_by StoreFree ok x = turn_put e.life.index _ x (λ same. turn_same e.life.index x same)
   turn_by UnlinkVertex ok x = turn_cut e.life.index x _ ok.linked.linked ok.unmarked ok.dead refl refl
   turn_by UnlinkEdge ok x = turn_cut e.life.index x _ ok.linked.linked ok.unmarked ok.dead refl refl
-  turn_by PushFree ok x = turn_put e.life.index _ x (λ same. frees (mode_of x e.life.index Spent same ok.ripe.spent) refl)
+  turn_by PushFree ok x = turn_put e.life.index _ x (λ same. frees (mode_of x e.life.index Spent same ok.ripe.stamped.spent.spent) refl)
   turn_by MarkEdge ok x = turn_marked e.life.index (node_in sizes past e.life.index).source.index x ok.word (omega (arith, ok.place, ok.there))
   turn_by FreezeEdge ok x = turn_marked e.life.index (node_in sizes past e.life.index).source.index x ok.word (omega (arith, ok.place, ok.there))
   turn_by FreezeHead ok x = handed_case (λ (u : Node). Turn sizes past w x u) (closed_state (state sizes past) e.life.index) e.life.index x (stays refl refl refl refl) (λ m _ _. spends m refl refl (marks_lead ok.word (omega (arith, ok.place, ok.there)) (link_at sizes x)))

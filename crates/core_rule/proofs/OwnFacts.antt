@@ -75,8 +75,8 @@ module _ (sizes : Sizes) (z : IsLayout sizes) (past : List Event) (e : Event) (k
   nowhere_near UnlinkEdge ok = let ne = not_used (node_in sizes past e.life.index).source.index ok.source.used in (node_else UnlinkEdge sizes e (state sizes past) x f.fresh (not_linked e.life.index ok.linked.linked), ((λ h. omega (arith, ok.place, h)), (λ h. not_linked x (ok.before_linked x (sym h)).linked.linked refl), (λ h. ne (omega (arith, ok.place, h))), (λ h. omega (arith, ok.place, h))))
   nowhere_near FreezeHead ok = let ne = not_spent e.life.index ok.spent.spent in (node_else FreezeHead sizes e (state sizes past) x f.fresh ne, ((λ h. omega (arith, ok.place, h)), (λ h. omega (arith, ok.place, h)), (λ h. ne (omega (arith, ok.place, h))), (λ h. omega (arith, ok.place, h))))
   nowhere_near FreezeEdge ok = let ne = not_linked e.life.index ok.linked.linked in (node_else FreezeEdge sizes e (state sizes past) x f.fresh ne, ((λ h. omega (arith, ok.place, h)), (λ h. ne (omega (arith, ok.place, h))), (λ h. omega (arith, ok.place, h)), (λ h. omega (arith, ok.place, h))))
-  nowhere_near StoreFree ok = let ne = not_spent e.life.index ok.ripe.spent in (node_else StoreFree sizes e (state sizes past) x f.fresh ne, ((λ h. omega (arith, ok.place, h)), (λ h. ne (omega (arith, ok.place, h))), (λ h. omega (arith, ok.place, h)), (λ h. omega (arith, ok.place, h))))
-  nowhere_near PushFree ok = let ne = not_spent e.life.index ok.ripe.spent in (node_else PushFree sizes e (state sizes past) x f.fresh ne, ((λ h. omega (arith, ok.place, h)), (λ h. omega (arith, ok.place, h)), (λ h. omega (arith, ok.place, h)), (λ h. omega (arith, ok.place, h))))
+  nowhere_near StoreFree ok = let ne = not_spent e.life.index ok.ripe.stamped.spent.spent in (node_else StoreFree sizes e (state sizes past) x f.fresh ne, ((λ h. omega (arith, ok.place, h)), (λ h. ne (omega (arith, ok.place, h))), (λ h. omega (arith, ok.place, h)), (λ h. omega (arith, ok.place, h))))
+  nowhere_near PushFree ok = let ne = not_spent e.life.index ok.ripe.stamped.spent.spent in (node_else PushFree sizes e (state sizes past) x f.fresh ne, ((λ h. omega (arith, ok.place, h)), (λ h. omega (arith, ok.place, h)), (λ h. omega (arith, ok.place, h)), (λ h. omega (arith, ok.place, h))))
   nowhere_near _ ok = (refl, ((λ h. omega (arith, ok.place, ok.there, h)), (λ h. omega (arith, ok.place, ok.there, h)), (λ h. omega (arith, ok.place, ok.there, h)), (λ h. omega (arith, ok.place, ok.there, h))))
 
 -- a node that is fresh with a caller stays so, and so do all of its words

@@ -40,14 +40,15 @@ own_spent v z journal r x there s = spent_stays v.sizes z v.number v.last x ther
 -- a node that's ripe stays so
 pub still_ripe : (v : View) (journal : List Event) → Reaches v journal → (x : ℕ) → IsKeptSpent v.sizes v.front journal x → IsRipe v.sizes v.front v.number x → IsRipe v.sizes journal v.number x
 still_ripe v journal r x s ripe = record {
-  spent = ap (λ (u : Node). u.mode) s.node ∙ ripe.spent;
-  mine = ap (λ (u : Node). u.who) s.node ∙ ripe.mine;
   stamp = ripe.stamp;
-  when = ripe.when;
-  when_before = prefix_trans ripe.when v.front journal ripe.when_before r.front;
-  when_spent = ripe.when_spent;
-  when_life = ripe.when_life ∙ sym (ap (λ (u : Node). u.tag) s.node);
-  when_epoch = ripe.when_epoch;
+  stamped = record {
+    spent = record { spent = ap (λ (u : Node). u.mode) s.node ∙ ripe.stamped.spent.spent; mine = ap (λ (u : Node). u.who) s.node ∙ ripe.stamped.spent.mine };
+    when = ripe.stamped.when;
+    when_before = prefix_trans ripe.stamped.when v.front journal ripe.stamped.when_before r.front;
+    when_spent = ripe.stamped.when_spent;
+    when_life = ripe.stamped.when_life ∙ sym (ap (λ (u : Node). u.tag) s.node);
+    when_epoch = ripe.stamped.when_epoch;
+  };
   shown = ripe.shown;
   shown_before = prefix_trans ripe.shown v.front journal ripe.shown_before r.front;
   shown_epoch = ripe.shown_epoch;
@@ -85,7 +86,7 @@ lift_store v z x field word m journal r =
 -- a ripe node is given back
 pub lift_push : (v : View) → IsLayout v.sizes → (seen : ℕ) (x : Life) → MayPushFree v seen x → (journal : List Event) → Reaches v journal → word_at v.sizes journal (free_at v.sizes) ≡ seen → IsPushFree v.sizes journal (push_event v seen x)
 lift_push v z seen x m journal r is =
-    let s = own_spent v z journal r x.index m.life.there record { spent = m.ripe.spent; mine = m.ripe.mine } in
+    let s = own_spent v z journal r x.index m.life.there m.ripe.stamped.spent in
     record {
       life = m.life.tag ∙ sym (ap (λ (u : Node). u.tag) s.node);
       there = m.life.there;

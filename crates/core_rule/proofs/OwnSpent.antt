@@ -56,8 +56,8 @@ module _ (sizes : Sizes) (z : IsLayout sizes) (past : List Event) (e : Event) (k
       let ne = not_linked e.life.index ok.linked.linked in
       record { node = handed_else (marked_state (state sizes past) e.life.index) (node_in sizes past e.life.index).source.index (put_other e.life.index _ (state sizes past).node x ne); frozen = refl; key = λ h. omega (arith, ok.place, h); link = λ h. ne (omega (arith, ok.place, h)) }
   left_by FreezeHead ok = record { node = handed_else (closed_state (state sizes past) e.life.index) e.life.index refl; frozen = put_other e.life.index true (state sizes past).frozen x (apart ok.spent.mine); key = λ h. omega (arith, ok.place, h); link = λ h. omega (arith, ok.place, h) }
-  left_by StoreFree ok = let ne = apart ok.ripe.mine in record { node = put_other e.life.index _ (state sizes past).node x ne; frozen = refl; key = λ h. omega (arith, ok.place, h); link = λ h. ne (omega (arith, ok.place, h)) }
-  left_by PushFree ok = record { node = put_other e.life.index _ (state sizes past).node x (apart ok.ripe.mine); frozen = refl; key = λ h. omega (arith, ok.place, h); link = λ h. omega (arith, ok.place, h) }
+  left_by StoreFree ok = let ne = apart ok.ripe.stamped.spent.mine in record { node = put_other e.life.index _ (state sizes past).node x ne; frozen = refl; key = λ h. omega (arith, ok.place, h); link = λ h. ne (omega (arith, ok.place, h)) }
+  left_by PushFree ok = record { node = put_other e.life.index _ (state sizes past).node x (apart ok.ripe.stamped.spent.mine); frozen = refl; key = λ h. omega (arith, ok.place, h); link = λ h. omega (arith, ok.place, h) }
   left_by _ ok = record { node = refl; frozen = refl; key = λ h. omega (arith, ok.place, ok.there, h); link = λ h. omega (arith, ok.place, ok.there, h) }
 
 -- a node that is spent with a caller stays so, with its key and its link

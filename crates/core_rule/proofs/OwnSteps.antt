@@ -235,7 +235,7 @@ module _ (sizes : Sizes) (past : List Event) (e : Event) (kept : IsKept sizes (p
       let v : Node = record (node_in sizes past e.life.index) { stored = true } in
       let h = node_as StoreFree is v (put_same e.life.index v (state sizes past).node) in
       let ripe = (allowed_as StoreFree is).ripe in
-      (record { spent = ap (λ (n : Node). n.mode) h ∙ ripe.spent; mine = ap (λ (n : Node). n.who) h ∙ ripe.mine }, ap (λ (n : Node). n.stored) h)
+      (record { spent = ap (λ (n : Node). n.mode) h ∙ ripe.stamped.spent.spent; mine = ap (λ (n : Node). n.who) h ∙ ripe.stamped.spent.mine }, ap (λ (n : Node). n.stored) h)
 
   -- a pass is opened and closed
   pub pass_opened : e.kind ≡ Announce → ((pass_in sizes (past ++ e ∷ []) e.caller).is_open ≡ true) × ((pass_in sizes (past ++ e ∷ []) e.caller).since ≡ length past)

@@ -91,13 +91,13 @@ module _ (sizes : Sizes) (z : IsLayout sizes) (x tag end epoch : ℕ) where
 -- the stamp of a ripe node and the epoch that was shown, as facts of now
 pub ripe_now : (sizes : Sizes) → IsLayout sizes → (past : List Event) (caller x : ℕ) → IsKept sizes past → IsRipe sizes past caller x → (node_in sizes past x).epoch + 2 ≤ (state sizes past).epoch
 ripe_now sizes z past caller x kept r =
-    let m : (node_in sizes r.when x).mode ≡ Spent = r.when_spent in
-    let then = kept_front sizes r.when past r.when_before kept in
-    let tag = (node_in sizes r.when x).tag in
-    let epoch = (node_in sizes r.when x).epoch in
-    let over : IsOver tag 0 epoch (node_in sizes past x) = holds_onward sizes (λ (s : State) (w : ℕ → ℕ). IsOver tag 0 epoch (s.node x)) (over_step sizes z x tag 0 epoch) r.when past r.when_before kept
+    let m : (node_in sizes r.stamped.when x).mode ≡ Spent = r.stamped.when_spent in
+    let then = kept_front sizes r.stamped.when past r.stamped.when_before kept in
+    let tag = (node_in sizes r.stamped.when x).tag in
+    let epoch = (node_in sizes r.stamped.when x).epoch in
+    let over : IsOver tag 0 epoch (node_in sizes past x) = holds_onward sizes (λ (s : State) (w : ℕ → ℕ). IsOver tag 0 epoch (s.node x)) (over_step sizes z x tag 0 epoch) r.stamped.when past r.stamped.when_before kept
     (record { low = omega arith; fresh = λ _ h. absurd (cc); linked = λ _ h. absurd (cc); epoch_is = λ _. refl }) in
-    omega (arith, over.epoch_is (sym r.when_life), (ended sizes r.when then).epoch x, (numbers sizes r.when then).epoch, r.when_epoch, r.shown_epoch, epoch_was sizes r.shown past r.shown_before kept)
+    omega (arith, over.epoch_is (sym r.stamped.when_life), (ended sizes r.stamped.when then).epoch x, (numbers sizes r.stamped.when then).epoch, r.stamped.when_epoch, r.shown_epoch, epoch_was sizes r.shown past r.shown_before kept)
 
 spent_is : (m : Mode) → is_spent m ≡ true → m ≡ Spent
 spent_is Spent h = refl

@@ -15,22 +15,10 @@ use Rattle.core_rule.proofs.OwnSteps.{spent_still}
 use Rattle.core_rule.proofs.Placed.{used_there}
 
 pub stamped : (sizes : Sizes) (journal : List Event) (caller x stamp : ℕ) → IsSpentWith sizes journal caller x → word_at sizes journal (epoch_at sizes) ≤ stamp → IsStamped sizes journal caller x stamp
-stamped sizes journal caller x stamp s low = record { spent = s.spent; mine = s.mine; when = journal; when_before = prefix_refl journal; when_spent = s.spent; when_life = refl; when_epoch = low }
+stamped sizes journal caller x stamp s low = record { spent = s; when = journal; when_before = prefix_refl journal; when_spent = s.spent; when_life = refl; when_epoch = low }
 
 pub ripens : (sizes : Sizes) (shown journal : List Event) → IsPrefix shown journal → (caller x stamp : ℕ) → IsStamped sizes journal caller x stamp → stamp + 2 ≤ word_at sizes shown (epoch_at sizes) → IsRipe sizes journal caller x
-ripens sizes shown journal p caller x stamp s high = record {
-  spent = s.spent;
-  mine = s.mine;
-  stamp = stamp;
-  when = s.when;
-  when_before = s.when_before;
-  when_spent = s.when_spent;
-  when_life = s.when_life;
-  when_epoch = s.when_epoch;
-  shown = shown;
-  shown_before = p;
-  shown_epoch = high;
-}
+ripens sizes shown journal p caller x stamp s high = record { stamp = stamp; stamped = s; shown = shown; shown_before = p; shown_epoch = high }
 
 -- a node is spent with the caller still, in its life
 record IsStill (sizes : Sizes) (front journal : List Event) (caller x : ℕ) : Type 0 where
@@ -41,8 +29,7 @@ record IsStill (sizes : Sizes) (front journal : List Event) (caller x : ℕ) : T
 module _ (sizes : Sizes) (front journal : List Event) (caller x : ℕ) (s : IsStill sizes front journal caller x) where
   still_stamped : (stamp : ℕ) → IsStamped sizes front caller x stamp → IsStamped sizes journal caller x stamp
   still_stamped stamp t = record {
-    spent = s.spent.spent;
-    mine = s.spent.mine;
+    spent = s.spent;
     when = t.when;
     when_before = prefix_trans t.when front journal t.when_before s.before;
     when_spent = t.when_spent;
@@ -50,11 +37,8 @@ module _ (sizes : Sizes) (front journal : List Event) (caller x : ℕ) (s : IsSt
     when_epoch = t.when_epoch;
   }
 
-  as_stamped : (r : IsRipe sizes front caller x) → IsStamped sizes front caller x r.stamp
-  as_stamped r = record { spent = r.spent; mine = r.mine; when = r.when; when_before = r.when_before; when_spent = r.when_spent; when_life = r.when_life; when_epoch = r.when_epoch }
-
   still_ripe : IsRipe sizes front caller x → IsRipe sizes journal caller x
-  still_ripe r = ripens sizes r.shown journal (prefix_trans r.shown front journal r.shown_before s.before) caller x r.stamp (still_stamped r.stamp (as_stamped r)) r.shown_epoch
+  still_ripe r = ripens sizes r.shown journal (prefix_trans r.shown front journal r.shown_before s.before) caller x r.stamp (still_stamped r.stamp r.stamped) r.shown_epoch
 
 -- while others act
 still_beyond : (sizes : Sizes) → IsLayout sizes → (caller last x : ℕ) (front journal : List Event) → IsPrefix front journal → IsKept sizes journal → IsQuiet journal caller last → last ≤ length front → IsSpentWith sizes front caller x → IsStill sizes front journal caller x
@@ -70,13 +54,13 @@ still_behind sizes z past e kept caller x other s =
     record { before = prefix_snoc past e; spent = r.0; tag = r.1 }
 
 pub stamp_beyond : (sizes : Sizes) → IsLayout sizes → (caller last x stamp : ℕ) (front journal : List Event) → IsPrefix front journal → IsKept sizes journal → IsQuiet journal caller last → last ≤ length front → IsStamped sizes front caller x stamp → IsStamped sizes journal caller x stamp
-stamp_beyond sizes z caller last x stamp front journal p kept quiet old t = still_stamped sizes front journal caller x (still_beyond sizes z caller last x front journal p kept quiet old record { spent = t.spent; mine = t.mine }) stamp t
+stamp_beyond sizes z caller last x stamp front journal p kept quiet old t = still_stamped sizes front journal caller x (still_beyond sizes z caller last x front journal p kept quiet old t.spent) stamp t
 
 pub stamp_behind : (sizes : Sizes) → IsLayout sizes → (past : List Event) (e : Event) → IsKept sizes (past ++ e ∷ []) → (caller x stamp : ℕ) → (e.kind ≡ PushFree → e.life.index ≢ x) → IsStamped sizes past caller x stamp → IsStamped sizes (past ++ e ∷ []) caller x stamp
-stamp_behind sizes z past e kept caller x stamp other t = still_stamped sizes past (past ++ e ∷ []) caller x (still_behind sizes z past e kept caller x other record { spent = t.spent; mine = t.mine }) stamp t
+stamp_behind sizes z past e kept caller x stamp other t = still_stamped sizes past (past ++ e ∷ []) caller x (still_behind sizes z past e kept caller x other t.spent) stamp t
 
 pub ripe_beyond : (sizes : Sizes) → IsLayout sizes → (caller last x : ℕ) (front journal : List Event) → IsPrefix front journal → IsKept sizes journal → IsQuiet journal caller last → last ≤ length front → IsRipe sizes front caller x → IsRipe sizes journal caller x
-ripe_beyond sizes z caller last x front journal p kept quiet old r = still_ripe sizes front journal caller x (still_beyond sizes z caller last x front journal p kept quiet old record { spent = r.spent; mine = r.mine }) r
+ripe_beyond sizes z caller last x front journal p kept quiet old r = still_ripe sizes front journal caller x (still_beyond sizes z caller last x front journal p kept quiet old r.stamped.spent) r
 
 pub ripe_behind : (sizes : Sizes) → IsLayout sizes → (past : List Event) (e : Event) → IsKept sizes (past ++ e ∷ []) → (caller x : ℕ) → (e.kind ≡ PushFree → e.life.index ≢ x) → IsRipe sizes past caller x → IsRipe sizes (past ++ e ∷ []) caller x
-ripe_behind sizes z past e kept caller x other r = still_ripe sizes past (past ++ e ∷ []) caller x (still_behind sizes z past e kept caller x other record { spent = r.spent; mine = r.mine }) r
+ripe_behind sizes z past e kept caller x other r = still_ripe sizes past (past ++ e ∷ []) caller x (still_behind sizes z past e kept caller x other r.stamped.spent) r

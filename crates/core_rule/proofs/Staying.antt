@@ -61,7 +61,7 @@ module _ (n : Node) (since : ℕ) where
   here_by UnlinkVertex sizes z past e kept ok caller x o is low c = here_put (state sizes past) e.life.index x _ c (λ d. record { same = same_spent (node_in sizes past e.life.index) _ _ _ d.same; free = λ h. absurd (cc); fresh = λ h. absurd (cc); spent = λ _. omega (arith, low) })
   here_by UnlinkEdge sizes z past e kept ok caller x o is low c = here_put (state sizes past) e.life.index x _ c (λ d. record { same = same_spent (node_in sizes past e.life.index) _ _ _ d.same; free = λ h. absurd (cc); fresh = λ h. absurd (cc); spent = λ _. omega (arith, low) })
   here_by StoreFree sizes z past e kept ok caller x o is low c = here_put (state sizes past) e.life.index x _ c (λ d. record { same = same_stored (node_in sizes past e.life.index) d.same; free = d.free; fresh = d.fresh; spent = d.spent })
-  here_by PushFree sizes z past e kept ok caller x o is low c = here_put (state sizes past) e.life.index x _ c (λ d. absurd (omega (arith, d.spent ok.ripe.spent, is, ripe_before sizes z past kept e.caller e.life.index caller ok.ripe o)))
+  here_by PushFree sizes z past e kept ok caller x o is low c = here_put (state sizes past) e.life.index x _ c (λ d. absurd (omega (arith, d.spent ok.ripe.stamped.spent.spent, is, ripe_before sizes z past kept e.caller e.life.index caller ok.ripe o)))
   here_by MarkEdge sizes z past e kept ok caller x o is low c = here_handed (marked_state (state sizes past) e.life.index) (node_in sizes past e.life.index).source.index x (omega (arith, low)) (here_put (state sizes past) e.life.index x _ c (here_mark (node_in sizes past e.life.index)))
   here_by FreezeEdge sizes z past e kept ok caller x o is low c = here_handed (marked_state (state sizes past) e.life.index) (node_in sizes past e.life.index).source.index x (omega (arith, low)) (here_put (state sizes past) e.life.index x _ c (here_mark (node_in sizes past e.life.index)))
   here_by FreezeHead sizes z past e kept ok caller x o is low c = here_handed (closed_state (state sizes past) e.life.index) e.life.index x (omega (arith, low)) c

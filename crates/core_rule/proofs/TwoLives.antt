@@ -30,14 +30,15 @@ pub ripe : (past : List Event) (x : ℕ) → IsPrefix (before 47) past → (node
     → IsRipe small past 0 x
 unfolding machine word_at
 ripe past x p spent mine was same = record {
-  spent = spent;
-  mine = mine;
   stamp = 0;
-  when = before 45;
-  when_before = record { rest = drop 45 (before 47) ++ p.rest; whole = p.whole };
-  when_spent = was;
-  when_life = same;
-  when_epoch = lit≤ tt;
+  stamped = record {
+    spent = record { spent = spent; mine = mine };
+    when = before 45;
+    when_before = record { rest = drop 45 (before 47) ++ p.rest; whole = p.whole };
+    when_spent = was;
+    when_life = same;
+    when_epoch = lit≤ tt;
+  };
   shown = before 47;
   shown_before = p;
   shown_epoch = lit≤ tt;

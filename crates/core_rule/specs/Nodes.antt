@@ -68,28 +68,20 @@ pub record IsFrozenToEnd (sizes : Sizes) (past : List Event) (x : ℕ) : Type 0 
   pub head : (state sizes past).frozen x ≡ true
   pub edges : (y : ℕ) → is_listed (state sizes past) x y ≡ true → (node_in sizes past y).marked ≡ true
 
--- a spent node is ripe for its caller: in this life it was spent at a moment at which the epoch was at most a stamp,
--- and an epoch two above the stamp was shown
-pub record IsRipe (sizes : Sizes) (past : List Event) (caller x : ℕ) : Type 0 where
-  pub spent : (node_in sizes past x).mode ≡ Spent
-  pub mine : (node_in sizes past x).who ≡ caller
-  pub stamp : ℕ
-  pub when : List Event
-  pub when_before : IsPrefix when past
-  pub when_spent : (node_in sizes when x).mode ≡ Spent
-  pub when_life : (node_in sizes when x).tag ≡ (node_in sizes past x).tag
-  pub when_epoch : word_at sizes when (epoch_at sizes) ≤ stamp
-  pub shown : List Event
-  pub shown_before : IsPrefix shown past
-  pub shown_epoch : stamp + 2 ≤ word_at sizes shown (epoch_at sizes)
-
 -- a node that is spent with a caller has a stamp: in this life it was spent at a moment at which the epoch was at most
 -- the stamp
 pub record IsStamped (sizes : Sizes) (past : List Event) (caller x stamp : ℕ) : Type 0 where
-  pub spent : (node_in sizes past x).mode ≡ Spent
-  pub mine : (node_in sizes past x).who ≡ caller
+  pub spent : IsSpentWith sizes past caller x
   pub when : List Event
   pub when_before : IsPrefix when past
   pub when_spent : (node_in sizes when x).mode ≡ Spent
   pub when_life : (node_in sizes when x).tag ≡ (node_in sizes past x).tag
   pub when_epoch : word_at sizes when (epoch_at sizes) ≤ stamp
+
+-- a spent node is ripe for its caller: it has a stamp, and an epoch two above the stamp was shown
+pub record IsRipe (sizes : Sizes) (past : List Event) (caller x : ℕ) : Type 0 where
+  pub stamp : ℕ
+  pub stamped : IsStamped sizes past caller x stamp
+  pub shown : List Event
+  pub shown_before : IsPrefix shown past
+  pub shown_epoch : stamp + 2 ≤ word_at sizes shown (epoch_at sizes)
