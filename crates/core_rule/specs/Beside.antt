@@ -1,11 +1,12 @@
--- A worked journal in which nodes are linked, unlinked and frozen in front of others and behind others.
--- Behind two vertices and an edge between them, caller 0 adds a vertex in front of both, and an edge to it in front of the
--- first edge. It removes that first edge, adds it again with another node, and removes the source of both edges, whose list
+-- A worked journal in which nodes are linked, unlinked and frozen in front of others and behind others. Behind two
+-- vertices and an edge between them, caller 0 adds a vertex in front of both, and an edge to it in front of the first
+-- edge. It removes that first edge, adds it again with another node, and removes the source of both edges, whose list
 -- is closed edge by edge.
 use Rattle.std.specs.Prelude.{List, [], ◌∷◌, ◌++◌}
 use Rattle.packed_link.specs.Link.{pack, nowhere}
 use Rattle.packed_link.specs.Layout.{bucket_at, key_at, link_at, second_at, third_at}
-use Rattle.core_journal.specs.declared.event.Kind.TheVariants.{LinkVertex, MarkVertex, UnlinkVertex, LinkEdge, Raise, UnlinkEdge, FreezeEdge}
+use Rattle.core_journal.specs.declared.event.Kind.TheVariants.{LinkVertex, MarkVertex, UnlinkVertex, LinkEdge, Raise}
+use Rattle.core_journal.specs.declared.event.Kind.TheVariants.{UnlinkEdge, FreezeEdge}
 use Rattle.core_journal.specs.declared.event.Event.{Event}
 use Rattle.core_journal.specs.Event.{blank}
 use Rattle.core_journal.specs.TwoHands.{announces, withdraws, takes, fills}
@@ -34,7 +35,16 @@ adds_edge =
     ∷ fills 0 4 (link_at small 4) (pack 2 0 1)
     ∷ fills 0 4 (second_at small 4) (pack 3 0 1)
     ∷ fills 0 4 (third_at small 4) 7
-    ∷ record blank { kind = LinkEdge; place = second_at small 0; word = pack 4 0 1; life = first_life 4; key = 0; source = first_life 0; target = first_life 3; weight = 7 }
+    ∷ record blank {
+      kind = LinkEdge;
+      place = second_at small 0;
+      word = pack 4 0 1;
+      life = first_life 4;
+      key = 0;
+      source = first_life 0;
+      target = first_life 3;
+      weight = 7;
+    }
     ∷ withdraws 0
     ∷ []
 
@@ -50,9 +60,20 @@ removes_behind =
 
 -- it's added there again with node 5: events 47 to 54
 abbrev pub adds_behind : List Event
-adds_behind = takes_edge 5 6 ++ record blank { kind = LinkEdge; place = link_at small 4; word = pack 5 0 1; life = first_life 5; key = 2; source = first_life 0; target = first_life 1; weight = 6 } ∷ withdraws 0 ∷ []
+adds_behind =
+    takes_edge 5 6 ++ record blank {
+      kind = LinkEdge;
+      place = link_at small 4;
+      word = pack 5 0 1;
+      life = first_life 5;
+      key = 2;
+      source = first_life 0;
+      target = first_life 1;
+      weight = 6;
+    } ∷ withdraws 0 ∷ []
 
--- the vertex of key 1 is removed behind that of key 0, and its list is closed at its head and at both edges: events 55 to 61
+-- the vertex of key 1 is removed behind that of key 0, and its list is closed at its head and at both edges: events 55
+-- to 61
 abbrev pub removes_source : List Event
 removes_source =
     announces 0

@@ -35,7 +35,8 @@ is_of_bucket sizes s j x = is_linked (s.node x).mode && ((s.node x).vertex && ((
 
 -- the chain of a bucket: its linked vertices, marked or not
 abbrev pub bucket_chain : Sizes → List Event → ℕ → Chain
-bucket_chain sizes journal j = chain_in (word_at sizes journal) (bucket_places sizes j) (is_of_bucket sizes (state sizes journal) j)
+bucket_chain sizes journal j =
+    chain_in (word_at sizes journal) (bucket_places sizes j) (is_of_bucket sizes (state sizes journal) j)
 
 -- the chain of a vertex's edges
 abbrev pub edge_chain : Sizes → List Event → ℕ → Chain
@@ -72,8 +73,8 @@ pub record IsUnstored (sizes : Sizes) (journal : List Event) (x : Life) : Type 0
   pub used : IsUsed (node_in sizes journal x.index).mode
   pub unstored : (node_in sizes journal x.index).stored ≡ false
 
--- a vertex is linked or spent, and no edge of its life that wasn't unlinked was stored for the free list: its list is one
--- still, frozen to its end or not
+-- a vertex is linked or spent, and no edge of its life that wasn't unlinked was stored for the free list: its list is
+-- one still, frozen to its end or not
 pub record KeepsList (sizes : Sizes) (journal : List Event) (x : ℕ) : Type 0 where
   pub there : x < sizes.nodes
   pub used : IsUsed (node_in sizes journal x).mode
@@ -96,18 +97,21 @@ pub record IsInList (sizes : Sizes) (journal : List Event) (vertex : ℕ) (x : L
 pub record BucketChains (sizes : Sizes) (journal : List Event) : Type 0 where
   pub each : (j : ℕ) → j < sizes.buckets → IsMet (bucket_chain sizes journal j) ((state sizes journal).bucket j)
 
--- from the second word of a vertex, link after link, one meets the edges of its list, each once, by strictly rising keys
+-- from the second word of a vertex, link after link, one meets the edges of its list, each once, by strictly rising
+-- keys
 pub record EdgeLists (sizes : Sizes) (journal : List Event) : Type 0 where
   pub each : (x : ℕ) → HasList sizes journal x → IsMet (edge_chain sizes journal x) ((state sizes journal).edges x)
 
--- the frozen part of a list, which begins it, holds exactly its edges that were handed over; the others are linked. A frozen
--- word leads to none, or to an edge of this list
+-- the frozen part of a list, which begins it, holds exactly its edges that were handed over; the others are linked. A
+-- frozen word leads to none, or to an edge of this list
 pub record FrozenParts (sizes : Sizes) (journal : List Event) : Type 0 where
-  pub handed : (x y : ℕ) → HasList sizes journal x → is_frozen (state sizes journal) x y ≡ true → (node_in sizes journal y).mode ≡ Spent
+  pub handed : (x y : ℕ) → HasList sizes journal x → is_frozen (state sizes journal) x y ≡ true
+      → (node_in sizes journal y).mode ≡ Spent
   pub linked : (x y : ℕ) → HasList sizes journal x → is_listed (state sizes journal) x y ≡ true
       → is_frozen (state sizes journal) x y ≡ false → (node_in sizes journal y).mode ≡ Linked
   pub leads : (x place : ℕ) → HasList sizes journal x → IsFrozenWord sizes journal x place
-      → (index_of (word_at sizes journal place) ≡ nowhere) ⊎ (is_listed (state sizes journal) x (index_of (word_at sizes journal place)) ≡ true)
+      → (index_of (word_at sizes journal place) ≡ nowhere)
+      ⊎ (is_listed (state sizes journal) x (index_of (word_at sizes journal place)) ≡ true)
 
 -- a linked edge stands on the list of its source, which is in the life that was the edge's source
 pub record IsAtSource (sizes : Sizes) (journal : List Event) (y : ℕ) : Type 0 where
@@ -115,8 +119,8 @@ pub record IsAtSource (sizes : Sizes) (journal : List Event) (y : ℕ) : Type 0 
   pub life : (node_in sizes journal y).source.tag ≡ (node_in sizes journal (node_in sizes journal y).source.index).tag
   pub on : is_listed (state sizes journal) (node_in sizes journal y).source.index y ≡ true
 
--- the source of each linked edge is linked, or spent and not frozen to its end; and a vertex whose list isn't frozen to its
--- end isn't stored for the free list
+-- the source of each linked edge is linked, or spent and not frozen to its end; and a vertex whose list isn't frozen to
+-- its end isn't stored for the free list
 pub record Sources (sizes : Sizes) (journal : List Event) : Type 0 where
   pub each : (y : ℕ) → y < sizes.nodes → IsLinkedEdge sizes journal y → IsAtSource sizes journal y
   pub unstored : (x : ℕ) → HasList sizes journal x → (node_in sizes journal x).stored ≡ false

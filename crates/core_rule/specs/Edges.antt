@@ -25,7 +25,8 @@ pub record IsFilledEdge (sizes : Sizes) (past : List Event) (x key next : ℕ) (
 -- the key lies strictly between those before and behind a word of a list
 pub record IsEdgeGap (sizes : Sizes) (past : List Event) (place key : ℕ) : Type 0 where
   pub below : (x : ℕ) → place ≡ link_at sizes x → word_at sizes past (key_at sizes x) < key
-  pub above : index_of (word_at sizes past place) ≢ nowhere → key < word_at sizes past (key_at sizes (index_of (word_at sizes past place)))
+  pub above : index_of (word_at sizes past place) ≢ nowhere
+      → key < word_at sizes past (key_at sizes (index_of (word_at sizes past place)))
 
 -- the link is that of a linked edge with this source
 pub record IsEdgeFrom (sizes : Sizes) (past : List Event) (source : Life) (x : ℕ) : Type 0 where
@@ -49,7 +50,8 @@ pub record IsLinkEdge (sizes : Sizes) (past : List Event) (e : Event) : Type 0 w
   pub target : key_of past e.target ≡ Some e.key
   pub pass : (pass_in sizes past e.caller).is_open ≡ true
 
--- in its pass a caller raises the counter of a vertex, of which an edge was linked and unmarked at a moment of this pass
+-- in its pass a caller raises the counter of a vertex, of which an edge was linked and unmarked at a moment of this
+-- pass
 pub record IsRaise (sizes : Sizes) (past : List Event) (e : Event) : Type 0 where
   pub life : e.life.tag ≡ (node_in sizes past e.life.index).tag
   pub there : e.life.index < sizes.nodes
@@ -96,10 +98,12 @@ pub record IsUnlinkEdge (sizes : Sizes) (past : List Event) (e : Event) : Type 0
   pub source : IsVertex sizes past (node_in sizes past e.life.index).source
   pub before : ℕ
   pub place : IsListWord sizes e.place (node_in sizes past e.life.index).source.index before
-  pub before_linked : (x : ℕ) → e.place ≡ link_at sizes x → IsEdgeFrom sizes past (node_in sizes past e.life.index).source x
+  pub before_linked : (x : ℕ) → e.place ≡ link_at sizes x
+      → IsEdgeFrom sizes past (node_in sizes past e.life.index).source x
   pub unmarked : mark_of (word_at sizes past e.place) ≡ 0
   pub leads : index_of (word_at sizes past e.place) ≡ e.life.index
   pub linked : IsLinkedEdge sizes past e.life.index
   pub dead : mark_of (word_at sizes past (link_at sizes e.life.index)) ≡ 1
-  pub word : e.word ≡ pack (index_of (word_at sizes past (link_at sizes e.life.index))) 0 (tag_of (word_at sizes past e.place))
+  pub word : e.word ≡ pack (index_of (word_at sizes past (link_at sizes e.life.index))) 0
+      (tag_of (word_at sizes past e.place))
   pub pass : (pass_in sizes past e.caller).is_open ≡ true

@@ -5,7 +5,8 @@ use Rattle.graph_kinds.specs.declared.call.Call.TheVariants.{AddVertex, RemoveVe
 use Rattle.core_chain.specs.Chain.{Position, Head}
 use Rattle.core_chain.specs.Steps.{Inserts, Marks, Unlinks, SetsMark, Freezes, Untouched}
 use Rattle.core_journal.specs.declared.event.Kind.{Kind}
-use Rattle.core_journal.specs.declared.event.Kind.TheVariants.{LinkVertex, MarkVertex, UnlinkVertex, LinkEdge, MarkEdge, UnlinkEdge, FreezeHead, FreezeEdge}
+use Rattle.core_journal.specs.declared.event.Kind.TheVariants.{LinkVertex, MarkVertex, UnlinkVertex, LinkEdge, MarkEdge}
+use Rattle.core_journal.specs.declared.event.Kind.TheVariants.{UnlinkEdge, FreezeHead, FreezeEdge}
 use Rattle.core_journal.specs.declared.event.Event.{Event}
 use Rattle.core_journal.specs.GraphOf.{graph_of, call_of, present_key, present_pair, pair_between, CarriesOut}
 use Rattle.core_rule.specs.Nodes.{node_in}
@@ -13,19 +14,24 @@ use Rattle.core_rule.specs.Chains.{bucket_word, list_word, bucket_chain, edge_ch
 
 -- the chains of other buckets than one stay as they are, and so do all lists of edges that aren't frozen to their end
 pub record OthersThanBucket (sizes : Sizes) (past : List Event) (e : Event) (bucket : ℕ) : Type 0 where
-  pub buckets : (j : ℕ) → j < sizes.buckets → j ≢ bucket → Untouched (bucket_chain sizes past j) (bucket_chain sizes (past ++ e ∷ []) j)
+  pub buckets : (j : ℕ) → j < sizes.buckets → j ≢ bucket
+      → Untouched (bucket_chain sizes past j) (bucket_chain sizes (past ++ e ∷ []) j)
   pub lists : (x : ℕ) → HasList sizes past x → Untouched (edge_chain sizes past x) (edge_chain sizes (past ++ e ∷ []) x)
 
--- the chains of all buckets stay as they are, and so do the lists of other vertices than one that aren't frozen to their end
+-- the chains of all buckets stay as they are, and so do the lists of other vertices than one that aren't frozen to
+-- their end
 pub record OthersThanList (sizes : Sizes) (past : List Event) (e : Event) (vertex : ℕ) : Type 0 where
-  pub buckets : (j : ℕ) → j < sizes.buckets → Untouched (bucket_chain sizes past j) (bucket_chain sizes (past ++ e ∷ []) j)
-  pub lists : (x : ℕ) → HasList sizes past x → x ≢ vertex → Untouched (edge_chain sizes past x) (edge_chain sizes (past ++ e ∷ []) x)
+  pub buckets : (j : ℕ) → j < sizes.buckets
+      → Untouched (bucket_chain sizes past j) (bucket_chain sizes (past ++ e ∷ []) j)
+  pub lists : (x : ℕ) → HasList sizes past x → x ≢ vertex
+      → Untouched (edge_chain sizes past x) (edge_chain sizes (past ++ e ∷ []) x)
 
 -- a vertex is linked: it joins the chain of its key's bucket, and its key the graph, which had no such key
 pub record AddsVertex (sizes : Sizes) (past : List Event) (e : Event) : Type 0 where
   pub at : Position
   pub place : bucket_word sizes (e.key % sizes.buckets) at ≡ e.place
-  pub chain : Inserts (bucket_chain sizes past (e.key % sizes.buckets)) (bucket_chain sizes (past ++ e ∷ []) (e.key % sizes.buckets)) at e.life.index
+  pub chain : Inserts (bucket_chain sizes past (e.key % sizes.buckets))
+      (bucket_chain sizes (past ++ e ∷ []) (e.key % sizes.buckets)) at e.life.index
   pub others : OthersThanBucket sizes past e (e.key % sizes.buckets)
   pub call : call_of past e ≡ Some (AddVertex e.key)
   pub graph : CarriesOut past e
@@ -33,7 +39,8 @@ pub record AddsVertex (sizes : Sizes) (past : List Event) (e : Event) : Type 0 w
 -- a vertex is marked: it stays on its chain, and its key and all pairs of it leave the graph, which had the key
 pub record RemovesVertex (sizes : Sizes) (past : List Event) (e : Event) : Type 0 where
   pub key : ℕ
-  pub chain : Marks (bucket_chain sizes past (key % sizes.buckets)) (bucket_chain sizes (past ++ e ∷ []) (key % sizes.buckets)) e.life.index
+  pub chain : Marks (bucket_chain sizes past (key % sizes.buckets))
+      (bucket_chain sizes (past ++ e ∷ []) (key % sizes.buckets)) e.life.index
   pub others : OthersThanBucket sizes past e (key % sizes.buckets)
   pub call : call_of past e ≡ Some (RemoveVertex key)
   pub graph : CarriesOut past e
@@ -47,19 +54,21 @@ pub record UnlinksVertex (sizes : Sizes) (past : List Event) (e : Event) : Type 
   pub others : OthersThanBucket sizes past e bucket
   pub graph : graph_of (past ++ e ∷ []) ≡ graph_of past
 
--- an edge is linked: it joins the list of its source, and its pair the graph, which had no such pair, where both ends are
--- present; else the graph stays
+-- an edge is linked: it joins the list of its source, and its pair the graph, which had no such pair, where both ends
+-- are present; else the graph stays
 pub record AddsEdge (sizes : Sizes) (past : List Event) (e : Event) : Type 0 where
   pub at : Position
   pub place : list_word sizes e.source.index at ≡ e.place
-  pub chain : Inserts (edge_chain sizes past e.source.index) (edge_chain sizes (past ++ e ∷ []) e.source.index) at e.life.index
+  pub chain : Inserts (edge_chain sizes past e.source.index)
+      (edge_chain sizes (past ++ e ∷ []) e.source.index) at e.life.index
   pub others : OthersThanList sizes past e e.source.index
-  pub call : (a b : ℕ) → present_key past e.source ≡ Some a → present_key past e.target ≡ Some b → call_of past e ≡ Some (AddEdge a b e.weight)
+  pub call : (a b : ℕ) → present_key past e.source ≡ Some a → present_key past e.target ≡ Some b
+      → call_of past e ≡ Some (AddEdge a b e.weight)
   pub graph : (a b : ℕ) → present_key past e.source ≡ Some a → present_key past e.target ≡ Some b → CarriesOut past e
   pub none : pair_between past e ≡ None → graph_of (past ++ e ∷ []) ≡ graph_of past
 
--- an edge is marked: it stays on the list of its source, and its pair leaves the graph, which had it, where both ends are
--- present; else the graph stays
+-- an edge is marked: it stays on the list of its source, and its pair leaves the graph, which had it, where both ends
+-- are present; else the graph stays
 pub record RemovesEdge (sizes : Sizes) (past : List Event) (e : Event) : Type 0 where
   pub source : ℕ
   pub of_source : source ≡ (node_in sizes past e.life.index).source.index
@@ -96,7 +105,8 @@ pub record FreezesEdge (sizes : Sizes) (past : List Event) (e : Event) : Type 0 
 
 -- the chains of all buckets stay as they are, all lists of edges that aren't frozen to their end, and the graph too
 pub record ChangesNone (sizes : Sizes) (past : List Event) (e : Event) : Type 0 where
-  pub buckets : (j : ℕ) → j < sizes.buckets → Untouched (bucket_chain sizes past j) (bucket_chain sizes (past ++ e ∷ []) j)
+  pub buckets : (j : ℕ) → j < sizes.buckets
+      → Untouched (bucket_chain sizes past j) (bucket_chain sizes (past ++ e ∷ []) j)
   pub lists : (x : ℕ) → HasList sizes past x → Untouched (edge_chain sizes past x) (edge_chain sizes (past ++ e ∷ []) x)
   pub graph : graph_of (past ++ e ∷ []) ≡ graph_of past
 

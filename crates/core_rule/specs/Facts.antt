@@ -72,9 +72,11 @@ pub record IsContent (sizes : Sizes) (v : Node) (frozen : Bool) (x : ℕ) (w : �
 pub record Contents (sizes : Sizes) (s : State) (w : ℕ → ℕ) : Type 0 where
   pub each : (x : ℕ) → x < sizes.nodes → IsContent sizes (s.node x) (s.frozen x) x w
 
--- the third word of a node that was linked as a vertex is the number of raises of its life, and no fresh node was raised
+-- the third word of a node that was linked as a vertex is the number of raises of its life, and no fresh node was
+-- raised
 pub record IsCounter (sizes : Sizes) (journal : List Event) (v : Node) (x : ℕ) (w : ℕ → ℕ) : Type 0 where
-  pub third : IsUsed v.mode → v.vertex ≡ true → w (third_at sizes x) ≡ raised (record { index = x; tag = v.tag }) journal
+  pub third : IsUsed v.mode → v.vertex ≡ true
+      → w (third_at sizes x) ≡ raised (record { index = x; tag = v.tag }) journal
   pub fresh : v.mode ≡ Fresh → raised (record { index = x; tag = v.tag }) journal ≡ 0
 
 pub record Counters (sizes : Sizes) (journal : List Event) (s : State) (w : ℕ → ℕ) : Type 0 where
@@ -89,12 +91,14 @@ pub record LinkedOnce (journal : List Event) (s : State) : Type 0 where
   pub once : (x : Life) → about links x journal ≤ 1
   pub fresh : (x : ℕ) → (s.node x).mode ≡ Fresh → about links (record { index = x; tag = (s.node x).tag }) journal ≡ 0
 
--- no number of the table wraps: the changes of the free list, the lives of nodes, the epoch, and the counters of vertices
+-- no number of the table wraps: the changes of the free list, the lives of nodes, the epoch, and the counters of
+-- vertices
 pub record Bounds (sizes : Sizes) (s : State) (w : ℕ → ℕ) : Type 0 where
   pub changes : s.changes ≤ 2 ^ 37
   pub lives : (x : ℕ) → (s.node x).tag ≤ 2 ^ 36
   pub epoch : s.epoch ≤ 2 ^ 38
-  pub counters : (x : ℕ) → x < sizes.nodes → IsUsed (s.node x).mode → (s.node x).vertex ≡ true → w (third_at sizes x) ≤ 2 ^ 42
+  pub counters : (x : ℕ) → x < sizes.nodes → IsUsed (s.node x).mode → (s.node x).vertex ≡ true
+      → w (third_at sizes x) ≤ 2 ^ 42
 
 -- a node and its four words are after a journal what they were after a front of it
 pub record IsHeld (sizes : Sizes) (front journal : List Event) (x : ℕ) : Type 0 where
@@ -130,8 +134,10 @@ pub record IsNewLife (journal : List Event) (x : Life) : Type 0 where
 -- what a node says of its life is what the journal's events say: the key or the edge that was linked, and the mark
 pub record IsNamed (journal : List Event) (v : Node) (x : ℕ) : Type 0 where
   pub vertex_key : IsUsed v.mode → v.vertex ≡ true → key_of journal (record { index = x; tag = v.tag }) ≡ Some v.key
-  pub vertex_mark : IsUsed v.mode → v.vertex ≡ true → vertex_marked journal (record { index = x; tag = v.tag }) ≡ v.marked
-  pub edge_link : IsUsed v.mode → v.vertex ≡ false → IsLinkOf journal (record { index = x; tag = v.tag }) v.source v.target v.key v.weight
+  pub vertex_mark : IsUsed v.mode → v.vertex ≡ true
+      → vertex_marked journal (record { index = x; tag = v.tag }) ≡ v.marked
+  pub edge_link : IsUsed v.mode → v.vertex ≡ false
+      → IsLinkOf journal (record { index = x; tag = v.tag }) v.source v.target v.key v.weight
   pub edge_mark : IsUsed v.mode → v.vertex ≡ false → edge_marked journal (record { index = x; tag = v.tag }) ≡ v.marked
   pub new : v.mode ≡ Fresh → IsNewLife journal (record { index = x; tag = v.tag })
 
@@ -143,13 +149,14 @@ pub record Ends (journal : List Event) : Type 0 where
   pub source : (x : Life) (link : Event) → link_of journal x ≡ Some link → key_of journal link.source ≢ None
   pub target : (x : Life) (link : Event) → link_of journal x ≡ Some link → key_of journal link.target ≡ Some link.key
 
--- an open pass has met a node: it's linked, or it was spent after the pass began. So each linked node counts as met, whether a
--- walk came to it or not: it's what a walk in this pass may come to
+-- an open pass has met a node: it's linked, or it was spent after the pass began. So each linked node counts as met,
+-- whether a walk came to it or not: it's what a walk in this pass may come to
 pub record HasMet (sizes : Sizes) (journal : List Event) (caller x : ℕ) : Type 0 where
   pub pass : (pass_in sizes journal caller).is_open ≡ true
   pub free : (node_in sizes journal x).mode ≢ Free
   pub fresh : (node_in sizes journal x).mode ≢ Fresh
-  pub spent : (node_in sizes journal x).mode ≡ Spent → (pass_in sizes journal caller).since < (node_in sizes journal x).ended
+  pub spent : (node_in sizes journal x).mode ≡ Spent
+      → (pass_in sizes journal caller).since < (node_in sizes journal x).ended
 
 -- a caller's pass that was open at a front is open still
 pub record IsSamePass (sizes : Sizes) (front journal : List Event) (caller : ℕ) : Type 0 where

@@ -1,5 +1,5 @@
--- The free list after a journal, in the form of core_epoch: nodes that lead to one another through their link words, from the
--- word of the free list on.
+-- The free list after a journal, in the form of core_epoch: nodes that lead to one another through their link words,
+-- from the word of the free list on.
 use Rattle.std.specs.Prelude.{ℕ, Bool, true, false, List}
 use Rattle.packed_link.specs.Layout.{Sizes, free_at, link_at}
 use Rattle.core_epoch.specs.Free.{Pool}

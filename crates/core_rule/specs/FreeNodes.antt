@@ -15,7 +15,8 @@ pub record IsPopFree (sizes : Sizes) (past : List Event) (e : Event) : Type 0 wh
   pub there : e.life.index < sizes.nodes
   pub place : e.place ≡ free_at sizes
   pub seen : index_of (word_at sizes past (free_at sizes)) ≡ e.life.index
-  pub word : e.word ≡ pack (index_of (word_at sizes past (link_at sizes e.life.index))) 0 (tag_of (word_at sizes past (free_at sizes)) + 1)
+  pub word : e.word ≡ pack (index_of (word_at sizes past (link_at sizes e.life.index))) 0
+      (tag_of (word_at sizes past (free_at sizes)) + 1)
   pub holds_none : (x : ℕ) → x < sizes.nodes → IsFreshWith sizes past e.caller x → ⊥
   pub limit : made pops e.caller past < most_pops
 

@@ -25,7 +25,8 @@ pub record IsFreezeHead (sizes : Sizes) (past : List Event) (e : Event) : Type 0
 -- a word of a closed list is frozen: it's the second word of the vertex, or the link of an edge of its frozen part
 pub record IsFrozenWord (sizes : Sizes) (past : List Event) (x place : ℕ) : Type 0 where
   pub head : (state sizes past).frozen x ≡ true
-  pub at : (place ≡ second_at sizes x) ⊎ ((y : ℕ) × (is_frozen (state sizes past) x y ≡ true) × (place ≡ link_at sizes y))
+  pub at : (place ≡ second_at sizes x)
+      ⊎ ((y : ℕ) × (is_frozen (state sizes past) x y ≡ true) × (place ≡ link_at sizes y))
 
 -- the caller who unlinked an edge's source marks the edge, to which a frozen word of that source's list leads
 pub record IsFreezeEdge (sizes : Sizes) (past : List Event) (e : Event) : Type 0 where

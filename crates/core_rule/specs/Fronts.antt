@@ -1,6 +1,6 @@
--- What a token must know by its front, so that its next step of a kind is allowed wherever it wins: one condition a kind.
--- "Met" is what an open pass has met (`HasMet`). An earlier moment, at which the token loaded a word, stands only in those for
--- taking a node, announcing, moving the epoch on, raising, marking an edge, and where the node is ripe.
+-- What a token must know by its front, so that its next step of a kind is allowed wherever it wins: one condition a
+-- kind. "Met" is what an open pass has met (`HasMet`). An earlier moment, at which the token loaded a word, stands only
+-- in those for taking a node, announcing, moving the epoch on, raising, marking an edge, and where the node is ripe.
 use Rattle.std.specs.Prelude.{◌≡◌, ◌≢◌, ℕ, ◌+◌, ◌%◌, ◌<◌, ◌^◌, ◌⊎◌, true, false, List, Some, length}
 use Rattle.packed_link.specs.Link.{index_of, mark_of, tag_of, nowhere}
 use Rattle.packed_link.specs.Layout.{free_at, epoch_at, bucket_at, key_at, link_at, second_at}
@@ -43,7 +43,8 @@ pub record MetEdge (v : View) (source x : Life) : Type 0 where
 abbrev pub key_in : View → ℕ → ℕ
 key_in v x = word_at v.sizes v.front (key_at v.sizes x)
 
--- the word of the free list was seen, and after that the link of the node to which it leads; the token holds no fresh node
+-- the word of the free list was seen, and after that the link of the node to which it leads; the token holds no fresh
+-- node
 pub record MayPopFree (v : View) (seen next : ℕ) : Type 0 where
   pub there : index_of seen < v.sizes.nodes
   pub first : List Event
@@ -72,7 +73,8 @@ pub record IsVertexBelow (v : View) (key place : ℕ) (x : Life) : Type 0 where
 
 -- a word behind which a vertex of this key may stand: that of the key's bucket, or the link of a vertex before it
 abbrev pub IsBeforeVertex : View → ℕ → ℕ → Type 0
-IsBeforeVertex v key place = (place ≡ bucket_at v.sizes (key % v.sizes.buckets)) ⊎ ((x : Life) × IsVertexBelow v key place x)
+IsBeforeVertex v key place =
+    (place ≡ bucket_at v.sizes (key % v.sizes.buckets)) ⊎ ((x : Life) × IsVertexBelow v key place x)
 
 -- a vertex that was met has this index and a greater key
 pub record IsVertexAbove (v : View) (key index : ℕ) : Type 0 where
@@ -81,7 +83,8 @@ pub record IsVertexAbove (v : View) (key index : ℕ) : Type 0 where
   pub met : MetVertex v life
   pub above : key < key_in v index
 
--- the unmarked word seen leads to none or to a vertex of a greater key, and the fresh node is filled with where it leads
+-- the unmarked word seen leads to none or to a vertex of a greater key, and the fresh node is filled with where it
+-- leads
 pub record MayLinkVertex (v : View) (place seen key : ℕ) (x : Life) : Type 0 where
   pub life : IsLifeAt v x
   pub pass : (pass_in v.sizes v.front v.number).is_open ≡ true
@@ -102,7 +105,8 @@ pub record IsVertexLink (v : View) (place : ℕ) (x : Life) : Type 0 where
 
 -- a word that leads to vertices: that of a bucket, or the link of a vertex that was met
 abbrev pub LeadsToVertex : View → ℕ → Type 0
-LeadsToVertex v place = ((j : ℕ) × (j < v.sizes.buckets) × (place ≡ bucket_at v.sizes j)) ⊎ ((x : Life) × IsVertexLink v place x)
+LeadsToVertex v place =
+    ((j : ℕ) × (j < v.sizes.buckets) × (place ≡ bucket_at v.sizes j)) ⊎ ((x : Life) × IsVertexLink v place x)
 
 -- the unmarked word seen leads to a vertex that was met and is marked
 pub record MayUnlinkVertex (v : View) (place seen next : ℕ) (x : Life) : Type 0 where
@@ -120,9 +124,11 @@ pub record IsEdgeBelow (v : View) (source : Life) (key place : ℕ) (x : Life) :
   pub place_is : place ≡ link_at v.sizes x.index
   pub below : key_in v x.index < key
 
--- a word behind which an edge of this source and key may stand: the source's second word, or the link of an edge before it
+-- a word behind which an edge of this source and key may stand: the source's second word, or the link of an edge before
+-- it
 abbrev pub IsBeforeEdge : View → Life → ℕ → ℕ → Type 0
-IsBeforeEdge v source key place = (place ≡ second_at v.sizes source.index) ⊎ ((x : Life) × IsEdgeBelow v source key place x)
+IsBeforeEdge v source key place =
+    (place ≡ second_at v.sizes source.index) ⊎ ((x : Life) × IsEdgeBelow v source key place x)
 
 -- an edge of this source that was met has this index and a greater key
 pub record IsEdgeAbove (v : View) (source : Life) (key index : ℕ) : Type 0 where
@@ -131,8 +137,8 @@ pub record IsEdgeAbove (v : View) (source : Life) (key index : ℕ) : Type 0 whe
   pub met : MetEdge v source life
   pub above : key < key_in v index
 
--- the source was met, the unmarked word seen leads to none or to an edge of a greater key, the fresh node is filled with where
--- it leads, and the target was met and has the edge's key
+-- the source was met, the unmarked word seen leads to none or to an edge of a greater key, the fresh node is filled
+-- with where it leads, and the target was met and has the edge's key
 pub record MayLinkEdge (v : View) (place seen key : ℕ) (source target : Life) (weight : ℕ) (x : Life) : Type 0 where
   pub life : IsLifeAt v x
   pub from : MetVertex v source
@@ -209,8 +215,8 @@ pub record MayFreezeHead (v : View) (x : Life) : Type 0 where
   pub life : IsLifeAt v x
   pub spent : IsSpentVertex v.sizes v.front v.number x.index
 
--- the token unlinked the vertex, whose list has no edge yet that was stored for the free list, and a frozen word of the list
--- leads to this edge
+-- the token unlinked the vertex, whose list has no edge yet that was stored for the free list, and a frozen word of the
+-- list leads to this edge
 pub record MayFreezeEdge (v : View) (source : Life) (place : ℕ) (x : Life) : Type 0 where
   pub life : IsLifeAt v source
   pub spent : IsSpentVertex v.sizes v.front v.number source.index
@@ -219,7 +225,8 @@ pub record MayFreezeEdge (v : View) (source : Life) (place : ℕ) (x : Life) : T
   pub edge : IsLifeAt v x
   pub leads : index_of (word_at v.sizes v.front place) ≡ x.index
 
--- the node is ripe, and the lists that may lead to it are frozen to their ends: its own, and that from which it was handed over
+-- the node is ripe, and the lists that may lead to it are frozen to their ends: its own, and that from which it was
+-- handed over
 pub record MayStoreFree (v : View) (next : ℕ) (x : Life) : Type 0 where
   pub life : IsLifeAt v x
   pub next_there : (next < v.sizes.nodes) ⊎ (next ≡ nowhere)

@@ -11,7 +11,19 @@ use Rattle.core_rule.specs.declared.view.View.{View}
 
 -- the view of a token with this caller's number whose front is the first n events, and which made no event behind them
 abbrev pub view_of : List Event → ℕ → ℕ → View
-view_of journal caller n = record { sizes = small; front = take n journal; met = []; book = []; numbered = true; number = caller; last = n; others = []; draws = false; drawn = 2 }
+view_of journal caller n =
+    record {
+      sizes = small;
+      front = take n journal;
+      met = [];
+      book = [];
+      numbered = true;
+      number = caller;
+      last = n;
+      others = [];
+      draws = false;
+      drawn = 2;
+    }
 
 -- the same of the worked journal with all kinds of events
 abbrev pub view_at : ℕ → ℕ → View
@@ -25,8 +37,8 @@ view_among caller n = view_of hands_journal caller n
 abbrev pub view_beside : ℕ → ℕ → View
 view_beside caller n = view_of beside_others caller n
 
--- a token's step makes event n of a journal: the token may meet the events before it, the step finds this word at its place,
--- and its event is the next one
+-- a token's step makes event n of a journal: the token may meet the events before it, the step finds this word at its
+-- place, and its event is the next one
 pub record Makes (journal : List Event) (v : View) (n found : ℕ) (e : Event) : Type 0 where
   pub reaches : Reaches v (take n journal)
   pub finds : word_at v.sizes (take n journal) e.place ≡ found

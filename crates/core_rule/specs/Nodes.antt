@@ -56,12 +56,14 @@ pub record IsLinkedEdge (sizes : Sizes) (past : List Event) (x : ℕ) : Type 0 w
 -- the words that lead to the vertices of a bucket: its own word, and the link of a node
 abbrev pub IsBucketWord : Sizes → ℕ → ℕ → ℕ → Type 0
 IsBucketWord sizes place bucket before =
-    ((place ≡ bucket_at sizes bucket) × (bucket < sizes.buckets)) ⊎ ((place ≡ link_at sizes before) × (before < sizes.nodes))
+    ((place ≡ bucket_at sizes bucket) × (bucket < sizes.buckets))
+    ⊎ ((place ≡ link_at sizes before) × (before < sizes.nodes))
 
 -- the words that lead to the edges of a source: its second word, and the link of a node
 abbrev pub IsListWord : Sizes → ℕ → ℕ → ℕ → Type 0
 IsListWord sizes place source before =
-    ((place ≡ second_at sizes source) × (source < sizes.nodes)) ⊎ ((place ≡ link_at sizes before) × (before < sizes.nodes))
+    ((place ≡ second_at sizes source) × (source < sizes.nodes))
+    ⊎ ((place ≡ link_at sizes before) × (before < sizes.nodes))
 
 -- the list of a vertex is frozen to its end: it's closed at its head, and each of its edges is marked
 pub record IsFrozenToEnd (sizes : Sizes) (past : List Event) (x : ℕ) : Type 0 where

@@ -7,16 +7,17 @@ use Rattle.core_rule.specs.Counts.{draws}
 use Rattle.core_rule.specs.Kept.{AllowedAs, IsKept, IsQuiet}
 use Rattle.core_rule.specs.declared.view.View.{View}
 
--- a journal that a token with a number may meet at its next step: it's kept, it goes on from the token's front, and no event
--- of the token stands behind the token's last
+-- a journal that a token with a number may meet at its next step: it's kept, it goes on from the token's front, and no
+-- event of the token stands behind the token's last
 pub record Reaches (v : View) (journal : List Event) : Type 0 where
   pub kept : IsKept v.sizes journal
   pub front : IsPrefix v.front journal
   pub quiet : IsQuiet journal v.number v.last
   pub old : v.last ≤ length v.front
 
--- a step changes the word at a place from x to f x, and makes an event of the word that it finds where that word passes a
--- test: in each journal that it may meet this event is allowed and writes the word, and where the step loses, the word stays
+-- a step changes the word at a place from x to f x, and makes an event of the word that it finds where that word passes
+-- a test: in each journal that it may meet this event is allowed and writes the word, and where the step loses, the
+-- word stays
 pub record Owes (v : View) (place : ℕ) (f : ℕ → ℕ) (wins : ℕ → Bool) (event : ℕ → Event) : Type 0 where
   pub by : (x : ℕ) → (event x).caller ≡ v.number
   pub at : (x : ℕ) → (event x).place ≡ place

@@ -44,7 +44,8 @@ pub record IsChecked (sizes : Sizes) (from past : List Event) (seen caller : ℕ
   pub before : IsPrefix moment past
   pub clear : IsFoundClear seen caller (clock_in sizes moment)
 
--- a caller without a pass moves the epoch on: it loaded the epoch, and after that it checked the announcement of each caller
+-- a caller without a pass moves the epoch on: it loaded the epoch, and after that it checked the announcement of each
+-- caller
 pub record IsMoveEpoch (sizes : Sizes) (past : List Event) (e : Event) : Type 0 where
   pub life : e.life ≡ no_life
   pub there : e.caller < sizes.callers

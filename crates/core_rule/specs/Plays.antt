@@ -33,7 +33,8 @@ stepped v front = record v { front = front; last = length front }
 
 -- the view that drew a number
 abbrev pub numbered : View → List Event → ℕ → View
-numbered v front number = record v { front = front; last = length front; numbered = true; number = number; drawn = v.drawn + 1 }
+numbered v front number =
+    record v { front = front; last = length front; numbered = true; number = number; drawn = v.drawn + 1 }
 
 -- where an entry stands that ends at a length: a call that is answered Again stands at its end
 abbrev pub place_by : Outcome → ℕ → ℕ → ℕ
@@ -105,7 +106,9 @@ looking step m found n = Looked m.0 step.word found n.0 × (n.1 ≡ m.1)
 
 -- a step wins where the word that it finds passes a test, and makes an event of that word; else it's a load
 abbrev pub turning : (ℕ → Bool) → (ℕ → Event) → Step (Unit {0}) → AtSeat → ℕ → AtSeat → Type 0
-turning wins event step m found n = (wins found ≡ true → Won m.0 step.word found (event found) n.0) × (wins found ≡ false → Looked m.0 step.word found n.0) × (n.1 ≡ m.1)
+turning wins event step m found n =
+    (wins found ≡ true → Won m.0 step.word found (event found) n.0)
+    × (wins found ≡ false → Looked m.0 step.word found n.0) × (n.1 ≡ m.1)
 
 abbrev pub storing : (ℕ → Event) → Step (Unit {0}) → AtSeat → ℕ → AtSeat → Type 0
 storing event step m found n = Stored m.0 (event step.first) n.0 × (n.1 ≡ m.1)
@@ -121,7 +124,19 @@ meeting step m found n = Met m.0 n.0 × (n.1 ≡ m.1)
 
 -- the view of a new token: the same front, an empty book and no number, and the right to draw where the other had it
 abbrev pub newcomer : View → View
-newcomer v = record { sizes = v.sizes; front = v.front; met = []; book = []; numbered = false; number = 0; last = 0; others = []; draws = v.draws; drawn = v.drawn }
+newcomer v =
+    record {
+      sizes = v.sizes;
+      front = v.front;
+      met = [];
+      book = [];
+      numbered = false;
+      number = 0;
+      last = 0;
+      others = [];
+      draws = v.draws;
+      drawn = v.drawn;
+    }
 
 -- the view of the token that it was split from
 abbrev pub stays : View → View
@@ -130,4 +145,10 @@ stays v = record v { draws = false }
 -- a view to which another is joined: it answers for the other's numbers, has the right to draw of either, and holds the
 -- other's front until it looks again
 abbrev pub both : View → View → View
-both v w = record v { met = w.front; others = v.others ++ (own_account w ++ w.others); draws = cond w.draws true v.draws; drawn = cond w.draws w.drawn v.drawn }
+both v w =
+    record v {
+      met = w.front;
+      others = v.others ++ (own_account w ++ w.others);
+      draws = cond w.draws true v.draws;
+      drawn = cond w.draws w.drawn v.drawn;
+    }

@@ -8,7 +8,8 @@ use Rattle.core_journal.specs.Event.{blank}
 use Rattle.core_journal.specs.TwoHands.{draws, announces, withdraws, takes, two_vertices}
 use Rattle.core_journal.specs.Worked.{small}
 use Rattle.core_rule.specs.Kept.{IsKept}
-use Rattle.core_rule.specs.TwoLives.{takes_edge, removes_vertex, closes_head, moves_epoch, with_edge, without_edge, with_other, without_source, two_lives}
+use Rattle.core_rule.specs.TwoLives.{takes_edge, removes_vertex, closes_head, moves_epoch, with_edge, without_edge}
+use Rattle.core_rule.specs.TwoLives.{with_other, without_source, two_lives}
 
 -- a journal is kept, and with this event behind it no longer
 pub record IsRefused (sizes : Sizes) (past : List Event) (e : Event) : Type 0 where
@@ -19,12 +20,13 @@ pub record IsRefused (sizes : Sizes) (past : List Event) (e : Event) : Type 0 wh
 abbrev pub holding : List Event
 holding = draws 0 1 ∷ draws 1 2 ∷ announces 0 ∷ takes 0 0 1 ∷ []
 
--- caller 0 has closed its pass before event n of the worked journal: where that event is made in a pass, it may not be made now
+-- caller 0 has closed its pass before event n of the worked journal: where that event is made in a pass, it may not be
+-- made now
 abbrev pub outside : ℕ → List Event
 outside n = take n two_lives ++ withdraws 0 ∷ []
 
--- the events of the worked journal that are made in a pass: vertices are linked, an edge is, its counter is raised, it's marked and
--- unlinked, and a vertex is marked and unlinked
+-- the events of the worked journal that are made in a pass: vertices are linked, an edge is, its counter is raised,
+-- it's marked and unlinked, and a vertex is marked and unlinked
 abbrev pub made_in_a_pass : List ℕ
 made_in_a_pass = 8 ∷ 16 ∷ 24 ∷ 27 ∷ 28 ∷ 29 ∷ 37 ∷ 40 ∷ 41 ∷ []
 

@@ -14,14 +14,39 @@ use Rattle.core_rule.specs.declared.view.View.{View}
 
 -- the view of the first token: it has seen nothing, and may draw numbers
 abbrev pub first_view : Sizes → View
-first_view sizes = record { sizes = sizes; front = []; met = []; book = []; numbered = false; number = 0; last = 0; others = []; draws = true; drawn = 0 }
+first_view sizes =
+    record {
+      sizes = sizes;
+      front = [];
+      met = [];
+      book = [];
+      numbered = false;
+      number = 0;
+      last = 0;
+      others = [];
+      draws = true;
+      drawn = 0;
+    }
 
 -- what a token that was joined to another is left with
 abbrev pub spent_view : View
-spent_view = record { sizes = record { callers = 0; nodes = 0; buckets = 0 }; front = []; met = []; book = []; numbered = false; number = 0; last = 0; others = []; draws = false; drawn = 0 }
+spent_view =
+    record {
+      sizes = record { callers = 0; nodes = 0; buckets = 0 };
+      front = [];
+      met = [];
+      book = [];
+      numbered = false;
+      number = 0;
+      last = 0;
+      others = [];
+      draws = false;
+      drawn = 0;
+    }
 
 -- a number is this seat's, and was drawn, and no event of it stands at or after a length that the seat has seen
-pub record IsAccount (sizes : Sizes) (journal : List Event) (owner : ℕ → ℕ) (seat reach : ℕ) (account : ℕ × ℕ) : Type 0 where
+pub record IsAccount (sizes : Sizes) (journal : List Event) (owner : ℕ → ℕ) (seat reach : ℕ)
+    (account : ℕ × ℕ) : Type 0 where
   pub own : owner account.0 ≡ seat
   pub drawn : account.0 < (state sizes journal).drawn
   pub old : account.1 ≤ reach
@@ -36,9 +61,9 @@ pub record IsDrawer (sizes : Sizes) (journal : List Event) (drawer seat : ℕ) (
   pub one : seat ≡ drawer
   pub drawn : v.drawn ≡ (state sizes journal).drawn
 
--- a view fits a journal: what it has seen begins the journal, and what it says of the right to draw, of its own number and of
--- the numbers that joined it is so. The drawer is the one seat that may draw, and the owner of a number the one seat that
--- answers for it
+-- a view fits a journal: what it has seen begins the journal, and what it says of the right to draw, of its own number
+-- and of the numbers that joined it is so. The drawer is the one seat that may draw, and the owner of a number the one
+-- seat that answers for it
 pub record Fits (sizes : Sizes) (journal : List Event) (drawer : ℕ) (owner : ℕ → ℕ) (seat : ℕ) (v : View) : Type 0 where
   pub front : IsPrefix v.front journal
   pub met : IsPrefix v.met journal

@@ -29,7 +29,8 @@ pub record IsFreshNode (sizes : Sizes) (journal : List Event) (caller x : ℕ) :
 -- its link word is of its life, and marked where the node is
 pub record IsLinkedNode (sizes : Sizes) (journal : List Event) (x : ℕ) : Type 0 where
   pub mode : (node_in sizes journal x).mode ≡ Linked
-  pub link : IsLiveLink (node_in sizes journal x).tag (word_at sizes journal (link_at sizes x)) (node_in sizes journal x).marked
+  pub link : IsLiveLink (node_in sizes journal x).tag (word_at sizes journal (link_at sizes x))
+      (node_in sizes journal x).marked
 
 -- its link word is of its life, and marked
 pub record IsSpentNode (sizes : Sizes) (journal : List Event) (caller x : ℕ) : Type 0 where

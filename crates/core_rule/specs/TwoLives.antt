@@ -1,14 +1,16 @@
--- A worked journal with all seventeen kinds of events, and the words after it.
--- Behind two vertices that caller 0 added, it adds an edge between them, removes it, adds it again with another node, and
--- removes its source, whose list is closed. Caller 1 moves the epoch on twice. Then caller 0 gives the nodes of the second
--- edge and of its source back, and takes the latter for a second life.
+-- A worked journal with all seventeen kinds of events, and the words after it. Behind two vertices that caller 0 added,
+-- it adds an edge between them, removes it, adds it again with another node, and removes its source, whose list is
+-- closed. Caller 1 moves the epoch on twice. Then caller 0 gives the nodes of the second edge and of its source back,
+-- and takes the latter for a second life.
 use Rattle.std.specs.Prelude.{ℕ, ◌+◌, List, [], ◌∷◌, ◌++◌, take}
 use Rattle.std.specs.FinMap as map
 use Rattle.std.specs.FinSet as set
 use Rattle.graph_kinds.specs.Graph.{Graph}
 use Rattle.packed_link.specs.Link.{pack, nowhere}
 use Rattle.packed_link.specs.Layout.{epoch_at, free_at, announce_at, bucket_at, key_at, link_at, second_at, third_at}
-use Rattle.core_journal.specs.declared.event.Kind.TheVariants.{PopFree, MarkVertex, UnlinkVertex, LinkEdge, Raise, MarkEdge, UnlinkEdge, Announce, MoveEpoch, FreezeHead, FreezeEdge, StoreFree, PushFree}
+use Rattle.core_journal.specs.declared.event.Kind.TheVariants.{PopFree, MarkVertex, UnlinkVertex, LinkEdge, Raise}
+use Rattle.core_journal.specs.declared.event.Kind.TheVariants.{MarkEdge, UnlinkEdge, Announce, MoveEpoch, FreezeHead}
+use Rattle.core_journal.specs.declared.event.Kind.TheVariants.{FreezeEdge, StoreFree, PushFree}
 use Rattle.core_journal.specs.declared.event.Event.{Event}
 use Rattle.core_journal.specs.Event.{blank}
 use Rattle.core_journal.specs.Worked.{small, first_life}
@@ -28,7 +30,17 @@ takes_edge x weight =
 
 -- it links the edge into the list of node 0, which is empty
 abbrev pub links_new : ℕ → ℕ → Event
-links_new x weight = record blank { kind = LinkEdge; place = second_at small 0; word = pack x 0 1; life = first_life x; key = 2; source = first_life 0; target = first_life 1; weight = weight }
+links_new x weight =
+    record blank {
+      kind = LinkEdge;
+      place = second_at small 0;
+      word = pack x 0 1;
+      life = first_life x;
+      key = 2;
+      source = first_life 0;
+      target = first_life 1;
+      weight = weight;
+    }
 
 -- the first edge, that of node 2, is marked
 abbrev pub marks_first : Event
@@ -61,7 +73,8 @@ closes_head x = record blank { kind = FreezeHead; place = second_at small 0; wor
 
 -- the second edge, that of node 3, is marked there and handed over
 abbrev pub freezes_second : Event
-freezes_second = record blank { kind = FreezeEdge; place = link_at small 3; word = pack nowhere 1 1; life = first_life 3 }
+freezes_second =
+    record blank { kind = FreezeEdge; place = link_at small 3; word = pack nowhere 1 1; life = first_life 3 }
 
 -- caller 1 moves the epoch on to n
 abbrev pub moves_epoch : ℕ → Event
@@ -69,11 +82,18 @@ moves_epoch n = record blank { caller = 1; kind = MoveEpoch; place = epoch_at sm
 
 -- caller 0 stores the link of node x for the free list, in front of the first free node
 abbrev pub stores_link : ℕ → ℕ → Event
-stores_link x first = record blank { kind = StoreFree; place = link_at small x; word = pack first 1 1; life = first_life x }
+stores_link x first =
+    record blank { kind = StoreFree; place = link_at small x; word = pack first 1 1; life = first_life x }
 
 -- it gives the node back
 abbrev pub gives_back : ℕ → ℕ → ℕ → List Event
-gives_back x first changes = stores_link x first ∷ record blank { kind = PushFree; place = free_at small; word = pack x 0 changes; life = first_life x } ∷ []
+gives_back x first changes =
+    stores_link x first ∷ record blank {
+      kind = PushFree;
+      place = free_at small;
+      word = pack x 0 changes;
+      life = first_life x;
+    } ∷ []
 
 -- in a pass that begins in epoch 2, node 0 is taken for its second life
 abbrev pub takes_again : List Event
@@ -132,8 +152,10 @@ lives_words =
 abbrev pub load_at : ℕ → ℕ → Load
 load_at n place = record { moment = take n two_lives; place = place }
 
--- in the pass that removes the vertex of node 0, the loads of caller 0, the last one first: from the bucket to node 0, from
--- its link to node 1 once it's unlinked, from its second word to node 3 once its list is frozen, and to none behind that
+-- in the pass that removes the vertex of node 0, the loads of caller 0, the last one first: from the bucket to node 0,
+-- from its link to node 1 once it's unlinked, from its second word to node 3 once its list is frozen, and to none
+-- behind that
 abbrev pub walk_in_a_frozen_list : List Load
 walk_in_a_frozen_list =
-    load_at 44 (link_at small 3) ∷ load_at 44 (second_at small 0) ∷ load_at 42 (link_at small 0) ∷ load_at 40 (bucket_at small 0) ∷ []
+    load_at 44 (link_at small 3) ∷ load_at 44 (second_at small 0) ∷ load_at 42 (link_at small 0)
+    ∷ load_at 40 (bucket_at small 0) ∷ []

@@ -18,9 +18,11 @@ pub record IsFilledVertex (sizes : Sizes) (past : List Event) (x key next : ℕ)
 -- the key lies strictly between those before and behind a word of the bucket of this key
 pub record IsVertexGap (sizes : Sizes) (past : List Event) (place key : ℕ) : Type 0 where
   pub bucket_word : (j : ℕ) → place ≡ bucket_at sizes j → j < sizes.buckets → j ≡ key % sizes.buckets
-  pub bucket : (x : ℕ) → place ≡ link_at sizes x → word_at sizes past (key_at sizes x) % sizes.buckets ≡ key % sizes.buckets
+  pub bucket : (x : ℕ) → place ≡ link_at sizes x
+      → word_at sizes past (key_at sizes x) % sizes.buckets ≡ key % sizes.buckets
   pub below : (x : ℕ) → place ≡ link_at sizes x → word_at sizes past (key_at sizes x) < key
-  pub above : index_of (word_at sizes past place) ≢ nowhere → key < word_at sizes past (key_at sizes (index_of (word_at sizes past place)))
+  pub above : index_of (word_at sizes past place) ≢ nowhere
+      → key < word_at sizes past (key_at sizes (index_of (word_at sizes past place)))
 
 -- in its pass a caller links the vertex that it filled behind an unmarked word, which is that of the bucket of its key
 -- or the link of a linked vertex
@@ -60,5 +62,6 @@ pub record IsUnlinkVertex (sizes : Sizes) (past : List Event) (e : Event) : Type
   pub leads : index_of (word_at sizes past e.place) ≡ e.life.index
   pub linked : IsLinkedVertex sizes past e.life.index
   pub dead : mark_of (word_at sizes past (link_at sizes e.life.index)) ≡ 1
-  pub word : e.word ≡ pack (index_of (word_at sizes past (link_at sizes e.life.index))) 0 (tag_of (word_at sizes past e.place))
+  pub word : e.word ≡ pack (index_of (word_at sizes past (link_at sizes e.life.index))) 0
+      (tag_of (word_at sizes past e.place))
   pub pass : (pass_in sizes past e.caller).is_open ≡ true

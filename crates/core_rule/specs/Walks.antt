@@ -22,8 +22,8 @@ pub record IsNoEarlier (sizes : Sizes) (journal : List Event) (x y : ℕ) : Type
   pub later : ((node_in sizes journal y).mode ≡ Linked)
       ⊎ ((node_in sizes journal x).ended ≤ (node_in sizes journal y).ended)
 
--- the link of a spent node that isn't stored for the free list leads to none, to a linked node, or to one whose last end
--- isn't before its own, and so does the second word of a spent vertex
+-- the link of a spent node that isn't stored for the free list leads to none, to a linked node, or to one whose last
+-- end isn't before its own, and so does the second word of a spent vertex
 pub record SpentLinks (sizes : Sizes) (journal : List Event) : Type 0 where
   pub link : (x : ℕ) → x < sizes.nodes
       → (node_in sizes journal x).mode ≡ Spent → (node_in sizes journal x).stored ≡ false
@@ -32,8 +32,8 @@ pub record SpentLinks (sizes : Sizes) (journal : List Event) : Type 0 where
       → (node_in sizes journal x).mode ≡ Spent → (node_in sizes journal x).vertex ≡ true
       → LeadsTo (word_at sizes journal (second_at sizes x)) (IsNoEarlier sizes journal x)
 
--- the pass of a caller has met y, which is of the kind of x and has a greater key: a vertex of the same bucket, or an edge of
--- the same source
+-- the pass of a caller has met y, which is of the kind of x and has a greater key: a vertex of the same bucket, or an
+-- edge of the same source
 pub record IsMetBehind (sizes : Sizes) (journal : List Event) (caller x y : ℕ) : Type 0 where
   pub there : y < sizes.nodes
   pub met : HasMet sizes journal caller y
@@ -41,7 +41,8 @@ pub record IsMetBehind (sizes : Sizes) (journal : List Event) (caller x y : ℕ)
   pub rising : word_at sizes journal (key_at sizes x) < word_at sizes journal (key_at sizes y)
   pub bucket : (node_in sizes journal x).vertex ≡ true
       → word_at sizes journal (key_at sizes y) % sizes.buckets ≡ word_at sizes journal (key_at sizes x) % sizes.buckets
-  pub source : (node_in sizes journal x).vertex ≡ false → (node_in sizes journal y).source ≡ (node_in sizes journal x).source
+  pub source : (node_in sizes journal x).vertex ≡ false
+      → (node_in sizes journal y).source ≡ (node_in sizes journal x).source
 
 -- the pass of a caller has met y, which is an edge of the vertex x in its life
 pub record IsMetIn (sizes : Sizes) (journal : List Event) (caller x y : ℕ) : Type 0 where
@@ -71,8 +72,8 @@ abbrev pub CameTo : Sizes → List Load → ℕ → Type 0
 CameTo sizes [] x = ⊥
 CameTo sizes (l ∷ earlier) x = ((led_to sizes l ≡ x) × (x ≢ nowhere)) ⊎ CameTo sizes earlier x
 
--- where a load of a walk comes from: the word of a bucket, the link of a node to which it came, or the second word of a vertex
--- to which it came
+-- where a load of a walk comes from: the word of a bucket, the link of a node to which it came, or the second word of a
+-- vertex to which it came
 pub data ComesFrom (sizes : Sizes) (earlier : List Load) (l : Load) : Type 0 where
   from_bucket : (j : ℕ) → j < sizes.buckets → l.place ≡ bucket_at sizes j → ComesFrom sizes earlier l
   from_link : (x : ℕ) → CameTo sizes earlier x → l.place ≡ link_at sizes x → ComesFrom sizes earlier l

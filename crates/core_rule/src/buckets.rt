@@ -1,7 +1,7 @@
 //! The laws of buckets: what stands on the chain of each bucket after each kept journal.
 //!
-//! A vertex joins the chain of its key's bucket with its link, and leaves it when it's unlinked; marked or not, it's on it in
-//! between. Since keys rise strictly along a chain, no two present vertices have one key.
+//! A vertex joins the chain of its key's bucket with its link, and leaves it when it's unlinked; marked or not, it's on
+//! it in between. Since keys rise strictly along a chain, no two present vertices have one key.
 
 ghost use Rattle.std.specs.Prelude.{◌≡◌, ◌↔◌, ℕ, ◌%◌, List, Some};
 ghost use Rattle.packed_link.specs.Layout.{IsLayout, Sizes};
@@ -12,8 +12,8 @@ ghost use Rattle.core_rule.specs.Chains.{BucketChains, IsInBucket, IsVertexOf};
 ghost use Rattle.core_rule.specs.Kept.{IsKept};
 ghost use Rattle.core_rule.specs.Nodes.{IsLinkedVertex};
 
-/// From the word of each bucket, link after link, one meets exactly its linked vertices, each once, by strictly rising keys.
-/// They are the lives that were linked as vertices with a key of the bucket, and not unlinked.
+/// From the word of each bucket, link after link, one meets exactly its linked vertices, each once, by strictly rising
+/// keys. They are the lives that were linked as vertices with a key of the bucket, and not unlinked.
 pub fn buckets_hold_their_vertices()
     ensures chains { (sizes : Sizes) → IsLayout sizes → (journal : List Event) → IsKept sizes journal
         → BucketChains sizes journal }

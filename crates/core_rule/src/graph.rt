@@ -14,8 +14,8 @@ ghost use Rattle.core_rule.specs.Freezing.{IsFreezeEdge};
 ghost use Rattle.core_rule.specs.Kept.{IsKept};
 ghost use Rattle.core_rule.specs.Vertices.{IsLinkVertex};
 
-/// The source and the target of each edge were linked as vertices, the target with the edge's key, and both before the edge
-/// was.
+/// The source and the target of each edge were linked as vertices, the target with the edge's key, and both before the
+/// edge was.
 pub fn edges_have_ends()
     ensures keys { (sizes : Sizes) → IsLayout sizes → (journal : List Event) → IsKept sizes journal → Ends journal }
     ensures before { (sizes : Sizes) → IsLayout sizes → (journal : List Event) → IsKept sizes journal

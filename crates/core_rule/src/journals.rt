@@ -21,7 +21,8 @@ ghost use Rattle.core_journal.specs.Worked.{small};
 ghost use Rattle.core_rule.specs.Beside.{beside_others};
 ghost use Rattle.core_rule.specs.Kept.{Allowed, IsKept};
 ghost use Rattle.core_rule.specs.Nodes.{node_in};
-ghost use Rattle.core_rule.specs.Refused.{IsRefused, closed, early, edgeless, event_of, holding, inside, lagging, made_in_a_pass, moves_own, outside, unclosed, unraised};
+ghost use Rattle.core_rule.specs.Refused.{IsRefused, closed, early, edgeless, event_of, holding, inside, lagging};
+ghost use Rattle.core_rule.specs.Refused.{made_in_a_pass, moves_own, outside, unclosed, unraised};
 ghost use Rattle.core_rule.specs.Standings.{FreshWith, OnChain, OnFreeList, SpentBy, StandsAs};
 ghost use Rattle.core_rule.specs.TwoLives.{two_lives, with_edge, without_edge, with_other, without_source};
 ghost use Rattle.core_rule.specs.TwoLives.{key_two, links_new, lives_words, marks_first, moves_epoch, raises_source};
@@ -48,9 +49,10 @@ pub fn a_vertex_is_added()
     ensures { IsKept tiny eight_events }
 {}
 
-/// A worked journal of 53 events, in which each of the seventeen kinds stands, is kept. An edge is added, removed, added
-/// again with another node, and gone with its source: then its node is spent by the caller who removed that source. At the
-/// end one node is in its second life, one is linked, one is spent and one is free again, and the reuse was safe.
+/// A worked journal of 53 events, in which each of the seventeen kinds stands, is kept. An edge is added, removed,
+/// added again with another node, and gone with its source: then its node is spent by the caller who removed that
+/// source. At the end one node is in its second life, one is linked, one is spent and one is free again, and the reuse
+/// was safe.
 pub fn a_node_has_two_lives()
     ensures sizes { IsLayout small }
     ensures kept { IsKept small two_lives }
@@ -75,17 +77,17 @@ pub fn an_overtaken_edge_is_linked()
     ensures { IsKept small hands_journal }
 {}
 
-/// A worked journal is kept in which nodes are linked in front of others and behind others, an edge is unlinked behind another
-/// one, and a list of two edges is closed edge by edge.
+/// A worked journal is kept in which nodes are linked in front of others and behind others, an edge is unlinked behind
+/// another one, and a list of two edges is closed edge by edge.
 pub fn nodes_are_linked_beside_others()
     ensures { IsKept small beside_others }
 {}
 
-/// Events that are refused behind kept journals, each for one part of its condition. A second node is taken while one is held;
-/// a vertex or an edge is linked, marked or unlinked, or a counter raised, outside a pass; the epoch is moved on by a caller with
-/// a pass; a counter is raised where there is no edge; an edge is marked without a raise; an edge is linked into a closed list;
-/// the epoch is moved on past an open pass; a node is stored for the free list one epoch too early; and so is one whose list
-/// isn't closed.
+/// Events that are refused behind kept journals, each for one part of its condition. A second node is taken while one
+/// is held; a vertex or an edge is linked, marked or unlinked, or a counter raised, outside a pass; the epoch is moved
+/// on by a caller with a pass; a counter is raised where there is no edge; an edge is marked without a raise; an edge
+/// is linked into a closed list; the epoch is moved on past an open pass; a node is stored for the free list one epoch
+/// too early; and so is one whose list isn't closed.
 pub fn wrong_events_are_refused()
     ensures greedy { IsRefused small holding (takes 0 1 2) }
     ensures outside { Every (λ (n : ℕ). IsRefused small (outside n) (event_of n)) made_in_a_pass }

@@ -1,7 +1,7 @@
 //! The rule of the core: which event may come next in the journal of the shared table, and what holds of it after each.
 //!
-//! A journal is kept where each of its events was allowed after those before it (`IsKept` of `specs/Kept.antt`). All facts
-//! of the table are laws of kept journals. The crate has definitions and laws, and no code.
+//! A journal is kept where each of its events was allowed after those before it (`IsKept` of `specs/Kept.antt`). All
+//! facts of the table are laws of kept journals. The crate has definitions and laws, and no code.
 #![tactic(auto)]
 
 mod buckets;

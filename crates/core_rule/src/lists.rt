@@ -134,9 +134,9 @@ pub fn frozen_words_stay()
         × IsFrozenWord sizes journal x (link_at sizes y) }
 {}
 
-/// While a vertex is in its life, a closed head stays closed, a list that is frozen to its end stays so, and an edge of the
-/// frozen part stays in it until it's given back. No list takes up an edge that isn't fresh; so where each list on which an
-/// edge stood was frozen to its end, each is on which it stands.
+/// While a vertex is in its life, a closed head stays closed, a list that is frozen to its end stays so, and an edge of
+/// the frozen part stays in it until it's given back. No list takes up an edge that isn't fresh; so where each list on
+/// which an edge stood was frozen to its end, each is on which it stands.
 pub fn closed_lists_stay()
     ensures head { (sizes : Sizes) → IsLayout sizes → (x : ℕ) (front journal : List Event) → IsPrefix front journal
         → IsKept sizes journal → (node_in sizes journal x).tag ≡ (node_in sizes front x).tag
@@ -160,8 +160,8 @@ pub fn closed_lists_stay()
         → (x : ℕ) → x < sizes.nodes → is_listed (state sizes journal) x y ≡ true → IsFrozenToEnd sizes journal x }
 {}
 
-/// Each linked edge stands on the list of its source, which is in the life that was the edge's source, and is linked, or
-/// spent and not frozen to its end. A vertex whose list isn't frozen to its end isn't stored for the free list.
+/// Each linked edge stands on the list of its source, which is in the life that was the edge's source, and is linked,
+/// or spent and not frozen to its end. A vertex whose list isn't frozen to its end isn't stored for the free list.
 pub fn linked_edges_are_at_their_source()
     ensures { (sizes : Sizes) → IsLayout sizes → (journal : List Event) → IsKept sizes journal → Sources sizes journal }
 {}
@@ -179,8 +179,8 @@ pub fn a_present_edge_is_on_its_list()
         → IsAtSource sizes journal x.index }
 {}
 
-/// No two edges have one pair of source and key: two of one source and one key are one, where neither was unlinked, and the
-/// source has a list or one of them isn't marked; and so are two that aren't marked.
+/// No two edges have one pair of source and key: two of one source and one key are one, where neither was unlinked, and
+/// the source has a list or one of them isn't marked; and so are two that aren't marked.
 pub fn one_edge_has_a_pair()
     ensures listed { (sizes : Sizes) → IsLayout sizes → (journal : List Event) → IsKept sizes journal
         → (source : ℕ) → HasList sizes journal source → (x y : Life)

@@ -14,15 +14,15 @@ ghost use Rattle.core_rule.specs.Kept.{IsKept, IsQuiet};
 ghost use Rattle.core_rule.specs.Nodes.{IsRipe, IsSpentWith, IsStamped, node_in};
 ghost use Rattle.core_rule.specs.Standings.{Standing, StandsAs};
 
-/// No node is given again while an older pass is open: whenever a node is taken, each life for which it was taken before has
-/// ended, and each pass that is open then was announced after that end.
+/// No node is given again while an older pass is open: whenever a node is taken, each life for which it was taken
+/// before has ended, and each pass that is open then was announced after that end.
 pub fn nodes_are_given_again_safely()
     ensures { (sizes : Sizes) → IsLayout sizes → (journal : List Event) → IsKept sizes journal
         → ReusesSafely sizes journal }
 {}
 
-/// Each node is on the free list, fresh with one caller, linked, or spent by one caller, and in one of these states only. Its
-/// link word is as that state says, and no node but the free ones is on the free list.
+/// Each node is on the free list, fresh with one caller, linked, or spent by one caller, and in one of these states
+/// only. Its link word is as that state says, and no node but the free ones is on the free list.
 pub fn each_node_has_one_standing()
     ensures some { (sizes : Sizes) → IsLayout sizes → (journal : List Event) → IsKept sizes journal
         → (x : ℕ) → x < sizes.nodes → (standing : Standing) × StandsAs sizes journal x standing }
@@ -32,8 +32,9 @@ pub fn each_node_has_one_standing()
         → (x : ℕ) → Contains (state sizes journal).free x → (node_in sizes journal x).mode ≡ Free }
 {}
 
-/// A node that a caller has spent stays with it while only others make events: from a front with all events of the caller on
-/// it's the same node, in its life and with its end, and its key, its link and whether its list is closed stay.
+/// A node that a caller has spent stays with it while only others make events: from a front with all events of the
+/// caller on it's the same node, in its life and with its end, and its key, its link and whether its list is closed
+/// stay.
 pub fn spent_nodes_stay_with_their_caller()
     ensures { (sizes : Sizes) → IsLayout sizes → (caller last x : ℕ) → x < sizes.nodes
         → (front journal : List Event) → IsPrefix front journal → IsKept sizes journal → IsQuiet journal caller last
@@ -70,9 +71,9 @@ pub fn spent_nodes_become_ripe()
         → IsRipe sizes past caller x → IsRipe sizes (past ++ e ∷ []) caller x }
 {}
 
-/// What an open pass has met it has met still while the pass is open: the node is in the same life, a vertex or an edge as it
-/// was, with the same key, and an edge with the same source, target and weight. It isn't stored for the free list, and its link
-/// stays once it's marked.
+/// What an open pass has met it has met still while the pass is open: the node is in the same life, a vertex or an edge
+/// as it was, with the same key, and an edge with the same source, target and weight. It isn't stored for the free
+/// list, and its link stays once it's marked.
 pub fn what_is_met_keeps_its_words()
     ensures met { (sizes : Sizes) → IsLayout sizes → (front journal : List Event) → IsKept sizes journal
         → (caller x : ℕ) → IsSamePass sizes front journal caller → HasMet sizes front caller x

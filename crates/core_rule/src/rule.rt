@@ -22,8 +22,8 @@ pub fn a_new_table_meets_the_rule()
     ensures { (sizes : Sizes) → Ruled sizes (opening (opening_words sizes) [] (first_view sizes)) }
 {}
 
-/// A load keeps the rule. A step that changes one word does where it owes what `Owes` says, and a store where it owes what
-/// `OwesStore` says.
+/// A load keeps the rule. A step that changes one word does where it owes what `Owes` says, and a store where it owes
+/// what `OwesStore` says.
 pub fn steps_keep_the_rule()
     ensures load { (slots seat place : ℕ) (v : View)
         → Allows (Ruled v.sizes) slots seat (v, []) place (λ x. x) (looking (step slots place 0 0 none) (v, [])) }

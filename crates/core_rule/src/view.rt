@@ -8,10 +8,10 @@ ghost use Rattle.core_journal.specs.declared.event.Event.{Event};
 
 use std::marker::Model;
 
-/// A token's view: the sizes of its table, its front of the journal, the entries of its book, its number once it drew one,
-/// with the length of the journal up to its last event, the numbers of tokens that were joined to it, each with such a
-/// length, and whether it may draw numbers, with how many are drawn. After a join it holds the other's front until it
-/// looks again.
+/// A token's view: the sizes of its table, its front of the journal, the entries of its book, its number once it drew
+/// one, with the length of the journal up to its last event, the numbers of tokens that were joined to it, each with
+/// such a length, and whether it may draw numbers, with how many are drawn. After a join it holds the other's front
+/// until it looks again.
 pub struct View {
     pub ghost sizes: { Sizes },
     pub ghost front: { List Event },

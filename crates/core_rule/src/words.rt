@@ -58,8 +58,8 @@ pub fn free_list_is_exact()
         → word_at sizes journal (link_at sizes (index_of seen)) ≡ next }
 {}
 
-/// The link word of each node is as its state says; so a node that was linked in its life, and whose link is unmarked, is
-/// linked still.
+/// The link word of each node is as its state says; so a node that was linked in its life, and whose link is unmarked,
+/// is linked still.
 pub fn links_tell_states()
     ensures words { (sizes : Sizes) → IsLayout sizes → (journal : List Event) → IsKept sizes journal
         → LinkWords sizes (state sizes journal) (word_at sizes journal) }
@@ -69,8 +69,8 @@ pub fn links_tell_states()
         → mark_of (word_at sizes journal (link_at sizes x)) ≡ 0 → (node_in sizes journal x).mode ≡ Linked }
 {}
 
-/// While a node is linked or spent, its other words are those with which it was linked: its key; of a vertex the life of its
-/// list, marked where it's closed; of an edge its target and its weight.
+/// While a node is linked or spent, its other words are those with which it was linked: its key; of a vertex the life
+/// of its list, marked where it's closed; of an edge its target and its weight.
 pub fn nodes_keep_their_words()
     ensures { (sizes : Sizes) → IsLayout sizes → (journal : List Event) → IsKept sizes journal
         → Contents sizes (state sizes journal) (word_at sizes journal) }
@@ -94,8 +94,8 @@ pub fn lives_are_linked_once()
         → LinkedOnce journal (state sizes journal) }
 {}
 
-/// A marked link of a life changes no more until it's stored for the free list, and a marked second word, a list that is
-/// closed at its head, no more until the node is taken again.
+/// A marked link of a life changes no more until it's stored for the free list, and a marked second word, a list that
+/// is closed at its head, no more until the node is taken again.
 pub fn marked_words_stay()
     ensures link { (sizes : Sizes) → IsLayout sizes → (x : ℕ) (front journal : List Event) → IsPrefix front journal
         → IsKept sizes journal → (node_in sizes front x).mode ≢ Fresh
@@ -115,15 +115,15 @@ pub fn no_number_wraps()
         → Bounds sizes (state sizes journal) (word_at sizes journal) }
 {}
 
-/// What a node says of its life is what the events of the journal say: the key with which it was linked, or the edge, and
-/// whether it's marked. A fresh node's life was neither linked nor marked.
+/// What a node says of its life is what the events of the journal say: the key with which it was linked, or the edge,
+/// and whether it's marked. A fresh node's life was neither linked nor marked.
 pub fn nodes_tell_their_lives()
     ensures { (sizes : Sizes) → IsLayout sizes → (journal : List Event) → IsKept sizes journal
         → Named sizes journal (state sizes journal) }
 {}
 
-/// An open pass began at most one epoch ago. A caller that was checked after an epoch was seen has no pass that began before
-/// that epoch, whatever began in between.
+/// An open pass began at most one epoch ago. A caller that was checked after an epoch was seen has no pass that began
+/// before that epoch, whatever began in between.
 pub fn passes_are_near_the_epoch()
     ensures near { (sizes : Sizes) (journal : List Event) → IsKept sizes journal → IsNear (clock_in sizes journal) }
     ensures checked { (sizes : Sizes) (from past : List Event) (caller : ℕ) → caller < sizes.callers
@@ -131,8 +131,8 @@ pub fn passes_are_near_the_epoch()
         → IsClear (word_at sizes from (epoch_at sizes)) caller (clock_in sizes past) }
 {}
 
-/// No life ended in the future; a life that ended after an open pass began ended in the epoch of its birth or later; and a
-/// ripe node was spent before each open pass began, so no open pass can have met it.
+/// No life ended in the future; a life that ended after an open pass began ended in the epoch of its birth or later;
+/// and a ripe node was spent before each open pass began, so no open pass can have met it.
 pub fn ripe_nodes_ended_before_passes()
     ensures ended { (sizes : Sizes) (journal : List Event) → IsKept sizes journal
         → Ended (clock_in sizes journal) (ends_in sizes journal) }
