@@ -24,4 +24,4 @@ pub mod Reuses
 pub mod WorkedReuse
 pub mod WorkedList
 pub mod WorkedBooks
-pub mod HandsBooks
+pub mod CallersBooks

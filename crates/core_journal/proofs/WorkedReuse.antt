@@ -7,20 +7,20 @@ use Rattle.core_journal.specs.Event.{blank}
 use Rattle.core_journal.specs.State.{state}
 use Rattle.core_journal.specs.Reuse.{IsOver, ReusesSafely, pass_in}
 use Rattle.core_journal.specs.Worked.{small, first_life}
-use Rattle.core_journal.specs.TwoHands.{hands_journal, takes}
+use Rattle.core_journal.specs.TwoCallers.{callers_journal, takes}
 use Rattle.core_journal.specs.FirstVertex.{tiny, eight_events}
 use Rattle.core_journal.specs.SecondLife.{given_back, taken_again, second_life}
 use Rattle.core_journal.proofs.Reuses.{reuse_nil, quiet_stretch, take_one}
 
 abbrev before : ℕ → List Event
-before n = take n hands_journal
+before n = take n callers_journal
 
 abbrev between : ℕ → ℕ → List Event
-between m n = drop m (take n hands_journal)
+between m n = drop m (take n callers_journal)
 
-pub hands_reuse : ReusesSafely small hands_journal
-hands_reuse =
-    quiet_stretch small (before 21) (drop 21 hands_journal) refl
+pub callers_reuse : ReusesSafely small callers_journal
+callers_reuse =
+    quiet_stretch small (before 21) (drop 21 callers_journal) refl
     (take_one small (before 20) (takes 0 2 3) (quiet_stretch small (before 12) (between 12 20) refl
     (take_one small (before 11) (takes 0 1 2) (quiet_stretch small (before 4) (between 4 11) refl
     (take_one small (before 3) (takes 0 0 1) (quiet_stretch small [] (before 3) refl (reuse_nil small)) tt)) tt)) tt)

@@ -8,7 +8,7 @@ use Rattle.core_journal.specs.History.{}
 use Rattle.core_journal.specs.FirstVertex.{tiny, words_before, words_after, eight_events, key_seven}
 use Rattle.core_journal.specs.Worked.{small}
 use Rattle.core_journal.specs.SecondLife.{second_life, words_again}
-use Rattle.core_journal.specs.TwoHands.{hands_journal, hands_words}
+use Rattle.core_journal.specs.TwoCallers.{callers_journal, callers_words}
 
 pub words_first : opening_words tiny ≡ words_before
 words_first = refl
@@ -17,21 +17,21 @@ pub words_last : machine tiny eight_events ≡ words_after
 unfolding machine
 words_last = refl
 
-pub words_hands : machine small hands_journal ≡ hands_words
+pub words_callers : machine small callers_journal ≡ callers_words
 unfolding machine
-words_hands = refl
+words_callers = refl
 
-pub edges_hands : (state small hands_journal).edges 0 ≡ 2 ∷ []
+pub edges_callers : (state small callers_journal).edges 0 ≡ 2 ∷ []
 unfolding state
-edges_hands = refl
+edges_callers = refl
 
-pub bucket_hands : (state small hands_journal).bucket 0 ≡ 0 ∷ []
+pub bucket_callers : (state small callers_journal).bucket 0 ≡ 0 ∷ []
 unfolding state
-bucket_hands = refl
+bucket_callers = refl
 
-pub free_hands : (state small hands_journal).free ≡ 3 ∷ 4 ∷ 5 ∷ 6 ∷ 7 ∷ []
+pub free_callers : (state small callers_journal).free ≡ 3 ∷ 4 ∷ 5 ∷ 6 ∷ 7 ∷ []
 unfolding state
-free_hands = refl
+free_callers = refl
 
 pub words_second : machine tiny second_life ≡ words_again
 unfolding machine

@@ -12,7 +12,7 @@ pub mod Overtaken
 pub mod Reuse
 pub mod Changes
 pub mod Worked
-pub mod TwoHands
+pub mod TwoCallers
 pub mod FirstVertex
 pub mod SecondLife
 pub mod ClosedList

@@ -1,7 +1,7 @@
 //! The definitions computed on worked journals, so that none of the laws speaks of nothing.
 //!
 //! `specs/FirstVertex.antt` has the first eight events of a table, `specs/Worked.antt` an edge that is
-//! overtaken before its call ends, and `specs/TwoHands.antt` one that is linked too late, with all words of the
+//! overtaken before its call ends, and `specs/TwoCallers.antt` one that is linked too late, with all words of the
 //! table.
 
 ghost use Rattle.std.specs.Prelude.{◌≡◌, [], ◌∷◌};
@@ -15,7 +15,8 @@ ghost use Rattle.core_journal.specs.Reuse.{EndsAt, ReusesSafely};
 ghost use Rattle.core_journal.specs.Right.{IsBookOf, CallersApart, RightLate};
 ghost use Rattle.core_journal.specs.SecondLife.{second_life, words_again};
 ghost use Rattle.core_journal.specs.State.{state, Linked, Spent};
-ghost use Rattle.core_journal.specs.TwoHands.{hands_journal, hands_books, hands_history, hands_words, late_entry};
+ghost use Rattle.core_journal.specs.TwoCallers.{callers_journal, callers_books, callers_history, callers_words};
+ghost use Rattle.core_journal.specs.TwoCallers.{late_entry};
 ghost use Rattle.core_journal.specs.Worked.{first_life, small, worked_journal, worked_books, worked_history, one_key};
 
 /// The words of a small table before and after its first eight events, which add the vertex of key 7, and what
@@ -65,21 +66,21 @@ pub fn an_overtaken_edge_is_legal()
     ensures legal { IsLegal worked_history one_key }
 {}
 
-/// Two hands, from the opening on: an edge is linked to a vertex that is already removed. The words, the lists
+/// Two callers, from the opening on: an edge is linked to a vertex that is already removed. The words, the lists
 /// and the graph are as worked out by hand, the books are true, one of them by a late entry, and their history
 /// is legal.
 pub fn a_late_edge_is_legal()
-    ensures words { machine small hands_journal ≡ hands_words }
-    ensures free { (state small hands_journal).free ≡ 3 ∷ 4 ∷ 5 ∷ 6 ∷ 7 ∷ [] }
-    ensures bucket { (state small hands_journal).bucket 0 ≡ 0 ∷ [] }
-    ensures edges { (state small hands_journal).edges 0 ≡ 2 ∷ [] }
-    ensures regular { IsRegular hands_journal }
-    ensures reuse { ReusesSafely small hands_journal }
-    ensures apart { CallersApart hands_books }
-    ensures late { RightLate hands_journal 0 late_entry }
-    ensures books { Every (IsBookOf small hands_journal) hands_books }
-    ensures closed { IsClosed hands_journal hands_books }
-    ensures graph { graph_of hands_journal ≡ one_key }
-    ensures history { history hands_journal hands_books ≡ hands_history }
-    ensures legal { IsLegal hands_history one_key }
+    ensures words { machine small callers_journal ≡ callers_words }
+    ensures free { (state small callers_journal).free ≡ 3 ∷ 4 ∷ 5 ∷ 6 ∷ 7 ∷ [] }
+    ensures bucket { (state small callers_journal).bucket 0 ≡ 0 ∷ [] }
+    ensures edges { (state small callers_journal).edges 0 ≡ 2 ∷ [] }
+    ensures regular { IsRegular callers_journal }
+    ensures reuse { ReusesSafely small callers_journal }
+    ensures apart { CallersApart callers_books }
+    ensures late { RightLate callers_journal 0 late_entry }
+    ensures books { Every (IsBookOf small callers_journal) callers_books }
+    ensures closed { IsClosed callers_journal callers_books }
+    ensures graph { graph_of callers_journal ≡ one_key }
+    ensures history { history callers_journal callers_books ≡ callers_history }
+    ensures legal { IsLegal callers_history one_key }
 {}

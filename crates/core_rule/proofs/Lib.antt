@@ -64,7 +64,7 @@ pub mod Refusals
 pub mod LivesShown
 pub mod KeptLists
 pub mod KnownSteps
-pub mod HandsKept
+pub mod CallersKept
 pub mod Beside
 pub mod FrozenOn
 pub mod FoundFrozen

@@ -12,7 +12,7 @@ use Rattle.core_journal.specs.Life.{link_of}
 use Rattle.core_journal.specs.Reuse.{pass_in}
 use Rattle.core_journal.specs.Machine.{machine, word_at}
 use Rattle.core_journal.specs.State.{state}
-use Rattle.core_journal.specs.TwoHands.{announces, takes, withdraws}
+use Rattle.core_journal.specs.TwoCallers.{announces, takes, withdraws}
 use Rattle.core_journal.specs.Worked.{small}
 use Rattle.core_rule.specs.Counts.{raises}
 use Rattle.core_rule.specs.Edges.{IsLinkEdge, IsMarkEdge, IsRaise}

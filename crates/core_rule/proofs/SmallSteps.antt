@@ -14,7 +14,7 @@ use Rattle.core_journal.specs.Machine.{word_at}
 use Rattle.core_journal.specs.Prefix.{IsPrefix}
 use Rattle.core_journal.specs.State.{Mode, Fresh, state}
 use Rattle.core_journal.specs.Reuse.{pass_in}
-use Rattle.core_journal.specs.TwoHands.{fills, withdraws}
+use Rattle.core_journal.specs.TwoCallers.{fills, withdraws}
 use Rattle.core_journal.specs.Worked.{small}
 use Rattle.core_rule.specs.Counts.{moves, made, most_moves}
 use Rattle.core_rule.specs.Kept.{Allowed, IsQuiet}

@@ -9,7 +9,7 @@ use Rattle.core_journal.specs.declared.event.Kind.TheVariants.{LinkVertex, MarkV
 use Rattle.core_journal.specs.declared.event.Kind.TheVariants.{UnlinkEdge, FreezeEdge}
 use Rattle.core_journal.specs.declared.event.Event.{Event}
 use Rattle.core_journal.specs.Event.{blank}
-use Rattle.core_journal.specs.TwoHands.{announces, withdraws, takes, fills}
+use Rattle.core_journal.specs.TwoCallers.{announces, withdraws, takes, fills}
 use Rattle.core_journal.specs.Worked.{small, first_life}
 use Rattle.core_rule.specs.TwoLives.{takes_edge, marks_first, closes_head, with_edge}
 

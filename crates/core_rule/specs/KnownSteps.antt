@@ -2,7 +2,7 @@
 use Rattle.std.specs.Prelude.{◌≡◌, ℕ, true, false, List, [], Some, slice_get, take}
 use Rattle.core_journal.specs.declared.event.Event.{Event}
 use Rattle.core_journal.specs.Machine.{word_at}
-use Rattle.core_journal.specs.TwoHands.{hands_journal}
+use Rattle.core_journal.specs.TwoCallers.{callers_journal}
 use Rattle.core_journal.specs.Worked.{small}
 use Rattle.core_rule.specs.Beside.{beside_others}
 use Rattle.core_rule.specs.Owes.{Reaches}
@@ -31,7 +31,7 @@ view_at caller n = view_of two_lives caller n
 
 -- the same of the worked journal of two callers at once
 abbrev pub view_among : ℕ → ℕ → View
-view_among caller n = view_of hands_journal caller n
+view_among caller n = view_of callers_journal caller n
 
 -- the same of the worked journal with links in front of others and behind others
 abbrev pub view_beside : ℕ → ℕ → View

@@ -5,7 +5,7 @@ use Rattle.packed_link.specs.Layout.{Sizes, epoch_at}
 use Rattle.core_journal.specs.declared.event.Event.{Event}
 use Rattle.core_journal.specs.declared.event.Kind.TheVariants.{MoveEpoch}
 use Rattle.core_journal.specs.Event.{blank}
-use Rattle.core_journal.specs.TwoHands.{draws, announces, withdraws, takes, two_vertices}
+use Rattle.core_journal.specs.TwoCallers.{draws, announces, withdraws, takes, two_vertices}
 use Rattle.core_journal.specs.Worked.{small}
 use Rattle.core_rule.specs.Kept.{IsKept}
 use Rattle.core_rule.specs.TwoLives.{takes_edge, removes_vertex, closes_head, moves_epoch, with_edge, without_edge}

@@ -14,7 +14,7 @@ use Rattle.core_journal.specs.declared.event.Kind.TheVariants.{FreezeEdge, Store
 use Rattle.core_journal.specs.declared.event.Event.{Event}
 use Rattle.core_journal.specs.Event.{blank}
 use Rattle.core_journal.specs.Worked.{small, first_life}
-use Rattle.core_journal.specs.TwoHands.{announces, withdraws, takes, fills, two_vertices}
+use Rattle.core_journal.specs.TwoCallers.{announces, withdraws, takes, fills, two_vertices}
 use Rattle.core_rule.specs.Walks.{Load}
 
 -- in a new pass caller 0 takes node x, and fills it for an edge to node 1 with this weight

@@ -16,7 +16,7 @@ ghost use Rattle.core_journal.specs.FirstVertex.{eight_events, tiny};
 ghost use Rattle.core_journal.specs.Machine.{machine};
 ghost use Rattle.core_journal.specs.Reuse.{ReusesSafely};
 ghost use Rattle.core_journal.specs.State.{state};
-ghost use Rattle.core_journal.specs.TwoHands.{hands_journal, takes};
+ghost use Rattle.core_journal.specs.TwoCallers.{callers_journal, takes};
 ghost use Rattle.core_journal.specs.Worked.{small};
 ghost use Rattle.core_rule.specs.Beside.{beside_others};
 ghost use Rattle.core_rule.specs.Kept.{Allowed, IsKept};
@@ -74,7 +74,7 @@ pub fn a_node_has_two_lives()
 
 /// The worked journal of two callers at once is kept: one links an edge to a vertex that the other removes meanwhile.
 pub fn an_overtaken_edge_is_linked()
-    ensures { IsKept small hands_journal }
+    ensures { IsKept small callers_journal }
 {}
 
 /// A worked journal is kept in which nodes are linked in front of others and behind others, an edge is unlinked behind

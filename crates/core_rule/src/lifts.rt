@@ -21,7 +21,7 @@ ghost use Rattle.core_journal.specs.declared.event.Kind.TheVariants.{PushFree};
 ghost use Rattle.core_journal.specs.declared.event.Kind.TheVariants.{Raise, StoreFree, StorePrivate, UnlinkEdge};
 ghost use Rattle.core_journal.specs.declared.event.Kind.TheVariants.{UnlinkVertex, Withdraw};
 ghost use Rattle.core_journal.specs.Machine.{word_at};
-ghost use Rattle.core_journal.specs.TwoHands.{hands_journal};
+ghost use Rattle.core_journal.specs.TwoCallers.{callers_journal};
 ghost use Rattle.core_journal.specs.Worked.{small, first_life};
 ghost use Rattle.core_rule.specs.Nodes.{IsSpentWith};
 ghost use Rattle.core_rule.specs.declared.view.View.{View};
@@ -176,23 +176,23 @@ pub fn a_token_may_make_each_step()
         × Makes two_lives (view_at 0 50) 50 (pack 3 0 5) (push_event (view_at 0 50) (pack 3 0 5) (first_life 0)) }
 {}
 
-/// A front may lag behind the journal: on the worked journal of two callers at once (`hands_journal` of core_journal)
+/// A front may lag behind the journal: on the worked journal of two callers at once (`callers_journal` of core_journal)
 /// events of the other caller stand between the front and each of these steps. Caller 1 marks a vertex, unlinks it from
 /// the link of another one, and closes its list; caller 0 links an edge to it, which is spent by then, and which its
 /// pass has met.
 pub fn a_token_may_lag_behind()
     ensures mark_vertex { MayMarkVertex (view_among 1 20) (first_life 1)
-        × Makes hands_journal (view_among 1 20) 22 (pack nowhere 0 1)
+        × Makes callers_journal (view_among 1 20) 22 (pack nowhere 0 1)
         (mark_vertex_event (view_among 1 20) (first_life 1) (pack nowhere 0 1)) }
     ensures unlink_vertex { MayUnlinkVertex (view_among 1 23) (link_at small 0) (pack 1 0 1) nowhere (first_life 1)
-        × Makes hands_journal (view_among 1 23) 24 (pack 1 0 1)
+        × Makes callers_journal (view_among 1 23) 24 (pack 1 0 1)
         (unlink_vertex_event (view_among 1 23) (link_at small 0) (pack 1 0 1) nowhere (first_life 1)) }
     ensures freeze_head { MayFreezeHead (view_among 1 25) (first_life 1)
-        × Makes hands_journal (view_among 1 25) 26 (pack nowhere 0 1)
+        × Makes callers_journal (view_among 1 25) 26 (pack nowhere 0 1)
         (freeze_head_event (view_among 1 25) (first_life 1) (pack nowhere 0 1)) }
     ensures link_edge { MayLinkEdge (view_among 0 28) (second_at small 0) (pack nowhere 0 1) 2 (first_life 0)
         (first_life 1) 5 (first_life 2)
-        × Makes hands_journal (view_among 0 28) 29 (pack nowhere 0 1)
+        × Makes callers_journal (view_among 0 28) 29 (pack nowhere 0 1)
         (link_edge_event (view_among 0 28) (second_at small 0) (pack nowhere 0 1) 2 (first_life 0) (first_life 1) 5
         (first_life 2)) }
 {}

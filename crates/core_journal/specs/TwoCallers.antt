@@ -117,8 +117,8 @@ overtaken_edge =
     ∷ []
 
 -- all events
-abbrev pub hands_journal : List Event
-hands_journal = two_vertices ++ overtaken_edge
+abbrev pub callers_journal : List Event
+callers_journal = two_vertices ++ overtaken_edge
 
 -- the edge is overtaken by the mark of event 22
 abbrev pub late_entry : Entry
@@ -145,15 +145,15 @@ look_up = record {
 }
 
 -- the calls of the two callers
-abbrev pub hands_books : List Book
-hands_books =
+abbrev pub callers_books : List Book
+callers_books =
     record { caller = 0; entries = own (AddVertex 1) Added 8 1 10 ∷ own (AddVertex 2) Added 16 10 18 ∷ late_entry ∷ [] }
     ∷ record { caller = 1; entries = own (RemoveVertex 2) (Removed 0) 22 2 29 ∷ look_up ∷ [] }
     ∷ []
 
 -- their history: the add of the edge stands just before the removal that overtook it
-abbrev pub hands_history : List Item
-hands_history =
+abbrev pub callers_history : List Item
+callers_history =
     item 0 (own (AddVertex 1) Added 8 1 10)
     ∷ item 0 (own (AddVertex 2) Added 16 10 18)
     ∷ item 0 late_entry
@@ -162,8 +162,8 @@ hands_history =
     ∷ []
 
 -- the words of the table after it, place by place
-abbrev pub hands_words : List ℕ
-hands_words =
+abbrev pub callers_words : List ℕ
+callers_words =
     0 ∷ 2 ∷ 0 ∷ pack 3 0 3 ∷ 0 ∷ 0 ∷ pack 0 0 0
     ∷ 1 ∷ pack nowhere 0 1 ∷ pack 2 0 1 ∷ 0
     ∷ 2 ∷ pack nowhere 1 1 ∷ pack nowhere 1 1 ∷ 0

@@ -1,4 +1,4 @@
--- The journal of two hands is regular, its books are true of it, and its graph has one key.
+-- The journal of two callers is regular, its books are true of it, and its graph has one key.
 use Rattle.std.proofs.Common.{◌≡◌, ℕ, Bool, true, false, cond, ◌&&◌, List, [], ◌∷◌, ◌++◌, map, Option, Some, None, refl, ap, ◌∙◌, subst, arith, inr}
 use Rattle.std.specs.Prelude.{option_map, take, drop}
 use Rattle.graph_kinds.specs.Graph.{has}
@@ -17,7 +17,7 @@ use Rattle.core_journal.specs.History.{Turn, turn, history, history_of, turns, I
 use Rattle.core_journal.specs.Right.{IsBookOf, CallersApart, RightLate, IsAnswer}
 use Rattle.core_journal.specs.Changes.{IsNewVertex, IsRemovedVertex, IsNewEdge}
 use Rattle.core_journal.specs.Worked.{small, first_life, own, one_key}
-use Rattle.core_journal.specs.TwoHands.{hands_journal, late_entry, look_up, hands_books, hands_history}
+use Rattle.core_journal.specs.TwoCallers.{callers_journal, late_entry, look_up, callers_books, callers_history}
 use Rattle.core_journal.proofs.Calls.{adds_vertex, removes_there}
 use Rattle.core_journal.proofs.Snoc.{same_is}
 use Rattle.core_journal.proofs.GraphRows.{has-graph, new_vertex_graph, removed_vertex_graph, no_edge_graph}
@@ -41,15 +41,15 @@ link_edge = record blank { kind = LinkEdge; place = second_at small 0; word = pa
 
 -- what stands before, between and behind them
 abbrev before : ℕ → List Event
-before n = take n hands_journal
+before n = take n callers_journal
 
 abbrev between : ℕ → ℕ → List Event
-between m n = drop m (take n hands_journal)
+between m n = drop m (take n callers_journal)
 
 -- computed: the graph
-pub hands_graph : graph_of hands_journal ≡ one_key
+pub callers_graph : graph_of callers_journal ≡ one_key
 unfolding graph_of key_of link_of
-hands_graph = refl
+callers_graph = refl
 
 no_one : has (graph_of (before 8)) 1 ≡ false
 unfolding key_of
@@ -94,17 +94,17 @@ unfolding key_of
 no_target = refl
 
 -- each event is regular
-pub hands_regular : IsRegular hands_journal
-hands_regular = record {
-  steps = idle_stretch [] (before 8) (drop 8 hands_journal) refl (
+pub callers_regular : IsRegular callers_journal
+callers_regular = record {
+  steps = idle_stretch [] (before 8) (drop 8 callers_journal) refl (
     new_vertex_regular (before 8) link_one new_one no_one,
-    idle_stretch (before 9) (between 9 16) (drop 16 hands_journal) refl (
+    idle_stretch (before 9) (between 9 16) (drop 16 callers_journal) refl (
       new_vertex_regular (before 16) link_two new_two no_two,
-      idle_stretch (before 17) (between 17 22) (drop 22 hands_journal) refl (
+      idle_stretch (before 17) (between 17 22) (drop 22 callers_journal) refl (
         removed_vertex_regular (before 22) mark_two 2 removed_two,
-        idle_stretch (before 23) (between 23 29) (drop 29 hands_journal) refl (
+        idle_stretch (before 23) (between 23 29) (drop 29 callers_journal) refl (
           no_edge_regular (before 29) link_edge new_edge no_target,
-          idle_stretch (before 30) (drop 30 hands_journal) [] refl tt,
+          idle_stretch (before 30) (drop 30 callers_journal) [] refl tt,
         ),
       ),
     ),
@@ -112,15 +112,15 @@ hands_regular = record {
 }
 
 -- the books are of two callers
-pub hands_apart : CallersApart hands_books
-hands_apart = (((λ h. omega (arith, h)), tt), (tt, tt))
+pub callers_apart : CallersApart callers_books
+callers_apart = (((λ h. omega (arith, h)), tt), (tt, tt))
 
 -- the link of the edge changes nothing
 dull_link : (e : Event) → ◌≡◌ {A = Option Event} (Some link_edge) (Some e) → changes (before 29) e ≡ false
 dull_link e at = let same : link_edge ≡ e = cc in subst (λ (d : Event). changes (before 29) d ≡ false) same (changes_not (before 29) link_edge (no_edge_graph (before 29) link_edge new_edge no_target))
 
 -- the late entry is right
-pub late_right : RightLate hands_journal 0 late_entry
+pub late_right : RightLate callers_journal 0 late_entry
 unfolding key_of
 late_right = record {
   reply = refl;
@@ -151,13 +151,13 @@ look_right =
     record { reply = answers_no_vertex (graph_of (before 32)) 1 2 none; stays = looks_only (graph_of (before 32)) 1 2 none }
 
 -- the books are true
-pub hands_true : Every (IsBookOf small hands_journal) hands_books
-hands_true = (
+pub callers_true : Every (IsBookOf small callers_journal) callers_books
+callers_true = (
   record {
     right = (
-      own_right hands_journal 0 (own (AddVertex 1) Added 8 1 10) link_one refl refl (adds_vertex (graph_of (before 8)) 1 no_one) (new_vertex_graph (before 8) link_one new_one) (answers_added (graph_of (before 8)) 1 no_one),
+      own_right callers_journal 0 (own (AddVertex 1) Added 8 1 10) link_one refl refl (adds_vertex (graph_of (before 8)) 1 no_one) (new_vertex_graph (before 8) link_one new_one) (answers_added (graph_of (before 8)) 1 no_one),
       (
-        own_right hands_journal 0 (own (AddVertex 2) Added 16 10 18) link_two refl refl (adds_vertex (graph_of (before 16)) 2 no_two) (new_vertex_graph (before 16) link_two new_two) (answers_added (graph_of (before 16)) 2 no_two),
+        own_right callers_journal 0 (own (AddVertex 2) Added 16 10 18) link_two refl refl (adds_vertex (graph_of (before 16)) 2 no_two) (new_vertex_graph (before 16) link_two new_two) (answers_added (graph_of (before 16)) 2 no_two),
         (late_right, tt),
       ),
     );
@@ -170,12 +170,12 @@ hands_true = (
         ),
       );
     };
-    covers = covers_by hands_journal 0 29 (own (AddVertex 1) Added 8 1 10 ∷ own (AddVertex 2) Added 16 10 18 ∷ late_entry ∷ []) refl dull_link;
+    covers = covers_by callers_journal 0 29 (own (AddVertex 1) Added 8 1 10 ∷ own (AddVertex 2) Added 16 10 18 ∷ late_entry ∷ []) refl dull_link;
   },
   (
     record {
       right = (
-        own_right hands_journal 1 (own (RemoveVertex 2) (Removed 0) 22 2 29) mark_two refl refl (removes_there (graph_of (before 22)) 2 two_there) (removed_vertex_graph (before 22) mark_two 2 removed_two) (answers_gone (graph_of (before 22)) 2 two_there),
+        own_right callers_journal 1 (own (RemoveVertex 2) (Removed 0) 22 2 29) mark_two refl refl (removes_there (graph_of (before 22)) 2 two_there) (removed_vertex_graph (before 22) mark_two 2 removed_two) (answers_gone (graph_of (before 22)) 2 two_there),
         (look_right, tt),
       );
       framed = record {
@@ -184,39 +184,39 @@ hands_true = (
           (record { apart = omega arith; since = omega arith; until = omega arith; within = omega arith; before = λ h. absurd (cc) }, tt),
         );
       };
-      covers = covers_by hands_journal 1 29 (own (RemoveVertex 2) (Removed 0) 22 2 29 ∷ look_up ∷ []) refl dull_link;
+      covers = covers_by callers_journal 1 29 (own (RemoveVertex 2) (Removed 0) 22 2 29 ∷ look_up ∷ []) refl dull_link;
     },
     tt,
   ),
 )
 
 -- its turns: all but four events change nothing
-abbrev hands_turns : List Turn
-hands_turns =
+abbrev callers_turns : List Turn
+callers_turns =
     map still (before 8)
     ++ turn (before 8) link_one ∷ (map still (between 9 16)
     ++ turn (before 16) link_two ∷ (map still (between 17 22)
     ++ turn (before 22) mark_two ∷ (map still (between 23 29)
-    ++ still link_edge ∷ map still (drop 30 hands_journal))))
+    ++ still link_edge ∷ map still (drop 30 callers_journal))))
 
-turns_hands : turns hands_journal ≡ hands_turns
+turns_callers : turns callers_journal ≡ callers_turns
 unfolding turns
-turns_hands =
-    idle_turns [] (before 8) (drop 8 hands_journal) refl
-    ∙ ap (λ (l : List Turn). map still (before 8) ++ turn (before 8) link_one ∷ l) (idle_turns (before 9) (between 9 16) (drop 16 hands_journal) refl
-    ∙ ap (λ (l : List Turn). map still (between 9 16) ++ turn (before 16) link_two ∷ l) (idle_turns (before 17) (between 17 22) (drop 22 hands_journal) refl
-    ∙ ap (λ (l : List Turn). map still (between 17 22) ++ turn (before 22) mark_two ∷ l) (idle_turns (before 23) (between 23 29) (drop 29 hands_journal) refl
-    ∙ (λ i. map still (between 23 29) ++ still_turn (before 29) link_edge (no_edge_graph (before 29) link_edge new_edge no_target) i ∷ idle_turns (before 30) (drop 30 hands_journal) [] refl i))))
+turns_callers =
+    idle_turns [] (before 8) (drop 8 callers_journal) refl
+    ∙ ap (λ (l : List Turn). map still (before 8) ++ turn (before 8) link_one ∷ l) (idle_turns (before 9) (between 9 16) (drop 16 callers_journal) refl
+    ∙ ap (λ (l : List Turn). map still (between 9 16) ++ turn (before 16) link_two ∷ l) (idle_turns (before 17) (between 17 22) (drop 22 callers_journal) refl
+    ∙ ap (λ (l : List Turn). map still (between 17 22) ++ turn (before 22) mark_two ∷ l) (idle_turns (before 23) (between 23 29) (drop 29 callers_journal) refl
+    ∙ (λ i. map still (between 23 29) ++ still_turn (before 29) link_edge (no_edge_graph (before 29) link_edge new_edge no_target) i ∷ idle_turns (before 30) (drop 30 callers_journal) [] refl i))))
 
 -- computed: the history
-pub hands_items : history hands_journal hands_books ≡ hands_history
+pub callers_items : history callers_journal callers_books ≡ callers_history
 unfolding history_of
-hands_items = ap (λ ts. history_of ts hands_books) turns_hands
+callers_items = ap (λ ts. history_of ts callers_books) turns_callers
 
 -- so it is legal
-pub hands_legal : IsLegal hands_history one_key
-hands_legal = subst (λ h. IsLegal h one_key) hands_items (subst (IsLegal (history hands_journal hands_books)) hands_graph (history_legal small hands_journal hands_books hands_regular hands_apart hands_true))
+pub callers_legal : IsLegal callers_history one_key
+callers_legal = subst (λ h. IsLegal h one_key) callers_items (subst (IsLegal (history callers_journal callers_books)) callers_graph (history_legal small callers_journal callers_books callers_regular callers_apart callers_true))
 
 -- no other caller changes the graph
-pub hands_closed : IsClosed hands_journal hands_books
-hands_closed = closed_by hands_journal _ _ refl refl refl
+pub callers_closed : IsClosed callers_journal callers_books
+callers_closed = closed_by callers_journal _ _ refl refl refl

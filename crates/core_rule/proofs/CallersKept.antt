@@ -7,7 +7,7 @@ use Rattle.core_journal.specs.Event.{blank}
 use Rattle.core_journal.specs.Life.{key_of}
 use Rattle.core_journal.specs.Machine.{machine, word_at}
 use Rattle.core_journal.specs.State.{state}
-use Rattle.core_journal.specs.TwoHands.{hands_journal}
+use Rattle.core_journal.specs.TwoCallers.{callers_journal}
 use Rattle.core_journal.specs.Worked.{small, first_life}
 use Rattle.core_rule.specs.Fronts.{MayMarkVertex, MayUnlinkVertex, MayFreezeHead, MayLinkEdge}
 use Rattle.core_rule.specs.Kept.{Allowed, IsKept}
@@ -22,10 +22,10 @@ use Rattle.core_rule.proofs.TwoLives.{two_lives_kept}
 
 -- a front of the journal, and one more event
 abbrev first : ℕ → List Event
-first n = take n hands_journal
+first n = take n callers_journal
 
 abbrev event : ℕ → Event
-event n = get_or hands_journal n blank
+event n = get_or callers_journal n blank
 
 next : (n : ℕ) → IsKept small (first n) → Allowed small (first n) (event n) → IsKept small (first n ++ event n ∷ [])
 next n = kept_snoc small (first n) (event n)
@@ -127,8 +127,8 @@ kept_33 : IsKept small (first 33)
 unfolding state
 kept_33 = next 32 kept_32 (record { by = λ _. lit< tt; as_kind = record { life = refl; there = lit< tt; place = refl; word = refl; pass = refl } })
 
-pub hands_kept : IsKept small hands_journal
-hands_kept = kept_33
+pub callers_kept : IsKept small callers_journal
+callers_kept = kept_33
 
 -- caller 1 opened its pass before caller 0 took a node, and marks the vertex behind that
 
@@ -138,9 +138,9 @@ among_mark = record {
   vertex = met_vertex (view_among 1 20) 1 (lit< tt) refl refl refl refl;
 }
 
-pub makes_mark : Makes hands_journal (view_among 1 20) 22 (pack nowhere 0 1) (mark_vertex_event (view_among 1 20) (first_life 1) (pack nowhere 0 1))
+pub makes_mark : Makes callers_journal (view_among 1 20) 22 (pack nowhere 0 1) (mark_vertex_event (view_among 1 20) (first_life 1) (pack nowhere 0 1))
 unfolding machine word_at
-makes_mark = record { reaches = reached hands_journal hands_kept 1 20 22 (record { rest = drop 20 (first 22); whole = refl }) refl (lit≤ tt); finds = refl; makes = refl }
+makes_mark = record { reaches = reached callers_journal callers_kept 1 20 22 (record { rest = drop 20 (first 22); whole = refl }) refl (lit≤ tt); finds = refl; makes = refl }
 
 -- it unlinks the vertex from the link of the one before it
 
@@ -162,9 +162,9 @@ among_unlink = record {
   next_is = refl;
 }
 
-pub makes_unlink : Makes hands_journal (view_among 1 23) 24 (pack 1 0 1) (unlink_vertex_event (view_among 1 23) (link_at small 0) (pack 1 0 1) nowhere (first_life 1))
+pub makes_unlink : Makes callers_journal (view_among 1 23) 24 (pack 1 0 1) (unlink_vertex_event (view_among 1 23) (link_at small 0) (pack 1 0 1) nowhere (first_life 1))
 unfolding machine word_at
-makes_unlink = record { reaches = reached hands_journal hands_kept 1 23 24 (record { rest = drop 23 (first 24); whole = refl }) refl (lit≤ tt); finds = refl; makes = refl }
+makes_unlink = record { reaches = reached callers_journal callers_kept 1 23 24 (record { rest = drop 23 (first 24); whole = refl }) refl (lit≤ tt); finds = refl; makes = refl }
 
 -- it closes the list of the vertex
 
@@ -172,9 +172,9 @@ pub among_freeze : MayFreezeHead (view_among 1 25) (first_life 1)
 unfolding state
 among_freeze = record { life = record { there = lit< tt; tag = refl }; spent = record { spent = refl; vertex = refl; mine = refl } }
 
-pub makes_freeze : Makes hands_journal (view_among 1 25) 26 (pack nowhere 0 1) (freeze_head_event (view_among 1 25) (first_life 1) (pack nowhere 0 1))
+pub makes_freeze : Makes callers_journal (view_among 1 25) 26 (pack nowhere 0 1) (freeze_head_event (view_among 1 25) (first_life 1) (pack nowhere 0 1))
 unfolding machine word_at
-makes_freeze = record { reaches = reached hands_journal hands_kept 1 25 26 (record { rest = drop 25 (first 26); whole = refl }) refl (lit≤ tt); finds = refl; makes = refl }
+makes_freeze = record { reaches = reached callers_journal callers_kept 1 25 26 (record { rest = drop 25 (first 26); whole = refl }) refl (lit≤ tt); finds = refl; makes = refl }
 
 -- caller 0 links the edge; its target is spent by then, and its pass has met it all the same
 
@@ -196,6 +196,6 @@ among_link = record {
   to_key = refl;
 }
 
-pub makes_link : Makes hands_journal (view_among 0 28) 29 (pack nowhere 0 1) (link_edge_event (view_among 0 28) (second_at small 0) (pack nowhere 0 1) 2 (first_life 0) (first_life 1) 5 (first_life 2))
+pub makes_link : Makes callers_journal (view_among 0 28) 29 (pack nowhere 0 1) (link_edge_event (view_among 0 28) (second_at small 0) (pack nowhere 0 1) 2 (first_life 0) (first_life 1) 5 (first_life 2))
 unfolding machine word_at
-makes_link = record { reaches = reached hands_journal hands_kept 0 28 29 (record { rest = drop 28 (first 29); whole = refl }) refl (lit≤ tt); finds = refl; makes = refl }
+makes_link = record { reaches = reached callers_journal callers_kept 0 28 29 (record { rest = drop 28 (first 29); whole = refl }) refl (lit≤ tt); finds = refl; makes = refl }
