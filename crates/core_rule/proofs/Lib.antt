@@ -76,3 +76,4 @@ pub mod Stamps
 pub mod ViewsShown
 pub mod Passed
 pub mod OwnViews
+pub mod FewEdges
