@@ -77,3 +77,4 @@ pub mod ViewsShown
 pub mod Passed
 pub mod OwnViews
 pub mod FewEdges
+pub mod Alive
