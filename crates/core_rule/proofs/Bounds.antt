@@ -89,9 +89,19 @@ caller_there sizes past e kept ok =
     let drawn = ap (λ (s : State). s.drawn) (state-snoc sizes past e) in
     omega (arith, called_by e.kind sizes past e ok.by ok.as_kind, drawn, room)
 
+-- all events are those of the callers
+all_below : (sizes : Sizes) (test : Kind → Bool) (journal : List Event) → IsKept sizes journal → all_made test journal ≤ below test sizes.callers journal
+all_below sizes test journal kept = kept_all sizes (λ (j : List Event). all_made test j ≤ below test sizes.callers j)
+    (λ past e k h ok. omega (arith, count_snoc (λ (d : Event). test d.kind) past e, below_this test sizes.callers past e (caller_there sizes past e k ok), h))
+    (omega arith) journal kept
+
+-- where each caller makes at most so many
+pub all_few : (sizes : Sizes) (test : Kind → Bool) (most : ℕ) (journal : List Event) → IsKept sizes journal → ((i : ℕ) → made test i journal ≤ most) → all_made test journal ≤ sizes.callers * most
+all_few sizes test most journal kept few = omega (arith, all_below sizes test journal kept, below_most test sizes.callers most journal few)
+
 module _ (sizes : Sizes) (test : Kind → Bool) (most : ℕ) (limit : (past : List Event) (e : Event) (k : Kind) → AllowedAs k sizes past e → test k ≡ true → made test e.caller past < most) where
   -- no caller makes more than that many
-  made_most : (journal : List Event) → IsKept sizes journal → (i : ℕ) → made test i journal ≤ most
+  pub made_most : (journal : List Event) → IsKept sizes journal → (i : ℕ) → made test i journal ≤ most
   made_most journal kept = kept_all sizes (λ (j : List Event). (i : ℕ) → made test i j ≤ most)
       (λ past e _ h ok i. dite (ℕ_discrete e.caller i)
       (λ same. by past e i same (test e.kind) refl (h i) ok)
@@ -102,16 +112,11 @@ module _ (sizes : Sizes) (test : Kind → Bool) (most : ℕ) (limit : (past : Li
       by past e i same true is h ok = let low : made test i past < most = subst (λ (c : ℕ). made test c past < most) same (limit past e e.kind ok.as_kind is) in omega (arith, made_same test i past e same ∙ ap (λ (b : Bool). made test i past + cond b 1 0) is, low)
       by past e i same false is h ok = omega (arith, made_same test i past e same ∙ ap (λ (b : Bool). made test i past + cond b 1 0) is, h)
 
-  all_below : (journal : List Event) → IsKept sizes journal → all_made test journal ≤ below test sizes.callers journal
-  all_below journal kept = kept_all sizes (λ (j : List Event). all_made test j ≤ below test sizes.callers j)
-      (λ past e k h ok. omega (arith, count_snoc (λ (d : Event). test d.kind) past e, below_this test sizes.callers past e (caller_there sizes past e k ok), h))
-      (omega arith) journal kept
-
   -- all callers make at most that many each
   all_most : (journal : List Event) → IsKept sizes journal → all_made test journal ≤ sizes.callers * most
-  all_most journal kept = omega (arith, all_below journal kept, below_most test sizes.callers most journal (made_most journal kept))
+  all_most journal kept = all_few sizes test most journal kept (made_most journal kept)
 
-pop_limit : (sizes : Sizes) (past : List Event) (e : Event) (k : Kind) → AllowedAs k sizes past e → pops k ≡ true → made pops e.caller past < most_pops
+pub pop_limit : (sizes : Sizes) (past : List Event) (e : Event) (k : Kind) → AllowedAs k sizes past e → pops k ≡ true → made pops e.caller past < most_pops
 pop_limit sizes past e PopFree ok is = ok.limit
 pop_limit sizes past e _ ok is = absurd (cc)
 

@@ -53,7 +53,7 @@ module _ {A : Type 0} where
   take_twice (x ∷ xs) (suc m) (suc n) h = ap (λ (l : List A). x ∷ l) (take_twice xs m n (omega arith))
 
   -- what is found stands somewhere, and passes the test
-  found_at : (test : A → Bool) (xs : List A) (x : A) → find test xs ≡ Some x → (k : ℕ) × (slice_get xs k ≡ Some x) × (test x ≡ true)
+  pub found_at : (test : A → Bool) (xs : List A) (x : A) → find test xs ≡ Some x → (k : ℕ) × (slice_get xs k ≡ Some x) × (test x ≡ true)
   found_at test [] x h = absurd (cc)
   found_at test (y ∷ ys) x h = by (test y) refl (found_at test ys x) h
     where

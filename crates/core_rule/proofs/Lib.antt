@@ -78,3 +78,5 @@ pub mod Stamps
 pub mod ViewsShown
 pub mod Passed
 pub mod OwnViews
+pub mod FewEdges
+pub mod Alive

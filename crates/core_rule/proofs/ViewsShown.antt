@@ -80,6 +80,15 @@ step_grows v w own t = through v w own t (IsPrefix v.front) (λ _. Unit {0}) (no
     nothing None = tt
     nothing (Some e) = tt
 
+-- the new view is of the same table and number
+pub step_view : (v w : View) (own : Option Event) → Steps v own w → (w.sizes ≡ v.sizes) × (w.number ≡ v.number) × (w.numbered ≡ v.numbered) × IsKept w.sizes w.front × IsPrefix v.front w.front
+step_view v w own t =
+    let sizes : w.sizes ≡ v.sizes = ap (λ (u : View). u.sizes) t.view in
+    (sizes, ap (λ (u : View). u.number) t.view, ap (λ (u : View). u.numbered) t.view, subst (λ (z : Sizes). IsKept z w.front) (sym sizes) t.kept, step_grows v w own t)
+
+pub step_last : (v w : View) (e : Event) (t : Steps v (Some e) w) → IsKept v.sizes (t.grown ++ e ∷ [])
+step_last v w e t = subst (IsKept v.sizes) t.front t.kept
+
 -- the pass stays, but where one is announced or withdrawn
 pub step_goes_on : (v w : View) (own : Option Event) → Steps v own w → Spares (λ (e : Event). (e.kind ≢ Announce) × (e.kind ≢ Withdraw)) own → GoesOn v w
 step_goes_on v w own t spares = record {

@@ -20,7 +20,8 @@ mod walks;
 mod words;
 
 pub use buckets::{
-    a_present_vertex_is_on_its_chain, buckets_hold_their_vertices, one_present_vertex_has_a_key,
+    a_link_tells_whether_a_vertex_is_present, a_present_vertex_is_on_its_chain,
+    buckets_hold_their_vertices, one_present_vertex_has_a_key,
 };
 pub use effects::{each_kind_has_its_effect, kept_journals_are_regular};
 pub use graph::{edges_have_ends, links_are_new};

@@ -3,17 +3,19 @@
 //! A caller raises the counter of an edge's source before it marks the edge. So whoever saw the counter before the edge
 //! was linked, and sees it again after the edge was marked, sees another number.
 
+ghost use Rattle.std.specs.Prelude.{All, AllPairs, ◌^◌};
 ghost use Rattle.std.specs.Prelude.{◌≡◌, ◌≢◌, ℕ, ◌<◌, ◌≤◌, false, List, [], ◌∷◌, ◌++◌, Some, length, slice_get, take};
 ghost use Rattle.std.specs.Prelude.{true};
 ghost use Rattle.packed_link.specs.Layout.{IsLayout, Sizes, third_at};
 ghost use Rattle.packed_link.specs.declared.link.Life.{Life};
 ghost use Rattle.core_journal.specs.declared.event.Event.{Event};
 ghost use Rattle.core_journal.specs.declared.event.Kind.TheVariants.{Raise};
-ghost use Rattle.core_journal.specs.Event.{marks_edge};
-ghost use Rattle.core_journal.specs.Life.{link_of, vertex_marked};
+ghost use Rattle.core_journal.specs.Event.{links_edge, marks_edge};
+ghost use Rattle.core_journal.specs.Life.{edge_linked, link_of, vertex_marked};
 ghost use Rattle.core_journal.specs.Machine.{word_at};
 ghost use Rattle.core_journal.specs.Prefix.{IsPrefix};
 ghost use Rattle.core_journal.specs.State.{Fresh};
+ghost use Rattle.core_rule.specs.Counts.{made, pops};
 ghost use Rattle.core_rule.specs.Edges.{IsRaisedFor};
 ghost use Rattle.core_rule.specs.Facts.{HasMet};
 ghost use Rattle.core_rule.specs.Kept.{IsKept};
@@ -51,4 +53,13 @@ pub fn a_raise_is_for_edges_linked_before()
     ensures { (sizes : Sizes) (past : List Event) (e : Event) → IsKept sizes (past ++ e ∷ []) → e.kind ≡ Raise
         → (edge : Life) (link : Event) → link_of past edge ≡ Some link
         → IsRaisedFor sizes (past ++ e ∷ []) e.caller edge e.life }
+{}
+
+/// Few edges are ever linked: a caller links at most as many as it took nodes, and lives that differ and were all
+/// linked as edges are at most 2^36.
+pub fn few_edges_are_linked()
+    ensures caller { (sizes : Sizes) (journal : List Event) → IsKept sizes journal → (caller : ℕ)
+        → made links_edge caller journal ≤ made pops caller journal }
+    ensures all { (sizes : Sizes) → IsLayout sizes → (journal : List Event) → IsKept sizes journal → (xs : List Life)
+        → AllPairs ◌≢◌ xs → All (λ (x : Life). edge_linked journal x ≡ true) xs → length xs ≤ 2 ^ 36 }
 {}

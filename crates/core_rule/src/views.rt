@@ -4,7 +4,7 @@
 //! and where the words lead that a view with an open pass shows (`specs/Views.antt`), in the form in which the
 //! conditions of the next step ask for it (`specs/Fronts.antt`).
 
-ghost use Rattle.std.specs.Prelude.{◌≡◌, ◌≢◌, ℕ, ◌<◌, Bool, true, false, List, Option, Some, None};
+ghost use Rattle.std.specs.Prelude.{◌≡◌, ◌≢◌, ℕ, ◌<◌, Bool, true, false, List, [], ◌∷◌, ◌++◌, Option, Some, None};
 ghost use Rattle.packed_link.specs.Link.{index_of, mark_of, nowhere, tag_of};
 ghost use Rattle.packed_link.specs.Layout.{IsLayout, bucket_at, link_at, second_at};
 ghost use Rattle.packed_link.specs.declared.link.Life.{Life};
@@ -14,6 +14,7 @@ ghost use Rattle.core_journal.specs.declared.event.Kind.TheVariants.{Announce, P
 ghost use Rattle.core_journal.specs.GraphOf.{present_key};
 ghost use Rattle.core_journal.specs.Life.{edge_marked, key_of, link_of, vertex_marked};
 ghost use Rattle.core_journal.specs.Machine.{word_at};
+ghost use Rattle.core_journal.specs.Prefix.{IsPrefix};
 ghost use Rattle.core_journal.specs.Reuse.{pass_in};
 ghost use Rattle.core_journal.specs.State.{state};
 ghost use Rattle.core_rule.specs.Chains.{KeepsList};
@@ -34,8 +35,9 @@ ghost use Rattle.core_rule.specs.Walks.{LeadsTo};
 ghost use Rattle.core_rule.specs.declared.view.View.{View};
 
 /// A load, a won step and a store are steps: others made events, and behind these the token made its own event or none.
-/// Where that is no announcement and no withdrawal, the new view is a later one in the same pass, and so it's after
-/// several steps.
+/// The new view is of the same table and number, and its front goes on from the old one and is kept (`view`), with the
+/// token's event as its last (`last`). Where that is no announcement and no withdrawal, the new view is a later one in
+/// the same pass, and so it's after several steps.
 pub fn a_view_goes_on()
     ensures look { (v : View) (place found : ℕ) (w : View) → v.numbered ≡ true → IsSound v → Looked v place found w
         → Steps v None w }
@@ -43,6 +45,9 @@ pub fn a_view_goes_on()
         → Won v place found e w → Steps v (Some e) w }
     ensures store { (v : View) (e : Event) (w : View) → v.numbered ≡ true → IsSound v → Stored v e w
         → Steps v (Some e) w }
+    ensures view { (v w : View) (own : Option Event) → Steps v own w → (w.sizes ≡ v.sizes) × (w.number ≡ v.number)
+        × (w.numbered ≡ v.numbered) × IsKept w.sizes w.front × IsPrefix v.front w.front }
+    ensures last { (v w : View) (e : Event) → (t : Steps v (Some e) w) → IsKept v.sizes (t.grown ++ e ∷ []) }
     ensures pass { (v w : View) (own : Option Event) → Steps v own w
         → Spares (λ (e : Event). (e.kind ≢ Announce) × (e.kind ≢ Withdraw)) own → GoesOn v w }
     ensures chain { (u v w : View) → GoesOn u v → GoesOn v w → GoesOn u w }

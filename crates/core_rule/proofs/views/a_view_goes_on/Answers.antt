@@ -1,4 +1,4 @@
-use Rattle.core_rule.proofs.ViewsShown.{look_steps, win_steps, store_steps, step_goes_on, goes_further}
+use Rattle.core_rule.proofs.ViewsShown.{look_steps, win_steps, store_steps, step_view, step_last, step_goes_on, goes_further}
 use Rattle.core_rule.proofs.views.a_view_goes_on.Goals as goal
 
 pub returns-clause-look : goal.returns-clause-look
@@ -15,3 +15,9 @@ returns-clause-pass c = λ v w own t spares. step_goes_on v w own t spares
 
 pub returns-clause-chain : goal.returns-clause-chain
 returns-clause-chain c = λ u v w a b. goes_further u v w a b
+
+pub returns-clause-view : goal.returns-clause-view
+returns-clause-view c = λ v w own t. step_view v w own t
+
+pub returns-clause-last : goal.returns-clause-last
+returns-clause-last c = λ v w e t. step_last v w e t
