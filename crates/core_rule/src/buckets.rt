@@ -1,7 +1,7 @@
 //! The laws of buckets: what stands on the chain of each bucket after each kept journal.
 //!
-//! A vertex joins the chain of its key's bucket with its link, and leaves it when it's unlinked; marked or not, it's on it in
-//! between. Since keys rise strictly along a chain, no two present vertices have one key.
+//! A vertex joins the chain of its key's bucket with its link, and leaves it when it's unlinked; marked or not, it's on
+//! it in between. Since keys rise strictly along a chain, no two present vertices have one key.
 
 ghost use Rattle.std.specs.Prelude.{◌≡◌, ◌≢◌, ◌⊎◌, ◌↔◌, ℕ, ◌%◌, ◌<◌, List, Some, true};
 ghost use Rattle.packed_link.specs.Link.{mark_of, tag_of};
@@ -39,8 +39,8 @@ pub fn one_present_vertex_has_a_key()
 {}
 
 /// The link of a vertex that was linked tells whether it's present: it is where the link has the tag of its life and no
-/// mark, and it's marked where the link is marked or of another life. So it does for a vertex that no pass has met, as an
-/// edge's target. A life that was linked, as a vertex or as an edge, is of a node of the table.
+/// mark, and it's marked where the link is marked or of another life. So it does for a vertex that no pass has met, as
+/// an edge's target. A life that was linked, as a vertex or as an edge, is of a node of the table.
 pub fn a_link_tells_whether_a_vertex_is_present()
     ensures present { (sizes : Sizes) → IsLayout sizes → (journal : List Event) → IsKept sizes journal
         → (x : Life) (k : ℕ) → key_of journal x ≡ Some k
