@@ -55,7 +55,7 @@ lift_store_free v z next x m journal r =
       next = next;
       next_there = m.next_there;
       word = ap (λ (t : ℕ). pack next 1 t) (m.life.tag ∙ sym tag);
-      ripe = still_ripe v journal r x.index s m.ripe;
+      ripe = still_ripe v z journal r x.index m.ripe;
       own_list = λ h. finished_stays v.sizes z x.index v.front journal r.front r.kept tag (m.own_list (sym (ap (λ (u : Nodes). u.vertex) s.node) ∙ h));
       list = old_finished v.sizes z x.index v.front journal r.front r.kept unfresh tag m.list;
     }

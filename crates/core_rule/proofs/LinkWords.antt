@@ -10,7 +10,7 @@ use Rattle.core_journal.specs.Machine.{word_at}
 use Rattle.core_journal.specs.State.{Mode, Free, Fresh, Linked, Spent, Node, State, put, handed, opening, state}
 use Rattle.core_rule.specs.Kept.{IsKept}
 use Rattle.core_rule.specs.FreeNodes.{IsPopFree}
-use Rattle.core_rule.specs.Nodes.{node_in}
+use Rattle.core_rule.specs.Nodes.{node_in, IsUsed}
 use Rattle.core_rule.specs.Facts.{IsDeadLink, IsFreshLink, IsLiveLink, IsLinkWord, LinkWords}
 use Rattle.core_rule.proofs.Steps.{IsAfter, Keeps, put_case, handed_case, marked_state, closed_state, holds_all}
 use Rattle.core_rule.proofs.FreeList.{first_is_free, last_word, next_word}
@@ -191,3 +191,14 @@ unmarked_linked sizes z journal kept x t free fresh live = by (node_in sizes jou
     by Fresh e = absurd (fresh e)
     by Linked e = e
     by Spent e = let d = ((link_words sizes z journal kept).each x t).spent e in absurd (omega (arith, d.marked, live))
+
+-- the link of a node that is linked or spent has the tag of its life, and is marked where the node is
+pub used_link : (sizes : Sizes) → IsLayout sizes → (journal : List Event) → IsKept sizes journal → (x : ℕ) → x < sizes.nodes → IsUsed (node_in sizes journal x).mode
+    → (tag_of (word_at sizes journal (link_at sizes x)) ≡ (node_in sizes journal x).tag) × (mark_of (word_at sizes journal (link_at sizes x)) ≡ mark_bit (node_in sizes journal x).marked)
+used_link sizes z journal kept x t used = by (node_in sizes journal x).mode used refl
+  where
+    by : (m : Mode) → IsUsed m → (node_in sizes journal x).mode ≡ m → (tag_of (word_at sizes journal (link_at sizes x)) ≡ (node_in sizes journal x).tag) × (mark_of (word_at sizes journal (link_at sizes x)) ≡ mark_bit (node_in sizes journal x).marked)
+    by Linked u e = let d = ((link_words sizes z journal kept).each x t).linked e in (d.life, d.mark)
+    by Spent u e = let d = ((link_words sizes z journal kept).each x t).spent e in (d.life, d.marked ∙ ap mark_bit (sym (((link_words sizes z journal kept).each x t).marked e)))
+    by Free u e = absurd u
+    by Fresh u e = absurd u

@@ -21,6 +21,7 @@ use Rattle.core_rule.proofs.Called.{made_quiet}
 use Rattle.core_rule.proofs.FreeList.{pop_again}
 use Rattle.core_rule.proofs.OwnFacts.{pass_stays, fresh_stays, none_fresh_stays}
 use Rattle.core_rule.proofs.OwnSpent.{spent_stays}
+use Rattle.core_rule.proofs.Stamps.{ripe_beyond}
 
 -- the token's pass is what it was
 pub own_pass : (v : View) (journal : List Event) → Reaches v journal → pass_in v.sizes journal v.number ≡ pass_in v.sizes v.front v.number
@@ -38,21 +39,8 @@ pub own_spent : (v : View) → IsLayout v.sizes → (journal : List Event) → R
 own_spent v z journal r x there s = spent_stays v.sizes z v.number v.last x there v.front journal r.front r.kept r.quiet r.old s
 
 -- a node that's ripe stays so
-pub still_ripe : (v : View) (journal : List Event) → Reaches v journal → (x : ℕ) → IsKeptSpent v.sizes v.front journal x → IsRipe v.sizes v.front v.number x → IsRipe v.sizes journal v.number x
-still_ripe v journal r x s ripe = record {
-  stamp = ripe.stamp;
-  stamped = record {
-    spent = record { spent = ap (λ (u : Node). u.mode) s.node ∙ ripe.stamped.spent.spent; mine = ap (λ (u : Node). u.who) s.node ∙ ripe.stamped.spent.mine };
-    when = ripe.stamped.when;
-    when_before = prefix_trans ripe.stamped.when v.front journal ripe.stamped.when_before r.front;
-    when_spent = ripe.stamped.when_spent;
-    when_life = ripe.stamped.when_life ∙ sym (ap (λ (u : Node). u.tag) s.node);
-    when_epoch = ripe.stamped.when_epoch;
-  };
-  shown = ripe.shown;
-  shown_before = prefix_trans ripe.shown v.front journal ripe.shown_before r.front;
-  shown_epoch = ripe.shown_epoch;
-}
+pub still_ripe : (v : View) → IsLayout v.sizes → (journal : List Event) → Reaches v journal → (x : ℕ) → IsRipe v.sizes v.front v.number x → IsRipe v.sizes journal v.number x
+still_ripe v z journal r x ripe = ripe_beyond v.sizes z v.number v.last x v.front journal r.front r.kept r.quiet r.old ripe
 
 -- a node is taken
 pub lift_pop : (v : View) → IsLayout v.sizes → (seen next : ℕ) → MayPopFree v seen next → (journal : List Event) → Reaches v journal → word_at v.sizes journal (free_at v.sizes) ≡ seen → IsPopFree v.sizes journal (pop_event v seen next)
@@ -91,7 +79,7 @@ lift_push v z seen x m journal r is =
       life = m.life.tag ∙ sym (ap (λ (u : Node). u.tag) s.node);
       there = m.life.there;
       place = refl;
-      ripe = still_ripe v journal r x.index s m.ripe;
+      ripe = still_ripe v z journal r x.index m.ripe;
       stored = ap (λ (u : Node). u.stored) s.node ∙ m.stored;
       ready = ap index_of s.link ∙ (m.ready ∙ ap index_of (sym is));
       word = ap (λ (w : ℕ). pack x.index 0 (tag_of w + 1)) (sym is);

@@ -11,7 +11,7 @@ use Rattle.core_journal.specs.Life.{key_of, link_of, edge_linked, edge_marked, v
 use Rattle.core_journal.specs.Machine.{word_at}
 use Rattle.core_journal.specs.Prefix.{IsPrefix}
 use Rattle.core_journal.specs.Reuse.{pass_in}
-use Rattle.core_journal.specs.State.{Mode, Free, Fresh, Linked, Spent, Pass}
+use Rattle.core_journal.specs.State.{Pass}
 use Rattle.core_journal.proofs.KeptLives.{linked-link}
 use Rattle.core_journal.proofs.Lists.{get_front, get_here, get_short, take_front, take_here, prefix_refl, prefix_snoc, prefix_trans}
 use Rattle.core_journal.proofs.States.{count-length}
@@ -31,7 +31,7 @@ use Rattle.core_rule.proofs.Contents.{contents}
 use Rattle.core_rule.proofs.Counted.{unstored_met}
 use Rattle.core_rule.proofs.Ends.{ends_linked}
 use Rattle.core_rule.proofs.Induction.{past_kept}
-use Rattle.core_rule.proofs.LinkWords.{link_words}
+use Rattle.core_rule.proofs.LinkWords.{used_link}
 use Rattle.core_rule.proofs.MarkedWords.{marked_link_stays}
 use Rattle.core_rule.proofs.MetBehind.{walk_head, walk_link, walk_list}
 use Rattle.core_rule.proofs.MetWords.{met_used, still_met, key_stays}
@@ -251,40 +251,25 @@ module _ (v : View) (z : IsLayout v.sizes) (kept : IsKept v.sizes v.front) where
 
   -- the link of a node that was met tells its life and its mark
   module _ (x : ℕ) (there : x < v.sizes.nodes) (m : HasMet v.sizes v.front v.number x) where
-    link_tag : tag_of (word_at v.sizes v.front (link_at v.sizes x)) ≡ (node_in v.sizes v.front x).tag
-    link_tag = by (node_in v.sizes v.front x).mode (met_used v.sizes v.front v.number x m) refl
-      where
-        by : (k : Mode) → IsUsed k → (node_in v.sizes v.front x).mode ≡ k → tag_of (word_at v.sizes v.front (link_at v.sizes x)) ≡ (node_in v.sizes v.front x).tag
-        by Linked u is = (((link_words v.sizes z v.front kept).each x there).linked is).life
-        by Spent u is = (((link_words v.sizes z v.front kept).each x there).spent is).life
-        by Free u is = absurd u
-        by Fresh u is = absurd u
-
-    link_mark : mark_of (word_at v.sizes v.front (link_at v.sizes x)) ≡ mark_bit (node_in v.sizes v.front x).marked
-    link_mark = by (node_in v.sizes v.front x).mode (met_used v.sizes v.front v.number x m) refl
-      where
-        by : (k : Mode) → IsUsed k → (node_in v.sizes v.front x).mode ≡ k → mark_of (word_at v.sizes v.front (link_at v.sizes x)) ≡ mark_bit (node_in v.sizes v.front x).marked
-        by Linked u is = (((link_words v.sizes z v.front kept).each x there).linked is).mark
-        by Spent u is = (((link_words v.sizes z v.front kept).each x there).spent is).marked ∙ ap mark_bit (sym (((link_words v.sizes z v.front kept).each x there).marked is))
-        by Free u is = absurd u
-        by Fresh u is = absurd u
+    link_is : (tag_of (word_at v.sizes v.front (link_at v.sizes x)) ≡ (node_in v.sizes v.front x).tag) × (mark_of (word_at v.sizes v.front (link_at v.sizes x)) ≡ mark_bit (node_in v.sizes v.front x).marked)
+    link_is = used_link v.sizes z v.front kept x there (met_used v.sizes v.front v.number x m)
 
     is_live : mark_of (word_at v.sizes v.front (link_at v.sizes x)) ≡ 0 → (node_in v.sizes v.front x).marked ≡ false
-    is_live live = by (node_in v.sizes v.front x).marked (sym link_mark ∙ live)
+    is_live live = by (node_in v.sizes v.front x).marked (sym link_is.1 ∙ live)
       where
         by : (b : Bool) → mark_bit b ≡ 0 → b ≡ false
         by true h = absurd (omega (arith, h))
         by false h = refl
 
     is_dead : mark_of (word_at v.sizes v.front (link_at v.sizes x)) ≡ 1 → (node_in v.sizes v.front x).marked ≡ true
-    is_dead dead = by (node_in v.sizes v.front x).marked (sym link_mark ∙ dead)
+    is_dead dead = by (node_in v.sizes v.front x).marked (sym link_is.1 ∙ dead)
       where
         by : (b : Bool) → mark_bit b ≡ 1 → b ≡ true
         by true h = refl
         by false h = absurd (omega (arith, h))
 
   pub life_shown : (x : Life) → IsLifeAt v x → HasMet v.sizes v.front v.number x.index → tag_of (word_at v.sizes v.front (link_at v.sizes x.index)) ≡ x.tag
-  life_shown x l m = link_tag x.index l.there m ∙ sym l.tag
+  life_shown x l m = (link_is x.index l.there m).0 ∙ sym l.tag
 
   own_life : (x : Life) → IsLifeAt v x → x ≡ life_in v.sizes v.front x.index
   own_life x l = life_is x x.index (node_in v.sizes v.front x.index).tag refl l.tag

@@ -62,7 +62,7 @@ pub fn a_step_keeps_what_is_the_tokens_own()
     ensures fresh { (v w : View) (own : Option Event) → IsLayout v.sizes → Steps v own w → (x : ℕ) → x < v.sizes.nodes
         → Spares (λ (e : Event). x ≢ e.life.index) own → IsFreshWith v.sizes v.front v.number x
         → IsFreshWith w.sizes w.front w.number x × IsHeld v.sizes v.front w.front x }
-    ensures none_fresh { (v w : View) (own : Option Event) → IsLayout v.sizes → Steps v own w
+    ensures none_fresh { (v w : View) (own : Option Event) → Steps v own w
         → Spares (λ (e : Event). e.kind ≢ PopFree) own
         → ((x : ℕ) → x < v.sizes.nodes → IsFreshWith v.sizes v.front v.number x → ⊥)
         → (x : ℕ) → x < w.sizes.nodes → IsFreshWith w.sizes w.front w.number x → ⊥ }
@@ -97,7 +97,7 @@ pub fn a_step_keeps_what_is_the_tokens_own()
         → IsSpentWith v.sizes v.front v.number x → ((y : ℕ) → y < v.sizes.nodes
         → is_listed (state v.sizes v.front) y x ≡ true → IsFrozenToEnd v.sizes v.front y)
         → (y : ℕ) → y < w.sizes.nodes → is_listed (state w.sizes w.front) y x ≡ true → IsFrozenToEnd w.sizes w.front y }
-    ensures counts { (v w : View) (own : Option Event) → IsLayout v.sizes → Steps v own w → (test : Kind → Bool)
+    ensures counts { (v w : View) (own : Option Event) → Steps v own w → (test : Kind → Bool)
         → Spares (λ (e : Event). test e.kind ≡ false) own
         → made test w.number w.front ≡ made test v.number v.front }
 {}

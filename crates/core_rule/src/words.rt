@@ -6,7 +6,7 @@
 //! `specs/Free.antt`).
 
 ghost use Rattle.std.specs.Prelude.{◌≡◌, ◌≢◌, ◌⊎◌, ℕ, ◌+◌, ◌<◌, ◌≤◌, true, false, List};
-ghost use Rattle.packed_link.specs.Link.{index_of, mark_of, nowhere};
+ghost use Rattle.packed_link.specs.Link.{index_of, mark_bit, mark_of, nowhere, tag_of};
 ghost use Rattle.packed_link.specs.Layout.{Sizes, IsLayout, epoch_at, free_at, link_at, second_at};
 ghost use Rattle.core_epoch.specs.Clock.{Announcements, IsClear, IsNear};
 ghost use Rattle.core_epoch.specs.Ends.{Ended, Ordered};
@@ -16,7 +16,7 @@ ghost use Rattle.core_journal.specs.Prefix.{IsPrefix};
 ghost use Rattle.core_journal.specs.Machine.{word_at};
 ghost use Rattle.core_journal.specs.State.{Free, Fresh, Linked, state};
 ghost use Rattle.core_journal.specs.Reuse.{pass_in};
-ghost use Rattle.core_rule.specs.Nodes.{IsRipe, node_in};
+ghost use Rattle.core_rule.specs.Nodes.{IsRipe, IsUsed, node_in};
 ghost use Rattle.core_rule.specs.FreeNodes.{IsPopFree};
 ghost use Rattle.core_rule.specs.Kept.{IsKept};
 ghost use Rattle.core_rule.specs.Facts.{Bounds, Contents, Counters, LinkWords, LinkedOnce, Lives, Named, Numbers};
@@ -59,7 +59,8 @@ pub fn free_list_is_exact()
 {}
 
 /// The link word of each node is as its state says; so a node that was linked in its life, and whose link is unmarked,
-/// is linked still.
+/// is linked still, and the link of a node that's linked or spent has the tag of its life and is marked where the node
+/// is.
 pub fn links_tell_states()
     ensures words { (sizes : Sizes) → IsLayout sizes → (journal : List Event) → IsKept sizes journal
         → LinkWords sizes (state sizes journal) (word_at sizes journal) }
@@ -67,6 +68,10 @@ pub fn links_tell_states()
         → (x : ℕ) → x < sizes.nodes
         → (node_in sizes journal x).mode ≢ Free → (node_in sizes journal x).mode ≢ Fresh
         → mark_of (word_at sizes journal (link_at sizes x)) ≡ 0 → (node_in sizes journal x).mode ≡ Linked }
+    ensures life { (sizes : Sizes) → IsLayout sizes → (journal : List Event) → IsKept sizes journal
+        → (x : ℕ) → x < sizes.nodes → IsUsed (node_in sizes journal x).mode
+        → (tag_of (word_at sizes journal (link_at sizes x)) ≡ (node_in sizes journal x).tag)
+        × (mark_of (word_at sizes journal (link_at sizes x)) ≡ mark_bit (node_in sizes journal x).marked) }
 {}
 
 /// While a node is linked or spent, its other words are those with which it was linked: its key; of a vertex the life

@@ -5,7 +5,7 @@ pub returns-clause-fresh : goal.returns-clause-fresh
 returns-clause-fresh c = λ v w own z t x there spares f. own_fresh_kept v w own z t x there spares f
 
 pub returns-clause-none_fresh : goal.returns-clause-none_fresh
-returns-clause-none_fresh c = λ v w own z t spares none. own_none_kept v w own z t spares none
+returns-clause-none_fresh c = λ v w own t spares none. own_none_kept v w own t spares none
 
 pub returns-clause-spent : goal.returns-clause-spent
 returns-clause-spent c = λ v w own z t x spares l f. own_spent_still v w own z t x spares l f
@@ -32,4 +32,4 @@ pub returns-clause-lists_finished : goal.returns-clause-lists_finished
 returns-clause-lists_finished c = λ v w own z t x there spares f done. own_ends_still v w own z t x there spares f done
 
 pub returns-clause-counts : goal.returns-clause-counts
-returns-clause-counts c = λ v w own z t test spares. own_made_same v w own z t test spares
+returns-clause-counts c = λ v w own t test spares. own_made_same v w own t test spares
