@@ -1,4 +1,4 @@
-//! The definitions computed on worked journals, so that none of the laws speaks of nothing.
+//! The definitions computed on worked journals, whose values were found by hand.
 //!
 //! `specs/FirstVertex.antt` has the first eight events of a table, `specs/Worked.antt` an edge that is
 //! overtaken before its call ends, and `specs/TwoCallers.antt` one that is linked too late, with all words of the

@@ -18,6 +18,7 @@ abbrev pub bucket_word : Sizes → ℕ → Position → ℕ
 bucket_word sizes j Head = bucket_at sizes j
 bucket_word sizes j (Node x) = link_at sizes x
 
+-- where the words and the keys of a bucket's chain stand in the table
 abbrev pub bucket_places : Sizes → ℕ → Places
 bucket_places sizes j = record { word_at = bucket_word sizes j; key_at = key_at sizes }
 
@@ -26,6 +27,7 @@ abbrev pub list_word : Sizes → ℕ → Position → ℕ
 list_word sizes x Head = second_at sizes x
 list_word sizes x (Node y) = link_at sizes y
 
+-- where the words and the keys of a vertex's list stand in the table
 abbrev pub list_places : Sizes → ℕ → Places
 list_places sizes x = record { word_at = list_word sizes x; key_at = key_at sizes }
 

@@ -45,12 +45,14 @@ links _ = false
 abbrev pub raised : Life → List Event → ℕ
 raised x journal = about raises x journal
 
--- how many nodes a caller may take, how often it may raise counters, and how often it may move the epoch on
+-- how many nodes a caller may take: 2^32
 abbrev pub most_pops : ℕ
 most_pops = 4294967296
 
+-- how often a caller may raise counters: 2^38
 abbrev pub most_raises : ℕ
 most_raises = 274877906944
 
+-- how often a caller may move the epoch on: 2^34
 abbrev pub most_moves : ℕ
 most_moves = 17179869184

@@ -44,6 +44,7 @@ pub record IsLinkWord (sizes : Sizes) (v : Node) (word : ℕ) : Type 0 where
   pub unstored : v.mode ≡ Linked → v.stored ≡ false
   pub unmarked : v.mode ≡ Fresh → (v.marked ≡ false) × (v.stored ≡ false)
 
+-- the link word of each node is as the node's state says
 pub record LinkWords (sizes : Sizes) (s : State) (w : ℕ → ℕ) : Type 0 where
   pub each : (x : ℕ) → x < sizes.nodes → IsLinkWord sizes (s.node x) (w (link_at sizes x))
 
@@ -69,6 +70,7 @@ pub record IsContent (sizes : Sizes) (v : Node) (frozen : Bool) (x : ℕ) (w : �
   pub edge : IsUsed v.mode → v.vertex ≡ false → IsEdgeWords sizes v.key v.target v.weight x w
   pub fresh : v.mode ≡ Fresh → frozen ≡ false
 
+-- the other words of each node are those with which it was linked
 pub record Contents (sizes : Sizes) (s : State) (w : ℕ → ℕ) : Type 0 where
   pub each : (x : ℕ) → x < sizes.nodes → IsContent sizes (s.node x) (s.frozen x) x w
 
@@ -79,6 +81,7 @@ pub record IsCounter (sizes : Sizes) (journal : List Event) (v : Node) (x : ℕ)
       → w (third_at sizes x) ≡ raised (record { index = x; tag = v.tag }) journal
   pub fresh : v.mode ≡ Fresh → raised (record { index = x; tag = v.tag }) journal ≡ 0
 
+-- the third word of each vertex counts the raises of its life
 pub record Counters (sizes : Sizes) (journal : List Event) (s : State) (w : ℕ → ℕ) : Type 0 where
   pub each : (x : ℕ) → x < sizes.nodes → IsCounter sizes journal (s.node x) x w
 
@@ -141,6 +144,7 @@ pub record IsNamed (journal : List Event) (v : Node) (x : ℕ) : Type 0 where
   pub edge_mark : IsUsed v.mode → v.vertex ≡ false → edge_marked journal (record { index = x; tag = v.tag }) ≡ v.marked
   pub new : v.mode ≡ Fresh → IsNewLife journal (record { index = x; tag = v.tag })
 
+-- what each node says of its life is what the journal's events say
 pub record Named (sizes : Sizes) (journal : List Event) (s : State) : Type 0 where
   pub each : (x : ℕ) → x < sizes.nodes → IsNamed journal (s.node x) x
 

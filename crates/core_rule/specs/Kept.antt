@@ -40,6 +40,7 @@ pub record Allowed (sizes : Sizes) (past : List Event) (e : Event) : Type 0 wher
   pub by : draws e.kind ≡ false → e.caller < (state sizes past).drawn
   pub as_kind : AllowedAs e.kind sizes past e
 
+-- each of these events was allowed after the past and those before it
 abbrev pub KeptFrom : Sizes → List Event → List Event → Type 0
 KeptFrom sizes past [] = Unit {0}
 KeptFrom sizes past (e ∷ es) = Allowed sizes past e × KeptFrom sizes (past ++ e ∷ []) es

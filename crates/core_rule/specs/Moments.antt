@@ -31,9 +31,10 @@ ends_by s = record {
   is_spent = λ x. is_spent (s.node x).mode;
 }
 
--- both after a journal
+-- the clock after a journal
 abbrev pub clock_in : Sizes → List Event → Clock
 clock_in sizes journal = clock_by sizes (state sizes journal) (word_at sizes journal)
 
+-- the ends of lives after a journal
 abbrev pub ends_in : Sizes → List Event → Ends
 ends_in sizes journal = ends_by (state sizes journal)

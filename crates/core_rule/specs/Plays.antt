@@ -13,7 +13,7 @@ use Rattle.core_rule.specs.Kept.{IsKept, IsQuiet}
 use Rattle.core_rule.specs.Rule.{own_account}
 use Rattle.core_rule.specs.declared.view.View.{View}
 
--- a token's seat at the table
+-- a token's view at its seat, and the slots that it has taken
 abbrev pub AtSeat : Type 0
 AtSeat = Me (Unit {0}) View
 
@@ -101,6 +101,7 @@ pub record Met (v w : View) : Type 0 where
   pub sound : IsSound w
   pub view : w ≡ record v { front = w.front; met = [] }
 
+-- what a load tells the token; the slots that it has taken stay
 abbrev pub looking : Step (Unit {0}) → AtSeat → ℕ → AtSeat → Type 0
 looking step m found n = Looked m.0 step.word found n.0 × (n.1 ≡ m.1)
 
@@ -110,15 +111,19 @@ turning wins event step m found n =
     (wins found ≡ true → Won m.0 step.word found (event found) n.0)
     × (wins found ≡ false → Looked m.0 step.word found n.0) × (n.1 ≡ m.1)
 
+-- what a store tells it: its event is the last of its front
 abbrev pub storing : (ℕ → Event) → Step (Unit {0}) → AtSeat → ℕ → AtSeat → Type 0
 storing event step m found n = Stored m.0 (event step.first) n.0 × (n.1 ≡ m.1)
 
+-- what the draw of a number tells it: the number is the next one, and it's the token's own from then on
 abbrev pub drawing : Step (Unit {0}) → AtSeat → ℕ → AtSeat → Type 0
 drawing step m found n = Drew m.0 found n.0 × (n.1 ≡ m.1)
 
+-- what a load tells it that ends a call: its book has one more entry
 abbrev pub replying : Entry → Step (Unit {0}) → AtSeat → ℕ → AtSeat → Type 0
 replying entry step m found n = Replied m.0 entry n.0 × (n.1 ≡ m.1)
 
+-- what a load tells it after a join: the other token's front begins its own
 abbrev pub meeting : Step (Unit {0}) → AtSeat → ℕ → AtSeat → Type 0
 meeting step m found n = Met m.0 n.0 × (n.1 ≡ m.1)
 

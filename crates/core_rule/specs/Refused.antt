@@ -38,6 +38,7 @@ event_of n = get_or two_lives n blank
 abbrev pub inside : List Event
 inside = draws 0 1 ∷ draws 1 2 ∷ announces 0 ∷ []
 
+-- caller 0 moves the epoch on while its own pass is open
 abbrev pub moves_own : Event
 moves_own = record blank { kind = MoveEpoch; place = epoch_at small; word = 1 }
 
