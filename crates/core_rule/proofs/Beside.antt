@@ -9,6 +9,7 @@ use Rattle.core_journal.specs.Life.{key_of, link_of}
 use Rattle.core_journal.specs.Machine.{machine, word_at}
 use Rattle.core_journal.specs.State.{state}
 use Rattle.core_journal.specs.Worked.{small, first_life}
+use Rattle.core_rule.proofs.MetBehind.{linked_met}
 use Rattle.core_rule.specs.Beside.{beside_others}
 use Rattle.core_rule.specs.Edges.{IsEdgeFrom}
 use Rattle.core_rule.specs.Fronts.{MayLinkVertex, MayLinkEdge, MayUnlinkEdge, MayFreezeEdge}
@@ -127,7 +128,10 @@ kept_41 = next 40 kept_40 (record {
     word = refl;
     fresh = record { fresh = refl; mine = refl };
     filled = record { key_word = refl; key_fits = lit< tt; link_word = refl; second_word = refl; third_word = refl; some = lit≤ tt; weight_fits = lit< tt };
-    target = refl;
+    target_key = refl;
+    source_met = linked_met small (first 40) 0 refl 0 refl;
+    target = record { there = lit< tt; life = refl; used = tt; vertex = refl };
+    target_met = linked_met small (first 40) 0 refl 3 refl;
     pass = refl;
   };
 })
@@ -160,6 +164,7 @@ kept_44 = next 43 kept_43 (record {
     from = refl;
     unmarked = refl;
     word = refl;
+    met = linked_met small (first 43) 0 refl 0 refl;
     pass = refl;
     limit = lit< tt;
   };
@@ -196,6 +201,7 @@ kept_46 = next 45 kept_45 (record {
     leads = refl;
     linked = record { linked = refl; edge = refl };
     dead = refl;
+    source_met = linked_met small (first 45) 0 refl 0 refl;
     word = refl;
     pass = refl;
   };
@@ -247,7 +253,10 @@ kept_54 = next 53 kept_53 (record {
     word = refl;
     fresh = record { fresh = refl; mine = refl };
     filled = record { key_word = refl; key_fits = lit< tt; link_word = refl; second_word = refl; third_word = refl; some = lit≤ tt; weight_fits = lit< tt };
-    target = refl;
+    target_key = refl;
+    source_met = linked_met small (first 53) 0 refl 0 refl;
+    target = record { there = lit< tt; life = refl; used = tt; vertex = refl };
+    target_met = linked_met small (first 53) 0 refl 1 refl;
     pass = refl;
   };
 })

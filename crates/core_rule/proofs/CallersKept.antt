@@ -9,6 +9,7 @@ use Rattle.core_journal.specs.Machine.{machine, word_at}
 use Rattle.core_journal.specs.State.{state}
 use Rattle.core_journal.specs.TwoCallers.{callers_journal}
 use Rattle.core_journal.specs.Worked.{small, first_life}
+use Rattle.core_rule.proofs.MetBehind.{linked_met}
 use Rattle.core_rule.specs.Fronts.{MayMarkVertex, MayUnlinkVertex, MayFreezeHead, MayLinkEdge}
 use Rattle.core_rule.specs.Kept.{Allowed, IsKept}
 use Rattle.core_rule.specs.KnownSteps.{view_among, Makes}
@@ -110,7 +111,10 @@ kept_30 = next 29 kept_29 (record {
     word = refl;
     fresh = record { fresh = refl; mine = refl };
     filled = record { key_word = refl; key_fits = lit< tt; link_word = refl; second_word = refl; third_word = refl; some = lit≤ tt; weight_fits = lit< tt };
-    target = refl;
+    target_key = refl;
+    source_met = linked_met small (first 29) 0 refl 0 refl;
+    target = record { there = lit< tt; life = refl; used = tt; vertex = refl };
+    target_met = record { pass = refl; free = λ h. absurd (cc); fresh = λ h. absurd (cc); spent = λ _. lit< tt };
     pass = refl;
   };
 })

@@ -175,23 +175,6 @@ marked_lower sizes z journal kept p e link at marks is live = by e.kind refl mar
         let t = (frozen_edge sizes z (take p journal) e kept_past i ok).gone link is in absurd (cc)
     by _ i m ok = absurd (cc)
 
--- in a pass in which a caller raised the counter for an edge that is linked
-pub raised_lower : (sizes : Sizes) → IsLayout sizes → (journal : List Event) → IsKept sizes journal → (caller : ℕ) (x : Life) (link : Event) → link_of journal x ≡ Some link → x.index < sizes.nodes → x.tag ≡ (node_in sizes journal x.index).tag
-    → IsLinkedEdge sizes journal x.index → IsRaisedFor sizes journal caller x link.source → IsLinkedLower sizes journal (length journal) link × ((node_in sizes journal link.source.index).stored ≡ false)
-raised_lower sizes z journal kept caller x link is there life edge r =
-    let v = node_in sizes journal x.index in
-    let d = ((named sizes z journal kept).each x.index there).edge_link (subst IsUsed (sym edge.linked) tt) edge.edge in
-    let one : link_of journal x ≡ Some d.link = ap (link_of journal) (life_is x x.index v.tag refl life) ∙ d.is in
-    let same : d.link ≡ link = cc in
-    let from : v.source ≡ link.source = sym d.from ∙ ap (λ (y : Event). y.source) same in
-    let at = (sources sizes z journal kept).each x.index there edge in
-    let vertex : IsVertex sizes journal link.source = subst (IsVertex sizes journal) from record { there = at.list.there; life = at.life; used = at.list.used; vertex = at.list.vertex } in
-    let whole : take (length journal) journal ≡ journal = take-length journal in
-    let was : link_of (take (length journal) journal) x ≡ Some link = ap (λ (l : List Event). link_of l x) whole ∙ is in (
-      lower_at sizes z journal kept (length journal) caller x link was (subst (λ (l : List Event). IsRaisedFor sizes l caller x link.source) (sym whole) r) (subst (λ (l : List Event). IsVertex sizes l link.source) (sym whole) vertex),
-      ap (λ (y : Life). (node_in sizes journal y.index).stored) (sym from) ∙ (sources sizes z journal kept).unstored v.source.index at.list,
-    )
-
 -- the third word of a node is no less than it was, while the node is in this life
 record IsNoLess (sizes : Sizes) (x tag word : ℕ) (s : State) (w : ℕ → ℕ) : Type 0 where
   pub low : tag ≤ (s.node x).tag

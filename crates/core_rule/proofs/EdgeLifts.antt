@@ -92,7 +92,10 @@ module _ (v : View) (z : IsLayout v.sizes) (journal : List Event) (r : Reaches v
         word = ap (λ (w : ℕ). pack x.index 0 (tag_of w)) (sym is);
         fresh = still_fresh v journal x.index h m.fresh;
         filled = filled;
-        target = end_key;
+        target_key = end_key;
+        source_met = (vertex_still v z journal r source m.from).met;
+        target = end;
+        target_met = (vertex_still v z journal r target m.to).met;
         pass = pass;
       })
       (λ (b : (y : Life) × IsEdgeBelow v source key place y).
@@ -115,7 +118,10 @@ module _ (v : View) (z : IsLayout v.sizes) (journal : List Event) (r : Reaches v
         word = ap (λ (w : ℕ). pack x.index 0 (tag_of w)) (sym is);
         fresh = still_fresh v journal x.index h m.fresh;
         filled = filled;
-        target = end_key;
+        target_key = end_key;
+        source_met = (vertex_still v z journal r source m.from).met;
+        target = end;
+        target_met = (vertex_still v z journal r target m.to).met;
         pass = pass;
       })
       m.before

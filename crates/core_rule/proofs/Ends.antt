@@ -30,7 +30,7 @@ vertex_key sizes z past kept x v = ap (key_of past) (life_is x x.index (node_in 
 
 -- the two ends of an edge that is linked next
 pub end_keys : (sizes : Sizes) → IsLayout sizes → (past : List Event) (e : Event) → IsKept sizes past → (k : Kind) → links_edge k ≡ true → AllowedAs k sizes past e → (key_of past e.source ≢ None) × (key_of past e.target ≡ Some e.key)
-end_keys sizes z past e kept LinkEdge is ok = (some_none _ _ (vertex_key sizes z past kept e.source ok.source), ok.target)
+end_keys sizes z past e kept LinkEdge is ok = (some_none _ _ (vertex_key sizes z past kept e.source ok.source), ok.target_key)
 end_keys sizes z past e kept _ is ok = absurd (cc)
 
 pub not_none : {A : Type 0} (o : Option A) → o ≢ None → (x : A) × (o ≡ Some x)

@@ -53,6 +53,7 @@ pub mod Fates
 pub mod SafeReuse
 pub mod Accounts
 pub mod MetWords
+pub mod RaisedInPass
 pub mod OwnSpent
 pub mod ClosedStays
 pub mod Spenders

@@ -90,6 +90,6 @@ module _ (sizes : Sizes) (z : IsLayout sizes) (journal : List Event) (kept : IsK
           let on = subst (λ (y : ℕ). is_listed (state sizes journal) y x.0.index ≡ true) i p.on in
           let has = subst (HasList sizes journal) i p.list in
           let s = link_spot sizes z journal e kept ok in
-          let key : e.key ≡ b = value e.key b (sym ok.target ∙ (present_is journal e.target b to).1) in
+          let key : e.key ≡ b = value e.key b (sym ok.target_key ∙ (present_is journal e.target b to).1) in
           absurd (none_of_key (edge_chain sizes journal e.source.index) s.at (word_at sizes journal (key_at sizes e.life.index)) x.0.index ((lists sizes z journal kept).each e.source.index (has_open sizes journal e.source.index has)).chain (link_can sizes z journal e kept ok s).passes on
           (p.key ∙ (sym key ∙ sym ok.filled.key_word)))

@@ -2,8 +2,8 @@
 use Rattle.std.proofs.Common.{◌≡◌, ℕ, ◌+◌, ◌<◌, ◌≤◌, Bool, true, false, true≢false, List, [], ◌∷◌, ◌++◌, take, get_or, refl, ◌∙◌, sym, ap, subst, arith, inl, inr, lit<, lit≤}
 use Rattle.std.specs.Prelude.{Some, slice_get}
 use Rattle.graph_kinds.specs.History.{Every}
-use Rattle.packed_link.specs.Link.{pack, nowhere}
-use Rattle.packed_link.specs.Layout.{epoch_at}
+use Rattle.packed_link.specs.Link.{pack, with_mark, index_of, mark_of, tag_of, nowhere}
+use Rattle.packed_link.specs.Layout.{epoch_at, bucket_at, link_at}
 use Rattle.core_journal.specs.declared.event.Event.{Event}
 use Rattle.core_journal.specs.declared.event.Kind.{Kind}
 use Rattle.core_journal.specs.declared.event.Kind.TheVariants.{DrawNumber, PopFree, StorePrivate, LinkVertex, MarkVertex, UnlinkVertex, LinkEdge, Raise, MarkEdge, UnlinkEdge, Announce, Withdraw, MoveEpoch, FreezeHead, FreezeEdge, StoreFree, PushFree}
@@ -15,18 +15,19 @@ use Rattle.core_journal.specs.State.{state}
 use Rattle.core_journal.specs.TwoCallers.{announces, takes, withdraws}
 use Rattle.core_journal.specs.Worked.{small}
 use Rattle.core_rule.specs.Counts.{raises}
-use Rattle.core_rule.specs.Edges.{IsLinkEdge, IsMarkEdge, IsRaise}
+use Rattle.core_rule.specs.Edges.{IsLinkEdge, IsMarkEdge, IsRaise, IsUnlinkEdge}
 use Rattle.core_rule.specs.FreeNodes.{IsPopFree, IsStoreFree}
 use Rattle.core_rule.specs.Kept.{Allowed, AllowedAs, IsKept}
 use Rattle.core_rule.specs.Passes.{IsChecked, IsMoveEpoch}
-use Rattle.core_rule.specs.Refused.{IsRefused, holding, outside, made_in_a_pass, event_of, inside, moves_own, edgeless, unraised, closed, lagging, early, unclosed}
-use Rattle.core_rule.specs.TwoLives.{raises_source, links_new, marks_first, stores_link, moves_epoch, with_other, removes_vertex}
+use Rattle.core_rule.specs.Refused.{IsRefused, holding, outside, made_in_a_pass, event_of, inside, moves_own, edgeless, unraised, closed, unmet, raises_again, unmet_source, unmet_target, unmet_list, lagging, early, unclosed}
+use Rattle.core_rule.specs.Nodes.{node_in, IsLinkedVertex}
+use Rattle.core_rule.specs.TwoLives.{raises_source, links_new, marks_first, marks_vertex, unlinks_vertex, stores_link, moves_epoch, with_other, removes_vertex}
 use Rattle.core_rule.proofs.Announcements.{epoch_was}
 use Rattle.core_journal.proofs.KeptLives.{link_more}
 use Rattle.core_rule.proofs.Counted.{edge_event}
 use Rattle.core_rule.proofs.Epochs.{checked}
 use Rattle.core_rule.proofs.Induction.{allowed_at, kept_snoc}
-use Rattle.core_rule.proofs.SmallSteps.{none_such, none_fresh, announced, filled, withdrawn, moved}
+use Rattle.core_rule.proofs.SmallSteps.{none_such, none_fresh, announced, filled, withdrawn, moved, at_link}
 use Rattle.core_rule.proofs.TwoLives.{before, kept_3, kept_4, kept_8, kept_16, kept_19, kept_24, kept_27, kept_28, kept_29, kept_32, kept_37, kept_40, kept_41, kept_42, kept_46}
 
 pub refused_holding : IsRefused small holding (takes 0 1 2)
@@ -134,28 +135,141 @@ refused_unraised = record {
       none_such (λ e. raises e.kind) unraised refl a.raised.number a.raised.raise a.raised.at (ap raises a.raised.kind);
 }
 
--- a front of the journal with a closed list, and the event of a number
-abbrev before_closed : ℕ → List Event
-before_closed n = take n closed
+-- one more event of a journal
+next_in : (journal : List Event) (n : ℕ) → IsKept small (take n journal) → Allowed small (take n journal) (get_or journal n blank) → IsKept small (take n journal ++ get_or journal n blank ∷ [])
+next_in journal n = kept_snoc small (take n journal) (get_or journal n blank)
 
-next_closed : (n : ℕ) → IsKept small (before_closed n) → Allowed small (before_closed n) (get_or closed n blank) → IsKept small (before_closed n ++ get_or closed n blank ∷ [])
-next_closed n = kept_snoc small (before_closed n) (get_or closed n blank)
+-- the vertex of node 0 may be marked, and then unlinked
+vertex_marked : (past : List Event) → 0 < (state small past).drawn → (node_in small past 0).tag ≡ 1 → IsLinkedVertex small past 0 → word_at small past (link_at small 0) ≡ pack 1 0 1 → (pass_in small past 0).is_open ≡ true → Allowed small past marks_vertex
+vertex_marked past drawn tag linked link runs = record {
+  by = λ _. drawn;
+  as_kind = record { life = sym tag; there = lit< tt; place = refl; linked = linked; unmarked = ap mark_of link; word = sym (ap with_mark link); pass = runs };
+}
 
-closed_33 : IsKept small (before_closed 33)
+vertex_unlinked : (past : List Event) → 0 < (state small past).drawn → (node_in small past 0).tag ≡ 1 → IsLinkedVertex small past 0 → word_at small past (bucket_at small 0) ≡ pack 0 0 0 → word_at small past (link_at small 0) ≡ pack 1 1 1 → (pass_in small past 0).is_open ≡ true
+    → Allowed small past unlinks_vertex
+vertex_unlinked past drawn tag linked head link runs = record {
+  by = λ _. drawn;
+  as_kind = record {
+    life = sym tag;
+    there = lit< tt;
+    bucket = 0;
+    before = 0;
+    place = inl (refl, lit< tt);
+    before_linked = λ x h. absurd (omega (arith, h));
+    unmarked = ap mark_of head;
+    leads = ap index_of head;
+    linked = linked;
+    dead = ap mark_of link;
+    word = λ i. pack (index_of (sym link i)) 0 (tag_of (sym head i));
+    pass = runs;
+  };
+}
+
+closed_38 : IsKept small (take 38 closed)
 unfolding machine word_at state
-closed_33 = next_closed 32 kept_32 (record { by = λ _. lit< tt; as_kind = record { life = refl; there = lit< tt; place = refl; linked = record { linked = refl; vertex = refl }; unmarked = refl; word = refl; pass = refl } })
+closed_38 = next_in closed 37 kept_37 (vertex_marked (take 37 closed) (lit< tt) refl (record { linked = refl; vertex = refl }) refl refl)
 
-closed_34 : IsKept small (before_closed 34)
+closed_39 : IsKept small (take 39 closed)
 unfolding machine word_at state
-closed_34 = next_closed 33 closed_33 (record {
+closed_39 = next_in closed 38 closed_38 (vertex_unlinked (take 38 closed) (lit< tt) refl (record { linked = refl; vertex = refl }) refl refl refl)
+
+closed_40 : IsKept small closed
+unfolding machine word_at state
+closed_40 = next_in closed 39 closed_39 (record { by = λ _. lit< tt; as_kind = record { life = refl; there = lit< tt; place = refl; spent = record { spent = refl; vertex = refl; mine = refl }; unmarked = refl; word = refl } })
+
+pub refused_late : IsRefused small closed (links_new 3 6)
+unfolding machine word_at state
+refused_late = record {
+  front = closed_40;
+  whole = λ kept.
+      let a : IsLinkEdge small closed (links_new 3 6) = (allowed_at small (closed ++ links_new 3 6 ∷ []) 40 (links_new 3 6) kept refl).as_kind in
+      let unmarked : 1 ≡ 0 = a.unmarked in
+      omega (arith, unmarked);
+}
+
+-- a vertex with an edge that was removed before the pass began
+unmet_43 : IsKept small (take 43 unmet)
+unfolding state
+unmet_43 = next_in unmet 42 kept_42 (withdrawn (take 42 unmet) (lit< tt) refl)
+
+unmet_44 : IsKept small unmet
+unfolding machine word_at state
+unmet_44 = next_in unmet 43 unmet_43 (announced (take 43 unmet) 0 (lit< tt) refl refl)
+
+pub refused_unmet : IsRefused small unmet raises_again
+unfolding state
+refused_unmet = record {
+  front = unmet_44;
+  whole = λ kept.
+      let a : IsRaise small unmet raises_again = (allowed_at small (unmet ++ raises_again ∷ []) 44 raises_again kept refl).as_kind in
+      let late : 43 < 42 = a.met.spent refl in
+      omega (arith, late);
+}
+
+-- an edge from a vertex that was removed before the pass began
+source_33 : IsKept small (take 33 unmet_source)
+unfolding machine word_at state
+source_33 = next_in unmet_source 32 kept_32 (vertex_marked (take 32 unmet_source) (lit< tt) refl (record { linked = refl; vertex = refl }) refl refl)
+
+source_34 : IsKept small (take 34 unmet_source)
+unfolding machine word_at state
+source_34 = next_in unmet_source 33 source_33 (vertex_unlinked (take 33 unmet_source) (lit< tt) refl (record { linked = refl; vertex = refl }) refl refl refl)
+
+source_35 : IsKept small (take 35 unmet_source)
+unfolding state
+source_35 = next_in unmet_source 34 source_34 (withdrawn (take 34 unmet_source) (lit< tt) refl)
+
+source_36 : IsKept small (take 36 unmet_source)
+unfolding machine word_at state
+source_36 = next_in unmet_source 35 source_35 (announced (take 35 unmet_source) 0 (lit< tt) refl refl)
+
+source_37 : IsKept small (take 37 unmet_source)
+unfolding machine word_at state
+source_37 = next_in unmet_source 36 source_36 (record { by = λ _. lit< tt; as_kind = record { life = refl; there = lit< tt; place = refl; seen = refl; word = refl; holds_none = none_fresh (take 36 unmet_source) refl; limit = lit< tt } })
+
+source_38 : IsKept small (take 38 unmet_source)
+unfolding state
+source_38 = next_in unmet_source 37 source_37 (filled (take 37 unmet_source) 3 0 2 (lit< tt) (lit< tt) (lit< tt) (lit< tt) (λ h. absurd (omega (arith, h))) refl (record { fresh = refl; mine = refl }))
+
+source_39 : IsKept small (take 39 unmet_source)
+unfolding state
+source_39 = next_in unmet_source 38 source_38 (filled (take 38 unmet_source) 3 1 (pack nowhere 0 1) (lit< tt) (lit< tt) (lit< tt) (lit< tt) (λ _. (refl, refl)) refl (record { fresh = refl; mine = refl }))
+
+source_40 : IsKept small (take 40 unmet_source)
+unfolding state
+source_40 = next_in unmet_source 39 source_39 (filled (take 39 unmet_source) 3 2 (pack 1 0 1) (lit< tt) (lit< tt) (lit< tt) (lit< tt) (λ h. absurd (omega (arith, h))) refl (record { fresh = refl; mine = refl }))
+
+source_41 : IsKept small unmet_source
+unfolding state
+source_41 = next_in unmet_source 40 source_40 (filled (take 40 unmet_source) 3 3 6 (lit< tt) (lit< tt) (lit< tt) (lit< tt) (λ h. absurd (omega (arith, h))) refl (record { fresh = refl; mine = refl }))
+
+pub refused_unmet_source : IsRefused small unmet_source (links_new 3 6)
+unfolding state
+refused_unmet_source = record {
+  front = source_41;
+  whole = λ kept.
+      let a : IsLinkEdge small unmet_source (links_new 3 6) = (allowed_at small (unmet_source ++ links_new 3 6 ∷ []) 41 (links_new 3 6) kept refl).as_kind in
+      let late : 35 < 34 = a.source_met.spent refl in
+      omega (arith, late);
+}
+
+-- an edge to a vertex that was removed before the pass began
+target_20 : IsKept small (take 20 unmet_target)
+unfolding machine word_at state
+target_20 = next_in unmet_target 19 kept_19 (record { by = λ _. lit< tt; as_kind = record { life = refl; there = lit< tt; place = refl; linked = record { linked = refl; vertex = refl }; unmarked = refl; word = refl; pass = refl } })
+
+target_21 : IsKept small (take 21 unmet_target)
+unfolding machine word_at state
+target_21 = next_in unmet_target 20 target_20 (record {
   by = λ _. lit< tt;
   as_kind = record {
     life = refl;
     there = lit< tt;
     bucket = 0;
     before = 0;
-    place = inl (refl, lit< tt);
-    before_linked = λ x h. absurd (omega (arith, h));
+    place = inr (refl, lit< tt);
+    before_linked = λ x h. at_link (IsLinkedVertex small (take 20 unmet_target)) 0 x h (record { linked = refl; vertex = refl });
     unmarked = refl;
     leads = refl;
     linked = record { linked = refl; vertex = refl };
@@ -165,46 +279,69 @@ closed_34 = next_closed 33 closed_33 (record {
   };
 })
 
-closed_35 : IsKept small (before_closed 35)
+target_22 : IsKept small (take 22 unmet_target)
+unfolding state
+target_22 = next_in unmet_target 21 target_21 (withdrawn (take 21 unmet_target) (lit< tt) refl)
+
+target_23 : IsKept small (take 23 unmet_target)
 unfolding machine word_at state
-closed_35 = next_closed 34 closed_34 (record { by = λ _. lit< tt; as_kind = record { life = refl; there = lit< tt; place = refl; spent = record { spent = refl; vertex = refl; mine = refl }; unmarked = refl; word = refl } })
+target_23 = next_in unmet_target 22 target_22 (announced (take 22 unmet_target) 0 (lit< tt) refl refl)
 
-closed_36 : IsKept small (before_closed 36)
-unfolding state
-closed_36 = next_closed 35 closed_35 (withdrawn (before_closed 35) (lit< tt) refl)
-
-closed_37 : IsKept small (before_closed 37)
+target_24 : IsKept small (take 24 unmet_target)
 unfolding machine word_at state
-closed_37 = next_closed 36 closed_36 (announced (before_closed 36) 0 (lit< tt) refl refl)
+target_24 = next_in unmet_target 23 target_23 (record { by = λ _. lit< tt; as_kind = record { life = refl; there = lit< tt; place = refl; seen = refl; word = refl; holds_none = none_fresh (take 23 unmet_target) refl; limit = lit< tt } })
 
-closed_38 : IsKept small (before_closed 38)
-unfolding machine word_at state
-closed_38 = next_closed 37 closed_37 (record { by = λ _. lit< tt; as_kind = record { life = refl; there = lit< tt; place = refl; seen = refl; word = refl; holds_none = none_fresh (before_closed 37) refl; limit = lit< tt } })
-
-closed_39 : IsKept small (before_closed 39)
+target_25 : IsKept small (take 25 unmet_target)
 unfolding state
-closed_39 = next_closed 38 closed_38 (filled (before_closed 38) 3 0 2 (lit< tt) (lit< tt) (lit< tt) (lit< tt) (λ h. absurd (omega (arith, h))) refl (record { fresh = refl; mine = refl }))
+target_25 = next_in unmet_target 24 target_24 (filled (take 24 unmet_target) 2 0 2 (lit< tt) (lit< tt) (lit< tt) (lit< tt) (λ h. absurd (omega (arith, h))) refl (record { fresh = refl; mine = refl }))
 
-closed_40 : IsKept small (before_closed 40)
+target_26 : IsKept small (take 26 unmet_target)
 unfolding state
-closed_40 = next_closed 39 closed_39 (filled (before_closed 39) 3 1 (pack nowhere 0 1) (lit< tt) (lit< tt) (lit< tt) (lit< tt) (λ _. (refl, refl)) refl (record { fresh = refl; mine = refl }))
+target_26 = next_in unmet_target 25 target_25 (filled (take 25 unmet_target) 2 1 (pack nowhere 0 1) (lit< tt) (lit< tt) (lit< tt) (lit< tt) (λ _. (refl, refl)) refl (record { fresh = refl; mine = refl }))
 
-closed_41 : IsKept small (before_closed 41)
+target_27 : IsKept small (take 27 unmet_target)
 unfolding state
-closed_41 = next_closed 40 closed_40 (filled (before_closed 40) 3 2 (pack 1 0 1) (lit< tt) (lit< tt) (lit< tt) (lit< tt) (λ h. absurd (omega (arith, h))) refl (record { fresh = refl; mine = refl }))
+target_27 = next_in unmet_target 26 target_26 (filled (take 26 unmet_target) 2 2 (pack 1 0 1) (lit< tt) (lit< tt) (lit< tt) (lit< tt) (λ h. absurd (omega (arith, h))) refl (record { fresh = refl; mine = refl }))
 
-closed_42 : IsKept small (before_closed 42)
+target_28 : IsKept small unmet_target
 unfolding state
-closed_42 = next_closed 41 closed_41 (filled (before_closed 41) 3 3 6 (lit< tt) (lit< tt) (lit< tt) (lit< tt) (λ h. absurd (omega (arith, h))) refl (record { fresh = refl; mine = refl }))
+target_28 = next_in unmet_target 27 target_27 (filled (take 27 unmet_target) 2 3 5 (lit< tt) (lit< tt) (lit< tt) (lit< tt) (λ h. absurd (omega (arith, h))) refl (record { fresh = refl; mine = refl }))
 
-pub refused_late : IsRefused small closed (links_new 3 6)
-unfolding machine word_at state
-refused_late = record {
-  front = closed_42;
+pub refused_unmet_target : IsRefused small unmet_target (links_new 2 5)
+unfolding state
+refused_unmet_target = record {
+  front = target_28;
   whole = λ kept.
-      let a : IsLinkEdge small closed (links_new 3 6) = (allowed_at small (closed ++ links_new 3 6 ∷ []) 42 (links_new 3 6) kept refl).as_kind in
-      let unmarked : 1 ≡ 0 = a.unmarked in
-      omega (arith, unmarked);
+      let a : IsLinkEdge small unmet_target (links_new 2 5) = (allowed_at small (unmet_target ++ links_new 2 5 ∷ []) 28 (links_new 2 5) kept refl).as_kind in
+      let late : 22 < 21 = a.target_met.spent refl in
+      omega (arith, late);
+}
+
+-- a marked edge of a vertex that was removed before the pass began
+list_30 : IsKept small (take 30 unmet_list)
+unfolding machine word_at state
+list_30 = next_in unmet_list 29 kept_29 (vertex_marked (take 29 unmet_list) (lit< tt) refl (record { linked = refl; vertex = refl }) refl refl)
+
+list_31 : IsKept small (take 31 unmet_list)
+unfolding machine word_at state
+list_31 = next_in unmet_list 30 list_30 (vertex_unlinked (take 30 unmet_list) (lit< tt) refl (record { linked = refl; vertex = refl }) refl refl refl)
+
+list_32 : IsKept small (take 32 unmet_list)
+unfolding state
+list_32 = next_in unmet_list 31 list_31 (withdrawn (take 31 unmet_list) (lit< tt) refl)
+
+list_33 : IsKept small unmet_list
+unfolding machine word_at state
+list_33 = next_in unmet_list 32 list_32 (announced (take 32 unmet_list) 0 (lit< tt) refl refl)
+
+pub refused_unmet_list : IsRefused small unmet_list (event_of 29)
+unfolding state
+refused_unmet_list = record {
+  front = list_33;
+  whole = λ kept.
+      let a : IsUnlinkEdge small unmet_list (event_of 29) = (allowed_at small (unmet_list ++ event_of 29 ∷ []) 33 (event_of 29) kept refl).as_kind in
+      let late : 32 < 31 = a.source_met.spent refl in
+      omega (arith, late);
 }
 
 -- the epoch is moved on from 0 while a pass is open that announced it

@@ -9,6 +9,7 @@ use Rattle.core_journal.specs.Machine.{machine, word_at}
 use Rattle.core_journal.specs.Prefix.{IsPrefix}
 use Rattle.core_journal.specs.State.{Spent, state}
 use Rattle.core_journal.specs.Worked.{small, first_life}
+use Rattle.core_rule.proofs.MetBehind.{linked_met}
 use Rattle.core_rule.specs.Kept.{Allowed, IsKept}
 use Rattle.core_rule.specs.Nodes.{node_in, IsLinkedVertex, IsRipe}
 use Rattle.core_rule.specs.TwoLives.{two_lives}
@@ -197,7 +198,10 @@ kept_25 = next 24 kept_24 (record {
     word = refl;
     fresh = record { fresh = refl; mine = refl };
     filled = record { key_word = refl; key_fits = lit< tt; link_word = refl; second_word = refl; third_word = refl; some = lit≤ tt; weight_fits = lit< tt };
-    target = refl;
+    target_key = refl;
+    source_met = linked_met small (before 24) 0 refl 0 refl;
+    target = record { there = lit< tt; life = refl; used = tt; vertex = refl };
+    target_met = linked_met small (before 24) 0 refl 1 refl;
     pass = refl;
   };
 })
@@ -230,6 +234,7 @@ kept_28 = next 27 kept_27 (record {
     from = refl;
     unmarked = refl;
     word = refl;
+    met = linked_met small (before 27) 0 refl 0 refl;
     pass = refl;
     limit = lit< tt;
   };
@@ -266,6 +271,7 @@ kept_30 = next 29 kept_29 (record {
     leads = refl;
     linked = record { linked = refl; edge = refl };
     dead = refl;
+    source_met = linked_met small (before 29) 0 refl 0 refl;
     word = refl;
     pass = refl;
   };
@@ -317,7 +323,10 @@ kept_38 = next 37 kept_37 (record {
     word = refl;
     fresh = record { fresh = refl; mine = refl };
     filled = record { key_word = refl; key_fits = lit< tt; link_word = refl; second_word = refl; third_word = refl; some = lit≤ tt; weight_fits = lit< tt };
-    target = refl;
+    target_key = refl;
+    source_met = linked_met small (before 37) 0 refl 0 refl;
+    target = record { there = lit< tt; life = refl; used = tt; vertex = refl };
+    target_met = linked_met small (before 37) 0 refl 1 refl;
     pass = refl;
   };
 })

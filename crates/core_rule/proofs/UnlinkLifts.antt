@@ -9,6 +9,7 @@ use Rattle.core_journal.specs.declared.event.Event.{Event}
 use Rattle.core_journal.specs.Machine.{word_at}
 use Rattle.core_journal.specs.Reuse.{pass_in}
 use Rattle.core_journal.specs.State.{Pass, state}
+use Rattle.core_rule.specs.Facts.{HasMet}
 use Rattle.core_rule.specs.Nodes.{node_in, IsLinkedVertex, IsLinkedEdge, IsVertex}
 use Rattle.core_rule.specs.Vertices.{IsUnlinkVertex}
 use Rattle.core_rule.specs.Edges.{IsEdgeFrom, IsUnlinkEdge}
@@ -105,6 +106,7 @@ module _ (v : View) (z : IsLayout v.sizes) (journal : List Event) (r : Reaches v
         linked = linked;
         dead = ap mark_of link ∙ m.dead;
         word = λ i. pack ((m.next_is ∙ ap index_of (sym link)) i) 0 (tag_of (sym is i));
+        source_met = subst (λ (y : Life). HasMet v.sizes journal v.number y.index) (sym source_is) (vertex_still v z journal r source m.from).met;
         pass = s.met.pass;
       })
       (λ (b : (y : Life) × IsEdgeLink v source place y).
@@ -125,6 +127,7 @@ module _ (v : View) (z : IsLayout v.sizes) (journal : List Event) (r : Reaches v
         linked = linked;
         dead = ap mark_of link ∙ m.dead;
         word = λ i. pack ((m.next_is ∙ ap index_of (sym link)) i) 0 (tag_of (sym is i));
+        source_met = subst (λ (y : Life). HasMet v.sizes journal v.number y.index) (sym source_is) (vertex_still v z journal r source m.from).met;
         pass = s.met.pass;
       })
       m.before

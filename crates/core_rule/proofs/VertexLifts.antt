@@ -130,6 +130,7 @@ module _ (v : View) (z : IsLayout v.sizes) (journal : List Event) (r : Reaches v
         from = m.from;
         unmarked = m.unmarked;
         word = refl;
+        met = s.met;
         pass = s.met.pass;
         limit = let same = made_quiet raises v.number v.last v.front journal r.front r.old r.quiet in omega (arith, same, m.limit);
       }

@@ -22,7 +22,8 @@ use Rattle.core_rule.specs.Facts.{HasMet, IsSamePass}
 use Rattle.core_rule.specs.Fronts.{IsLifeAt, MetVertex, MetEdge, key_in, IsVertexBelow, IsVertexAbove, IsEdgeBelow, IsEdgeAbove, IsBeforeVertex, IsBeforeEdge, IsVertexLink, IsEdgeLink, LeadsToVertex, LeadsToEdge, MayRaise}
 use Rattle.core_rule.specs.Kept.{IsKept, IsQuiet}
 use Rattle.core_rule.specs.Nodes.{node_in, IsUsed, IsLinkedVertex, IsLinkedEdge}
-use Rattle.core_rule.specs.Plays.{IsSound, Looked, Won, Stored}
+use Rattle.core_rule.specs.Plays.{IsSound, Looked, Met, Replied, Won, Stored}
+use Rattle.graph_kinds.specs.declared.entry.Entry.{Entry}
 use Rattle.core_rule.specs.Views.{moved_on, Spares, Steps, GoesOn, IsVertexIn, IsVertexBehind, IsEdgeIn, IsEdgeBehind, IsEdgeShown}
 use Rattle.core_rule.specs.Walks.{LeadsTo, IsMetFirst, IsMetBehind, IsMetIn}
 use Rattle.core_rule.specs.declared.view.View.{View}
@@ -57,6 +58,26 @@ look_steps v place found w has s l =
     let kept = kept_of v w v.last l.view l.sound in
     record { view = as_moved v w v.last l.view; grown = w.front; reaches = record { kept = kept; front = l.grows; quiet = quiet; old = s.old has }; front = sym (append-nil w.front); kept = kept }
 
+-- so is a load that adds an entry, but for the book
+pub reply_steps : (v : View) (entry : Entry) (w : View) → v.numbered ≡ true → IsSound v → Replied v entry w → Steps v None (record w { book = v.book })
+reply_steps v entry w has s l =
+    look_steps v 0 (word_at v.sizes w.front 0) (record w { book = v.book }) has s record {
+      grows = l.grows;
+      word = refl;
+      sound = record { kept = l.sound.kept; quiet = l.sound.quiet; old = l.sound.old };
+      view = ap (λ (u : View). record u { book = v.book }) l.view;
+    }
+
+-- so is a load behind a join, but for the other's front
+pub meet_steps : (v w : View) → v.numbered ≡ true → IsSound v → Met v w → Steps v None (record w { met = v.met })
+meet_steps v w has s l =
+    look_steps v 0 (word_at v.sizes w.front 0) (record w { met = v.met }) has s record {
+      grows = l.grows;
+      word = refl;
+      sound = record { kept = l.sound.kept; quiet = l.sound.quiet; old = l.sound.old };
+      view = ap (λ (u : View). record u { met = v.met }) l.view;
+    }
+
 -- a store is one with its event, and so is a won step
 pub store_steps : (v : View) (e : Event) (w : View) → v.numbered ≡ true → IsSound v → Stored v e w → Steps v (Some e) w
 store_steps v e w has s t =
@@ -86,8 +107,8 @@ step_view v w own t =
     let sizes : w.sizes ≡ v.sizes = ap (λ (u : View). u.sizes) t.view in
     (sizes, ap (λ (u : View). u.number) t.view, ap (λ (u : View). u.numbered) t.view, subst (λ (z : Sizes). IsKept z w.front) (sym sizes) t.kept, step_grows v w own t)
 
-pub step_last : (v w : View) (e : Event) (t : Steps v (Some e) w) → IsKept v.sizes (t.grown ++ e ∷ [])
-step_last v w e t = subst (IsKept v.sizes) t.front t.kept
+pub step_last : (v w : View) (e : Event) (t : Steps v (Some e) w) → (w.front ≡ t.grown ++ e ∷ []) × IsKept v.sizes (t.grown ++ e ∷ [])
+step_last v w e t = (t.front, subst (IsKept v.sizes) t.front t.kept)
 
 -- the pass stays, but where one is announced or withdrawn
 pub step_goes_on : (v w : View) (own : Option Event) → Steps v own w → Spares (λ (e : Event). (e.kind ≢ Announce) × (e.kind ≢ Withdraw)) own → GoesOn v w

@@ -9,7 +9,7 @@ use Rattle.core_journal.specs.Prefix.{IsPrefix}
 use Rattle.core_journal.specs.Reuse.{pass_in}
 use Rattle.core_rule.specs.Facts.{HasMet, IsSamePass}
 use Rattle.core_rule.specs.Kept.{IsKept}
-use Rattle.core_rule.specs.Walks.{LeadsTo, Load, led_to, CameTo, ComesFrom, from_bucket, from_link, from_list, IsLoad, IsWalk, StaysMet, IsMetBehind, IsMetFirst, IsMetIn}
+use Rattle.core_rule.specs.Walks.{LeadsTo, Load, led_to, CameTo, ComesFrom, from_bucket, from_link, from_list, from_met, from_met_list, IsLoad, IsWalk, StaysMet, IsMetBehind, IsMetFirst, IsMetIn}
 use Rattle.core_rule.proofs.Induction.{kept_front}
 use Rattle.core_rule.proofs.MetBehind.{walk_head, walk_link, walk_list}
 use Rattle.core_rule.proofs.MetWords.{still_met}
@@ -54,7 +54,7 @@ module _ (sizes : Sizes) (z : IsLayout sizes) (journal : List Event) (kept : IsK
           (λ (p : P (index_of (word_at sizes l.moment place))). let g = give (index_of (word_at sizes l.moment place)) p in inr (shown l.moment d.same (index_of (word_at sizes l.moment place)) g.0 g.1))
           leads)
 
-      by : ComesFrom sizes earlier l → IsShown l
+      by : ComesFrom sizes caller earlier l → IsShown l
       by (from_bucket j low at) = on (IsMetFirst sizes l.moment caller j) (bucket_at sizes j) at (λ y m. (m.there, m.met)) (walk_head sizes z l.moment (kept_then l.moment d.same) caller d.pass j low)
       by (from_link x c at) =
           let m = came l d.pass d.same earlier walk was d.later x c in
@@ -62,6 +62,8 @@ module _ (sizes : Sizes) (z : IsLayout sizes) (journal : List Event) (kept : IsK
       by (from_list x c vertex at) =
           let m = came l d.pass d.same earlier walk was d.later x c in
           on (IsMetIn sizes l.moment caller x) (second_at sizes x) at (λ y b. (b.there, b.met)) (walk_list sizes z l.moment (kept_then l.moment d.same) caller x m.0 m.1 vertex)
+      by (from_met x there m at) = on (IsMetBehind sizes l.moment caller x) (link_at sizes x) at (λ y b. (b.there, b.met)) (walk_link sizes z l.moment (kept_then l.moment d.same) caller x there m)
+      by (from_met_list x there m vertex at) = on (IsMetIn sizes l.moment caller x) (second_at sizes x) at (λ y b. (b.there, b.met)) (walk_list sizes z l.moment (kept_then l.moment d.same) caller x there m vertex)
 
   pub walk_meets : (loads : List Load) → IsWalk sizes journal caller loads → Every IsShown loads
   walk_meets [] _ = tt

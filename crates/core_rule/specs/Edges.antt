@@ -11,6 +11,7 @@ use Rattle.core_journal.specs.Life.{key_of, link_of, edge_linked, edge_marked}
 use Rattle.core_journal.specs.Reuse.{pass_in}
 use Rattle.core_rule.specs.Counts.{raises, made, most_raises}
 use Rattle.core_rule.specs.Nodes.{node_in, IsFreshWith, IsVertex, IsLinkedEdge, IsListWord}
+use Rattle.core_rule.specs.Facts.{HasMet}
 
 -- the words of a node are those of an edge in its life, whose link leads to a node or none
 pub record IsFilledEdge (sizes : Sizes) (past : List Event) (x key next : ℕ) (to : Life) (weight : ℕ) : Type 0 where
@@ -34,11 +35,12 @@ pub record IsEdgeFrom (sizes : Sizes) (past : List Event) (source : Life) (x : �
   pub from : (node_in sizes past x).source ≡ source
 
 -- in its pass a caller links the edge that it filled behind an unmarked word, which is the second word of its source or
--- the link of a linked edge with this source; its target was linked as a vertex of its key
+-- the link of a linked edge with this source; its pass has met the source and the target, which is a vertex of its key
 pub record IsLinkEdge (sizes : Sizes) (past : List Event) (e : Event) : Type 0 where
   pub life : e.life.tag ≡ (node_in sizes past e.life.index).tag
   pub there : e.life.index < sizes.nodes
   pub source : IsVertex sizes past e.source
+  pub source_met : HasMet sizes past e.caller e.source.index
   pub before : ℕ
   pub place : IsListWord sizes e.place e.source.index before
   pub linked : (x : ℕ) → e.place ≡ link_at sizes x → IsEdgeFrom sizes past e.source x
@@ -47,16 +49,19 @@ pub record IsLinkEdge (sizes : Sizes) (past : List Event) (e : Event) : Type 0 w
   pub word : e.word ≡ pack e.life.index 0 (tag_of (word_at sizes past e.place))
   pub fresh : IsFreshWith sizes past e.caller e.life.index
   pub filled : IsFilledEdge sizes past e.life.index e.key (index_of (word_at sizes past e.place)) e.target e.weight
-  pub target : key_of past e.target ≡ Some e.key
+  pub target : IsVertex sizes past e.target
+  pub target_met : HasMet sizes past e.caller e.target.index
+  pub target_key : key_of past e.target ≡ Some e.key
   pub pass : (pass_in sizes past e.caller).is_open ≡ true
 
--- in its pass a caller raises the counter of a vertex, of which an edge was linked and unmarked at a moment of this
--- pass
+-- in its pass a caller raises the counter of a vertex that the pass has met, of which an edge was linked and unmarked at
+-- a moment of this pass
 pub record IsRaise (sizes : Sizes) (past : List Event) (e : Event) : Type 0 where
   pub life : e.life.tag ≡ (node_in sizes past e.life.index).tag
   pub there : e.life.index < sizes.nodes
   pub place : e.place ≡ third_at sizes e.life.index
   pub vertex : IsVertex sizes past e.life
+  pub met : HasMet sizes past e.caller e.life.index
   pub moment : List Event
   pub before : IsPrefix moment past
   pub since : (pass_in sizes past e.caller).since < length moment
@@ -91,11 +96,12 @@ pub record IsMarkEdge (sizes : Sizes) (past : List Event) (e : Event) : Type 0 w
   pub raised : IsRaisedFor sizes past e.caller e.life (node_in sizes past e.life.index).source
   pub pass : (pass_in sizes past e.caller).is_open ≡ true
 
--- in its pass a caller unlinks a marked edge from the unmarked word that leads to it
+-- in its pass a caller unlinks a marked edge from the unmarked word that leads to it; its pass has met the source
 pub record IsUnlinkEdge (sizes : Sizes) (past : List Event) (e : Event) : Type 0 where
   pub life : e.life.tag ≡ (node_in sizes past e.life.index).tag
   pub there : e.life.index < sizes.nodes
   pub source : IsVertex sizes past (node_in sizes past e.life.index).source
+  pub source_met : HasMet sizes past e.caller (node_in sizes past e.life.index).source.index
   pub before : ℕ
   pub place : IsListWord sizes e.place (node_in sizes past e.life.index).source.index before
   pub before_linked : (x : ℕ) → e.place ≡ link_at sizes x

@@ -1,15 +1,15 @@
 -- Kept journals, each with an event in mind that is refused behind it.
 use Rattle.std.specs.Prelude.{ℕ, List, [], ◌∷◌, ◌++◌, take, get_or}
-use Rattle.packed_link.specs.Link.{nowhere}
-use Rattle.packed_link.specs.Layout.{Sizes, epoch_at}
+use Rattle.packed_link.specs.Link.{pack, nowhere}
+use Rattle.packed_link.specs.Layout.{Sizes, epoch_at, link_at, third_at}
 use Rattle.core_journal.specs.declared.event.Event.{Event}
-use Rattle.core_journal.specs.declared.event.Kind.TheVariants.{MoveEpoch}
+use Rattle.core_journal.specs.declared.event.Kind.TheVariants.{MarkVertex, MoveEpoch, Raise, UnlinkVertex}
 use Rattle.core_journal.specs.Event.{blank}
 use Rattle.core_journal.specs.TwoCallers.{draws, announces, withdraws, takes, two_vertices}
-use Rattle.core_journal.specs.Worked.{small}
+use Rattle.core_journal.specs.Worked.{small, first_life}
 use Rattle.core_rule.specs.Kept.{IsKept}
 use Rattle.core_rule.specs.TwoLives.{takes_edge, removes_vertex, closes_head, moves_epoch, with_edge, without_edge}
-use Rattle.core_rule.specs.TwoLives.{with_other, without_source, two_lives}
+use Rattle.core_rule.specs.TwoLives.{with_other, without_source, two_lives, raises_source, marks_first}
 
 -- a journal is kept, and with this event behind it no longer
 pub record IsRefused (sizes : Sizes) (past : List Event) (e : Event) : Type 0 where
@@ -50,9 +50,38 @@ edgeless = two_vertices ++ announces 0 ∷ []
 abbrev pub unraised : List Event
 unraised = with_edge ++ announces 0 ∷ []
 
--- the list of a removed vertex is closed while it's empty, and an edge for it is filled: it may not be linked any more
+-- in one pass an edge is filled, its source is removed, and the empty list of that is closed: the edge may not be linked
+-- any more
 abbrev pub closed : List Event
-closed = without_edge ++ (announces 0 ∷ removes_vertex ++ (closes_head nowhere ∷ withdraws 0 ∷ takes_edge 3 6))
+closed = without_edge ++ (takes_edge 3 6 ++ (removes_vertex ++ closes_head nowhere ∷ []))
+
+-- a vertex with an edge was removed before the pass of caller 0 began: its counter may not be raised
+abbrev pub unmet : List Event
+unmet = with_other ++ (announces 0 ∷ removes_vertex ++ (withdraws 0 ∷ announces 0 ∷ []))
+
+-- its counter, which was raised once, is raised again
+abbrev pub raises_again : Event
+raises_again = record blank { kind = Raise; place = third_at small 0; word = 2; life = first_life 0 }
+
+-- a vertex was removed before the pass in which an edge from it is filled: the edge may not be linked
+abbrev pub unmet_source : List Event
+unmet_source = without_edge ++ (announces 0 ∷ removes_vertex ++ (withdraws 0 ∷ takes_edge 3 6))
+
+-- the vertex of node 1 is marked, and unlinked behind that of node 0
+abbrev pub removes_other : List Event
+removes_other =
+    record blank { kind = MarkVertex; place = link_at small 1; word = pack nowhere 1 1; life = first_life 1 }
+    ∷ record blank { kind = UnlinkVertex; place = link_at small 0; word = pack nowhere 0 1; life = first_life 1 }
+    ∷ []
+
+-- a vertex was removed before the pass in which an edge to it is filled: the edge may not be linked
+abbrev pub unmet_target : List Event
+unmet_target = two_vertices ++ (announces 0 ∷ removes_other ++ (withdraws 0 ∷ takes_edge 2 5))
+
+-- an edge is marked, and its source was removed before the pass of caller 0 began: the edge may not be unlinked
+abbrev pub unmet_list : List Event
+unmet_list =
+    with_edge ++ (announces 0 ∷ raises_source ∷ marks_first ∷ removes_vertex ++ (withdraws 0 ∷ announces 0 ∷ []))
 
 -- caller 0 has a pass that announced epoch 0, and the epoch is 1: caller 1 may not move it on to 2
 abbrev pub lagging : List Event

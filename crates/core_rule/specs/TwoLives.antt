@@ -60,12 +60,17 @@ removes_edge =
     ∷ withdraws 0
     ∷ []
 
--- the vertex of node 0 is removed: it's marked, and unlinked
+-- the vertex of node 0 is marked
+abbrev pub marks_vertex : Event
+marks_vertex = record blank { kind = MarkVertex; place = link_at small 0; word = pack 1 1 1; life = first_life 0 }
+
+-- it's unlinked
+abbrev pub unlinks_vertex : Event
+unlinks_vertex = record blank { kind = UnlinkVertex; place = bucket_at small 0; word = pack 1 0 0; life = first_life 0 }
+
+-- the vertex of node 0 is removed
 abbrev pub removes_vertex : List Event
-removes_vertex =
-    record blank { kind = MarkVertex; place = link_at small 0; word = pack 1 1 1; life = first_life 0 }
-    ∷ record blank { kind = UnlinkVertex; place = bucket_at small 0; word = pack 1 0 0; life = first_life 0 }
-    ∷ []
+removes_vertex = marks_vertex ∷ unlinks_vertex ∷ []
 
 -- its list is closed at its head, which leads to node x
 abbrev pub closes_head : ℕ → Event

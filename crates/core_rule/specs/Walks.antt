@@ -72,20 +72,25 @@ abbrev pub CameTo : Sizes → List Load → ℕ → Type 0
 CameTo sizes [] x = ⊥
 CameTo sizes (l ∷ earlier) x = ((led_to sizes l ≡ x) × (x ≢ nowhere)) ⊎ CameTo sizes earlier x
 
--- where a load of a walk comes from: the word of a bucket, the link of a node to which it came, or the second word of a
--- vertex to which it came
-pub data ComesFrom (sizes : Sizes) (earlier : List Load) (l : Load) : Type 0 where
-  from_bucket : (j : ℕ) → j < sizes.buckets → l.place ≡ bucket_at sizes j → ComesFrom sizes earlier l
-  from_link : (x : ℕ) → CameTo sizes earlier x → l.place ≡ link_at sizes x → ComesFrom sizes earlier l
+-- where a load of a walk comes from: the word of a bucket, the link of a node to which the walk came, or the second word of
+-- a vertex to which it came. It may also begin at such a word of a node that its pass has met otherwise: as the target of
+-- an edge, or by linking it
+pub data ComesFrom (sizes : Sizes) (caller : ℕ) (earlier : List Load) (l : Load) : Type 0 where
+  from_bucket : (j : ℕ) → j < sizes.buckets → l.place ≡ bucket_at sizes j → ComesFrom sizes caller earlier l
+  from_link : (x : ℕ) → CameTo sizes earlier x → l.place ≡ link_at sizes x → ComesFrom sizes caller earlier l
   from_list : (x : ℕ) → CameTo sizes earlier x → (node_in sizes l.moment x).vertex ≡ true
-      → l.place ≡ second_at sizes x → ComesFrom sizes earlier l
+      → l.place ≡ second_at sizes x → ComesFrom sizes caller earlier l
+  from_met : (x : ℕ) → x < sizes.nodes → HasMet sizes l.moment caller x → l.place ≡ link_at sizes x
+      → ComesFrom sizes caller earlier l
+  from_met_list : (x : ℕ) → x < sizes.nodes → HasMet sizes l.moment caller x
+      → (node_in sizes l.moment x).vertex ≡ true → l.place ≡ second_at sizes x → ComesFrom sizes caller earlier l
 
 -- a load in the open pass of a caller, behind the walk's earlier loads
 pub record IsLoad (sizes : Sizes) (journal : List Event) (caller : ℕ) (earlier : List Load) (l : Load) : Type 0 where
   pub pass : (pass_in sizes l.moment caller).is_open ≡ true
   pub same : IsSamePass sizes l.moment journal caller
   pub later : Every (λ (k : Load). IsPrefix k.moment l.moment) earlier
-  pub from : ComesFrom sizes earlier l
+  pub from : ComesFrom sizes caller earlier l
 
 -- the loads of a walk in the open pass of a caller, the last one first
 abbrev pub IsWalk : Sizes → List Event → ℕ → List Load → Type 0

@@ -23,6 +23,7 @@ ghost use Rattle.core_rule.specs.Kept.{Allowed, IsKept};
 ghost use Rattle.core_rule.specs.Nodes.{node_in};
 ghost use Rattle.core_rule.specs.Refused.{IsRefused, closed, early, edgeless, event_of, holding, inside, lagging};
 ghost use Rattle.core_rule.specs.Refused.{made_in_a_pass, moves_own, outside, unclosed, unraised};
+ghost use Rattle.core_rule.specs.Refused.{raises_again, unmet, unmet_list, unmet_source, unmet_target};
 ghost use Rattle.core_rule.specs.Standings.{FreshWith, OnChain, OnFreeList, SpentBy, StandsAs};
 ghost use Rattle.core_rule.specs.TwoLives.{two_lives, with_edge, without_edge, with_other, without_source};
 ghost use Rattle.core_rule.specs.TwoLives.{key_two, links_new, lives_words, marks_first, moves_epoch, raises_source};
@@ -86,8 +87,9 @@ pub fn nodes_are_linked_beside_others()
 /// Events that are refused behind kept journals, each for one part of its condition. A second node is taken while one
 /// is held; a vertex or an edge is linked, marked or unlinked, or a counter raised, outside a pass; the epoch is moved
 /// on by a caller with a pass; a counter is raised where there is no edge; an edge is marked without a raise; an edge
-/// is linked into a closed list; the epoch is moved on past an open pass; a node is stored for the free list one epoch
-/// too early; and so is one whose list isn't closed.
+/// is linked into a closed list; a counter is raised, and an edge is linked from a vertex, to a vertex, and unlinked from
+/// its list, where that vertex was removed before the pass began; the epoch is moved on past an open pass; a node is
+/// stored for the free list one epoch too early; and so is one whose list isn't closed.
 pub fn wrong_events_are_refused()
     ensures greedy { IsRefused small holding (takes 0 1 2) }
     ensures outside { Every (λ (n : ℕ). IsRefused small (outside n) (event_of n)) made_in_a_pass }
@@ -95,6 +97,10 @@ pub fn wrong_events_are_refused()
     ensures edgeless { IsRefused small edgeless raises_source }
     ensures unraised { IsRefused small unraised marks_first }
     ensures late { IsRefused small closed (links_new 3 6) }
+    ensures unmet { IsRefused small unmet raises_again }
+    ensures unmet_source { IsRefused small unmet_source (links_new 3 6) }
+    ensures unmet_target { IsRefused small unmet_target (links_new 2 5) }
+    ensures unmet_list { IsRefused small unmet_list (event_of 29) }
     ensures hurried { IsRefused small lagging (moves_epoch 2) }
     ensures early { IsRefused small early (stores_link 3 4) }
     ensures unclosed { IsRefused small unclosed (stores_link 0 4) }

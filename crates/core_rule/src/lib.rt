@@ -43,7 +43,10 @@ pub use own::{
     a_caller_fills_one_node, a_new_number_has_nothing, callers_have_numbers,
     each_event_changes_its_node, each_event_keeps_the_rest, own_events_are_counted, own_facts_stay,
 };
-pub use raises::{a_raise_is_for_edges_linked_before, marked_edges_were_linked_at_a_lower_counter};
+pub use raises::{
+    a_raise_is_for_edges_linked_before, few_edges_are_linked,
+    marked_edges_were_linked_at_a_lower_counter,
+};
 pub use reuse::{
     each_node_has_one_standing, nodes_are_given_again_safely, ripe_nodes_are_not_met,
     spent_nodes_become_ripe, spent_nodes_stay_with_their_caller, what_is_met_keeps_its_words,

@@ -17,14 +17,14 @@ ghost use Rattle.core_journal.specs.Prefix.{IsPrefix};
 ghost use Rattle.core_journal.specs.State.{Fresh};
 ghost use Rattle.core_rule.specs.Counts.{made, pops};
 ghost use Rattle.core_rule.specs.Edges.{IsRaisedFor};
-ghost use Rattle.core_rule.specs.Facts.{HasMet};
+ghost use Rattle.core_journal.specs.Reuse.{pass_in};
 ghost use Rattle.core_rule.specs.Kept.{IsKept};
-ghost use Rattle.core_rule.specs.Nodes.{IsLinkedEdge, IsVertex, node_in};
+ghost use Rattle.core_rule.specs.Nodes.{node_in};
 ghost use Rattle.core_rule.specs.Raised.{IsLinkedLower};
 
-/// Each edge that is marked while its source isn't was linked at a lower counter of the source. So was each edge for
-/// which a caller raised that counter in its pass, where the edge is linked still, or the pass has met the source; and
-/// the source's node isn't stored for the free list then. A counter never falls while its node isn't taken again.
+/// Each edge that is marked while its source isn't was linked at a lower counter of the source. So was each edge for which
+/// a caller raised that counter in its open pass (`raised`), and the source's node isn't stored for the free list then
+/// (`unstored`). A counter never falls while its node isn't taken again.
 pub fn marked_edges_were_linked_at_a_lower_counter()
     ensures marked { (sizes : Sizes) → IsLayout sizes → (journal : List Event) → IsKept sizes journal
         → (p : ℕ) (e link : Event) → slice_get journal p ≡ Some e → marks_edge e.kind ≡ true
@@ -32,15 +32,12 @@ pub fn marked_edges_were_linked_at_a_lower_counter()
         → IsLinkedLower sizes journal p link }
     ensures raised { (sizes : Sizes) → IsLayout sizes → (journal : List Event) → IsKept sizes journal
         → (caller : ℕ) (x : Life) (link : Event) → link_of journal x ≡ Some link
-        → x.index < sizes.nodes → x.tag ≡ (node_in sizes journal x.index).tag → IsLinkedEdge sizes journal x.index
-        → IsRaisedFor sizes journal caller x link.source
-        → IsLinkedLower sizes journal (length journal) link
-        × ((node_in sizes journal link.source.index).stored ≡ false) }
-    ensures met { (sizes : Sizes) → IsLayout sizes → (journal : List Event) → IsKept sizes journal
-        → (caller : ℕ) (x : Life) (link : Event) → link_of journal x ≡ Some link → IsVertex sizes journal link.source
-        → HasMet sizes journal caller link.source.index → IsRaisedFor sizes journal caller x link.source
-        → IsLinkedLower sizes journal (length journal) link
-        × ((node_in sizes journal link.source.index).stored ≡ false) }
+        → (pass_in sizes journal caller).is_open ≡ true → IsRaisedFor sizes journal caller x link.source
+        → IsLinkedLower sizes journal (length journal) link }
+    ensures unstored { (sizes : Sizes) → IsLayout sizes → (journal : List Event) → IsKept sizes journal
+        → (caller : ℕ) (x : Life) (link : Event) → link_of journal x ≡ Some link
+        → (pass_in sizes journal caller).is_open ≡ true → IsRaisedFor sizes journal caller x link.source
+        → (node_in sizes journal link.source.index).stored ≡ false }
     ensures rises { (sizes : Sizes) → IsLayout sizes → (x : ℕ) (front journal : List Event) → IsPrefix front journal
         → IsKept sizes journal → (node_in sizes front x).mode ≢ Fresh
         → (node_in sizes journal x).tag ≡ (node_in sizes front x).tag

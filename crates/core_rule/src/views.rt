@@ -28,16 +28,18 @@ ghost use Rattle.core_rule.specs.Fronts.{MayRaise, MetEdge, MetVertex, key_in};
 ghost use Rattle.core_rule.specs.Kept.{IsKept};
 ghost use Rattle.core_rule.specs.Nodes.{IsFreshWith, IsFrozenToEnd, IsLinkedEdge, IsLinkedVertex, IsRipe, is_listed};
 ghost use Rattle.core_rule.specs.Nodes.{IsSpentWith, IsStamped};
-ghost use Rattle.core_rule.specs.Plays.{IsSound, Looked, Stored, Won};
+ghost use Rattle.core_rule.specs.Plays.{IsSound, Looked, Met, Replied, Stored, Won};
+ghost use Rattle.graph_kinds.specs.declared.entry.Entry.{Entry};
 ghost use Rattle.core_rule.specs.Views.{GoesOn, IsEdgeBehind, IsEdgeIn, IsEdgeShown, IsVertexBehind, IsVertexIn};
 ghost use Rattle.core_rule.specs.Views.{Spares, Steps};
 ghost use Rattle.core_rule.specs.Walks.{LeadsTo};
 ghost use Rattle.core_rule.specs.declared.view.View.{View};
 
 /// A load, a won step and a store are steps: others made events, and behind these the token made its own event or none.
-/// The new view is of the same table and number, and its front goes on from the old one and is kept (`view`), with the
-/// token's event as its last (`last`). Where that is no announcement and no withdrawal, the new view is a later one in
-/// the same pass, and so it's after several steps.
+/// A load that ends a call is one but for the entry that it adds to the book (`reply`), and one behind a join but for the
+/// other's front, which is part of its own from then on (`meet`). The new view is of the same table and number, and its
+/// front goes on from the old one and is kept (`view`), with the token's event as its last (`last`). Where that is no
+/// announcement and no withdrawal, the new view is a later one in the same pass, and so it's after several steps.
 pub fn a_view_goes_on()
     ensures look { (v : View) (place found : ℕ) (w : View) → v.numbered ≡ true → IsSound v → Looked v place found w
         → Steps v None w }
@@ -45,9 +47,13 @@ pub fn a_view_goes_on()
         → Won v place found e w → Steps v (Some e) w }
     ensures store { (v : View) (e : Event) (w : View) → v.numbered ≡ true → IsSound v → Stored v e w
         → Steps v (Some e) w }
+    ensures reply { (v : View) (entry : Entry) (w : View) → v.numbered ≡ true → IsSound v → Replied v entry w
+        → Steps v None (record w { book = v.book }) }
+    ensures meet { (v w : View) → v.numbered ≡ true → IsSound v → Met v w → Steps v None (record w { met = v.met }) }
     ensures view { (v w : View) (own : Option Event) → Steps v own w → (w.sizes ≡ v.sizes) × (w.number ≡ v.number)
         × (w.numbered ≡ v.numbered) × IsKept w.sizes w.front × IsPrefix v.front w.front }
-    ensures last { (v w : View) (e : Event) → (t : Steps v (Some e) w) → IsKept v.sizes (t.grown ++ e ∷ []) }
+    ensures last { (v w : View) (e : Event) → (t : Steps v (Some e) w)
+        → (w.front ≡ t.grown ++ e ∷ []) × IsKept v.sizes (t.grown ++ e ∷ []) }
     ensures pass { (v w : View) (own : Option Event) → Steps v own w
         → Spares (λ (e : Event). (e.kind ≢ Announce) × (e.kind ≢ Withdraw)) own → GoesOn v w }
     ensures chain { (u v w : View) → GoesOn u v → GoesOn v w → GoesOn u w }

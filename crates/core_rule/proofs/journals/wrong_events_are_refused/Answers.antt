@@ -1,4 +1,4 @@
-use Rattle.core_rule.proofs.Refusals.{refused_holding, refused_outside, refused_inside, refused_edgeless, refused_unraised, refused_late, refused_lagging, refused_early, refused_unclosed}
+use Rattle.core_rule.proofs.Refusals.{refused_holding, refused_outside, refused_inside, refused_edgeless, refused_unraised, refused_late, refused_unmet, refused_unmet_source, refused_unmet_target, refused_unmet_list, refused_lagging, refused_early, refused_unclosed}
 use Rattle.core_rule.proofs.journals.wrong_events_are_refused.Goals as goal
 
 pub returns-clause-greedy : goal.returns-clause-greedy
@@ -27,3 +27,15 @@ returns-clause-early c = refused_early
 
 pub returns-clause-unclosed : goal.returns-clause-unclosed
 returns-clause-unclosed c = refused_unclosed
+
+pub returns-clause-unmet : goal.returns-clause-unmet
+returns-clause-unmet c = refused_unmet
+
+pub returns-clause-unmet_source : goal.returns-clause-unmet_source
+returns-clause-unmet_source c = refused_unmet_source
+
+pub returns-clause-unmet_target : goal.returns-clause-unmet_target
+returns-clause-unmet_target c = refused_unmet_target
+
+pub returns-clause-unmet_list : goal.returns-clause-unmet_list
+returns-clause-unmet_list c = refused_unmet_list

@@ -1,4 +1,4 @@
-use Rattle.core_rule.proofs.ViewsShown.{look_steps, win_steps, store_steps, step_view, step_last, step_goes_on, goes_further}
+use Rattle.core_rule.proofs.ViewsShown.{look_steps, reply_steps, meet_steps, win_steps, store_steps, step_view, step_last, step_goes_on, goes_further}
 use Rattle.core_rule.proofs.views.a_view_goes_on.Goals as goal
 
 pub returns-clause-look : goal.returns-clause-look
@@ -21,3 +21,9 @@ returns-clause-view c = λ v w own t. step_view v w own t
 
 pub returns-clause-last : goal.returns-clause-last
 returns-clause-last c = λ v w e t. step_last v w e t
+
+pub returns-clause-reply : goal.returns-clause-reply
+returns-clause-reply c = λ v entry w has s l. reply_steps v entry w has s l
+
+pub returns-clause-meet : goal.returns-clause-meet
+returns-clause-meet c = λ v w has s l. meet_steps v w has s l
