@@ -54,8 +54,8 @@ pub record IsLinkEdge (sizes : Sizes) (past : List Event) (e : Event) : Type 0 w
   pub target_key : key_of past e.target ≡ Some e.key
   pub pass : (pass_in sizes past e.caller).is_open ≡ true
 
--- in its pass a caller raises the counter of a vertex that the pass has met, of which an edge was linked and unmarked at
--- a moment of this pass
+-- in its pass a caller raises the counter of a vertex that the pass has met, of which an edge was linked and unmarked
+-- at a moment of this pass
 pub record IsRaise (sizes : Sizes) (past : List Event) (e : Event) : Type 0 where
   pub life : e.life.tag ≡ (node_in sizes past e.life.index).tag
   pub there : e.life.index < sizes.nodes

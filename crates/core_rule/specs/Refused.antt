@@ -50,8 +50,8 @@ edgeless = two_vertices ++ announces 0 ∷ []
 abbrev pub unraised : List Event
 unraised = with_edge ++ announces 0 ∷ []
 
--- in one pass an edge is filled, its source is removed, and the empty list of that is closed: the edge may not be linked
--- any more
+-- in one pass an edge is filled, its source is removed, and the empty list of that is closed: the edge may not be
+-- linked any more
 abbrev pub closed : List Event
 closed = without_edge ++ (takes_edge 3 6 ++ (removes_vertex ++ closes_head nowhere ∷ []))
 

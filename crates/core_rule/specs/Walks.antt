@@ -72,9 +72,9 @@ abbrev pub CameTo : Sizes → List Load → ℕ → Type 0
 CameTo sizes [] x = ⊥
 CameTo sizes (l ∷ earlier) x = ((led_to sizes l ≡ x) × (x ≢ nowhere)) ⊎ CameTo sizes earlier x
 
--- where a load of a walk comes from: the word of a bucket, the link of a node to which the walk came, or the second word of
--- a vertex to which it came. It may also begin at such a word of a node that its pass has met otherwise: as the target of
--- an edge, or by linking it
+-- where a load of a walk comes from: the word of a bucket, the link of a node to which the walk came, or the second
+-- word of a vertex to which it came. It may also begin at such a word of a node that its pass has met otherwise: as the
+-- target of an edge, or by linking it
 pub data ComesFrom (sizes : Sizes) (caller : ℕ) (earlier : List Load) (l : Load) : Type 0 where
   from_bucket : (j : ℕ) → j < sizes.buckets → l.place ≡ bucket_at sizes j → ComesFrom sizes caller earlier l
   from_link : (x : ℕ) → CameTo sizes earlier x → l.place ≡ link_at sizes x → ComesFrom sizes caller earlier l

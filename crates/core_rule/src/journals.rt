@@ -87,9 +87,9 @@ pub fn nodes_are_linked_beside_others()
 /// Events that are refused behind kept journals, each for one part of its condition. A second node is taken while one
 /// is held; a vertex or an edge is linked, marked or unlinked, or a counter raised, outside a pass; the epoch is moved
 /// on by a caller with a pass; a counter is raised where there is no edge; an edge is marked without a raise; an edge
-/// is linked into a closed list; a counter is raised, and an edge is linked from a vertex, to a vertex, and unlinked from
-/// its list, where that vertex was removed before the pass began; the epoch is moved on past an open pass; a node is
-/// stored for the free list one epoch too early; and so is one whose list isn't closed.
+/// is linked into a closed list; a counter is raised, and an edge is linked from a vertex, to a vertex, and unlinked
+/// from its list, where that vertex was removed before the pass began; the epoch is moved on past an open pass; a node
+/// is stored for the free list one epoch too early; and so is one whose list isn't closed.
 pub fn wrong_events_are_refused()
     ensures greedy { IsRefused small holding (takes 0 1 2) }
     ensures outside { Every (λ (n : ℕ). IsRefused small (outside n) (event_of n)) made_in_a_pass }

@@ -65,12 +65,12 @@ pub fn frozen_parts_are_handed_over()
         → (is_listed (state sizes journal) x y ≡ true) × ((state sizes journal).frozen x ≡ true) }
 {}
 
-/// A list that is frozen to its end is one still while no edge of its vertex's life is stored for the free list: one
-/// meets its edges from the second word of the vertex, they are all edges of the vertex's life that weren't unlinked,
-/// and a frozen word leads to none or to one of them. Where it leads to none, the list is frozen to its end; where it
-/// leads to a marked edge, that edge is of the frozen part. Each list that isn't frozen to its end is such a list. That
-/// of a vertex which a caller spent stays one while others act, and behind each event of anyone that neither stores the
-/// link of an edge of it for the free list nor gives the vertex back.
+/// A list that is frozen to its end is one still while no edge of its vertex's life that wasn't unlinked is stored for
+/// the free list: one meets its edges from the second word of the vertex, they are all edges of the vertex's life that
+/// weren't unlinked, and a frozen word leads to none or to one of them. Where it leads to none, the list is frozen to
+/// its end; where it leads to a marked edge, that edge is of the frozen part. Each list that isn't frozen to its end is
+/// such a list. That of a vertex which a caller spent stays one while others act, and behind each event of anyone that
+/// neither stores the link of an edge of it for the free list nor gives the vertex back.
 pub fn a_closed_list_is_a_list()
     ensures list { (sizes : Sizes) → IsLayout sizes → (journal : List Event) → IsKept sizes journal
         → (x : ℕ) → HasList sizes journal x → KeepsList sizes journal x }

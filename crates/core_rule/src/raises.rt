@@ -22,9 +22,9 @@ ghost use Rattle.core_rule.specs.Kept.{IsKept};
 ghost use Rattle.core_rule.specs.Nodes.{node_in};
 ghost use Rattle.core_rule.specs.Raised.{IsLinkedLower};
 
-/// Each edge that is marked while its source isn't was linked at a lower counter of the source. So was each edge for which
-/// a caller raised that counter in its open pass (`raised`), and the source's node isn't stored for the free list then
-/// (`unstored`). A counter never falls while its node isn't taken again.
+/// Each edge that is marked while its source isn't was linked at a lower counter of the source. So was each edge for
+/// which a caller raised that counter in its open pass (`raised`), and the source's node isn't stored for the free list
+/// then (`unstored`). A counter never falls while its node isn't taken again.
 pub fn marked_edges_were_linked_at_a_lower_counter()
     ensures marked { (sizes : Sizes) → IsLayout sizes → (journal : List Event) → IsKept sizes journal
         → (p : ℕ) (e link : Event) → slice_get journal p ≡ Some e → marks_edge e.kind ≡ true

@@ -36,10 +36,10 @@ ghost use Rattle.core_rule.specs.Walks.{LeadsTo};
 ghost use Rattle.core_rule.specs.declared.view.View.{View};
 
 /// A load, a won step and a store are steps: others made events, and behind these the token made its own event or none.
-/// A load that ends a call is one but for the entry that it adds to the book (`reply`), and one behind a join but for the
-/// other's front, which is part of its own from then on (`meet`). The new view is of the same table and number, and its
-/// front goes on from the old one and is kept (`view`), with the token's event as its last (`last`). Where that is no
-/// announcement and no withdrawal, the new view is a later one in the same pass, and so it's after several steps.
+/// A load that ends a call is one but for the entry that it adds to the book (`reply`), and one behind a join but for
+/// the other's front, which is part of its own from then on (`meet`). The new view is of the same table and number, and
+/// its front goes on from the old one and is kept (`view`), with the token's event as its last (`last`). Where that is
+/// no announcement and no withdrawal, the new view is a later one in the same pass, and so it's after several steps.
 pub fn a_view_goes_on()
     ensures look { (v : View) (place found : ℕ) (w : View) → v.numbered ≡ true → IsSound v → Looked v place found w
         → Steps v None w }
