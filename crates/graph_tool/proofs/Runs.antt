@@ -1,5 +1,6 @@
 -- What is written for rows is what their command asks.
-use Rattle.std.proofs.Common.{◌≡◌, ℕ, ◌+◌, ◌<◌, List, [], ◌∷◌, length, get_or, refl, sym, subst, arith}
+use Rattle.std.proofs.Common.{◌≡◌, ℕ, ◌+◌, ◌<◌, List, [], ◌∷◌, length, take, get_or, refl, sym, subst, arith}
+use Rattle.std.proofs.Math.Seq.{take-length}
 use Rattle.std.specs.Prelude.{Option, Some, None, IfSome, Ok, zero, suc}
 use Rattle.std.specs.Prelude.{All}
 use Rattle.graph_kinds.specs.declared.call.Call.{Call}
@@ -8,7 +9,7 @@ use Rattle.graph_kinds.specs.declared.answer.Answer.{Answer}
 use Rattle.graph_kinds.specs.Graph.{Graph, empty_graph}
 use Rattle.graph_kinds.specs.Answer.{after, answers, after_all}
 use Rattle.graph_kinds.specs.History.{answered, calls_of}
-use Rattle.graph_kinds.specs.Stream.{TakesMany}
+use Rattle.graph_kinds.specs.Stream.{Puts, PutsSome, TakesMany}
 use Rattle.graph_kinds.proofs.Calls.{replay_legal, length-answers}
 use Rattle.op_text.specs.Text.{IsShown, text}
 use Rattle.op_text.specs.Rows.{rows}
@@ -64,3 +65,7 @@ not_too_long (Some old) new P few = λ many. absurd (too_many old new many few)
 pub if_told : (P Q : List ℕ → Type 0) (old : Option (List ℕ)) → IfSome old P → ((bytes : List ℕ) → P bytes → Q bytes) → IfSome old Q
 if_told P Q None p f = tt
 if_told P Q (Some bytes) p f = f bytes p
+
+-- where all was put, a first part was
+pub puts_all : (old mid new : Option (List ℕ)) (bytes : List ℕ) → Puts old mid bytes → new ≡ mid → PutsSome old new bytes
+puts_all old mid new bytes put same = (length bytes, omega arith, subst (λ (o : Option (List ℕ)). Puts old o (take (length bytes) bytes)) (sym same) (subst (Puts old mid) (sym (take-length bytes)) put))

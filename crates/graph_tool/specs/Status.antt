@@ -44,11 +44,6 @@ line_of ReadFault = Some (codes "graph_tool: read fault")
 line_of WriteFault = Some (codes "graph_tool: write fault")
 line_of Memory = Some (codes "graph_tool: out of memory")
 
--- another status where this one is Done, and else this one
-abbrev pub if_done : Status → Status → Status
-if_done Done other = other
-if_done status other = status
-
 -- a fact where all was written
 abbrev pub IfDone : Status → Type 0 → Type 0
 IfDone Done P = P

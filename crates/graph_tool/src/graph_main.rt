@@ -67,6 +67,7 @@ pub fn graph_main<R: Threads + Sync, S: Source, K: Sink>(
     ensures prefix { IfWriteFault result (IfSome (S.rest source.old) (λ bytes. (written : List ℕ)
         × Asks words.now bytes written × PutsSome (K.taken sink.old) (K.taken sink.new) written)) }
     ensures unwritten { UnlessWriting result (K.taken sink.new ≡ K.taken sink.old) }
+    ensures faults { K.faults sink.old ≤ K.faults sink.new }
     ensures complete { (asked : List Row) → IsAccepted words.now
         → IfSome (S.rest source.old) (λ bytes. length bytes ≤ most_bytes → rows callers bytes ≡ Ok asked
         → (Rose (S.faults source.old) (S.faults source.new) → ⊥) → (Rose (K.faults sink.old) (K.faults sink.new) → ⊥)

@@ -2,20 +2,18 @@
 //! the final graph to standard output.
 #![tactic(auto)]
 
-ghost use Rattle.std.specs.Prelude.{◌≡◌, OnOk, OnErr};
-ghost use Rattle.graph_tool.specs.Status.{if_done};
-
 mod command;
 mod graph_main;
+mod in_pieces;
 mod input;
 mod output;
 mod status;
 mod streams;
 
-use crate::graph_main::graph_main;
+use crate::in_pieces::graph_main_in_pieces;
 use crate::status::{Status, UsageCause};
 use crate::streams::{ReadSource, WriteSink};
-use op_text::{Pieces, WriteFailed};
+use op_text::Pieces;
 use std::process::ExitCode;
 use std::rt::Env;
 use std::thread::Threads;
@@ -46,19 +44,7 @@ fn run<R: Env + Input + Print + AllocGlobal + Threads + Sync>(rt: &R) -> Status 
         Ok(sink) => sink,
         Err(_) => return Status::Memory,
     };
-    let status = graph_main(rt, alloc, words.as_slice(), &mut source, &mut sink);
-    flushed(status, sink.flush())
-}
-
-// How a run ends whose last piece was handed on, or failed to be.
-fn flushed(status: Status, flush: Result<(), WriteFailed>) -> Status
-    ensures ok { OnOk flush (result ≡ status) }
-    ensures failed { OnErr flush (result ≡ if_done status Status.WriteFault) }
-{
-    match (status, flush) {
-        (Status::Done, Err(_)) => Status::WriteFault,
-        _ => status,
-    }
+    graph_main_in_pieces(rt, alloc, words.as_slice(), &mut source, &mut sink)
 }
 
 #[cfg(test)]

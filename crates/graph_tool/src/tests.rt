@@ -4,10 +4,11 @@
 ghost use Rattle.std.specs.Prelude.{◌≤◌, ◌<◌};
 
 use crate::graph_main::graph_main;
+use crate::in_pieces::graph_main_in_pieces;
 use crate::status::{Status, UsageCause};
 use crate::streams::{ReadSource, WriteSink};
 use graph_kinds::{MemSink, MemSource, ReadAnswer, Sink, Source, WriteAnswer};
-use op_text::RowCause;
+use op_text::{Pieces, RowCause};
 use std::io;
 use std::test::Fail;
 use std::thread::Threads;
@@ -422,6 +423,25 @@ fn failing_streams_end_the_run(rt: HostRuntime) -> Result<(), Fail> {
             "at write {failing}"
         );
         assert_eq!(rt; sink.bytes().len() as u32 + 1, failing);
+    }
+    Ok(())
+}
+
+// The sink behind has all once the last piece was handed on, and the run isn't Done where it can't be.
+#[test]
+fn the_last_piece_is_handed_on(rt: HostRuntime) -> Result<(), Fail> {
+    let alloc = rt.alloc();
+    let words = words_of(&rt, &["run"])?;
+    for (failing, status, written) in [
+        (2, Status::Done, VERTEX_ROWS_TEXT),
+        (1, Status::WriteFault, b"".as_slice()),
+    ] {
+        let mut source = MemSource::new(VERTEX_ROWS.to_vec(alloc)?, ROOM, Vec::new(alloc));
+        let behind = MemSink::new(alloc, ROOM, ROOM, [failing].to_vec(alloc)?)?;
+        let mut sink = Pieces::new(alloc, behind)?;
+        let ended = graph_main_in_pieces(&rt, alloc, words.as_slice(), &mut source, &mut sink);
+        assert_eq!(rt; ended, status, "where write {failing} fails");
+        assert_eq!(rt; sink.into_sink().bytes(), written);
     }
     Ok(())
 }

@@ -1,0 +1,70 @@
+//! The top call over a sink that hands on in pieces, so that the sink behind has all in the end.
+
+ghost use Rattle.std.specs.Prelude.{◌≡◌, ◌+◌, ◌≤◌, ◌⊎◌, ℕ, List, true, Ok, Err, IfSome, Some, length};
+ghost use Rattle.graph_kinds.specs.Stream.{Puts, PutsSome, Rose, TakesMany};
+ghost use Rattle.graph_kinds.specs.declared.call.Row.{Row};
+ghost use Rattle.op_text.specs.Pieces.{given, inner};
+ghost use Rattle.op_text.specs.Rows.{rows};
+ghost use Rattle.op_text.specs.declared.rows.RowCause.{RowCause};
+ghost use Rattle.graph_tool.specs.Command.{command_of};
+ghost use Rattle.graph_tool.specs.Input.{most_bytes};
+ghost use Rattle.graph_tool.specs.Run.{Asks, IsAccepted, callers};
+ghost use Rattle.graph_tool.specs.Status.{IfDone, IfUsage, IfBadRow, IfReadFault, IfWriteFault, UnlessMemory};
+ghost use Rattle.graph_tool.specs.Status.{UnlessWriting};
+ghost use Rattle.graph_tool.specs.declared.status.UsageCause.{UsageCause};
+
+use crate::graph_main::graph_main;
+use crate::status::{Status, UsageCause};
+use graph_kinds::{Sink, Source};
+use op_text::Pieces;
+use std::alloc::Global;
+use std::thread::Threads;
+
+/// `graph_main` on a sink that hands on in pieces, and behind a run that is Done the last piece: then the sink
+/// behind was given the whole text. Costs what `graph_main` costs.
+///
+/// # Errors
+/// Those of `graph_main`, exactly where they come there; and `WriteFault` where the last piece can't be handed
+/// on, only where the count of faults of the sink behind rose.
+pub fn graph_main_in_pieces<R: Threads + Sync, S: Source, K: Sink>(
+    rt: &R,
+    alloc: Global,
+    words: &[String],
+    source: &mut S,
+    sink: &mut Pieces<K>,
+) -> Status
+    ensures done { IfDone result (IfSome (S.rest source.old) (λ bytes. (written : List ℕ)
+        × Asks words.now bytes written × Puts (given K.taken sink.old) (K.taken (inner sink.new)) written)) }
+    ensures end { IfDone result (S.ended source.new ≡ true) }
+    ensures usage { IfUsage result (λ cause. (cause ≡ UsageCause.InputTooLong) ⊎ (command_of words.now ≡ Err cause)) }
+    ensures refused { (cause : UsageCause) → command_of words.now ≡ Err cause → result ≡ Status.Usage cause }
+    ensures too_long { result ≡ Status.Usage UsageCause.InputTooLong
+        → IsAccepted words.now × TakesMany (S.rest source.old) (S.rest source.new) (most_bytes + 1) }
+    ensures too_long_only { IsAccepted words.now → IfSome (S.rest source.old) (λ bytes.
+        TakesMany (Some bytes) (S.rest source.new) (most_bytes + 1)
+        → UnlessMemory result (result ≡ Status.Usage UsageCause.InputTooLong)) }
+    ensures bad_row { IfBadRow result (λ row cause. IsAccepted words.now × (S.ended source.new ≡ true)
+        × IfSome (S.rest source.old) (λ bytes. rows callers bytes ≡ Err (row, cause))) }
+    ensures bad_row_only { (row : ℕ) (cause : RowCause) → IsAccepted words.now → S.ended source.new ≡ true
+        → IfSome (S.rest source.old) (λ bytes. rows callers bytes ≡ Err (row, cause)
+        → UnlessMemory result (result ≡ Status.BadRow row cause)) }
+    ensures read_fault { IfReadFault result (IsAccepted words.now × Rose (S.faults source.old) (S.faults source.new)) }
+    ensures write_fault { IfWriteFault result (IsAccepted words.now
+        × Rose (K.faults (inner sink.old)) (K.faults (inner sink.new))) }
+    ensures prefix { IfWriteFault result (IfSome (S.rest source.old) (λ bytes. (written : List ℕ)
+        × Asks words.now bytes written × PutsSome (given K.taken sink.old) (given K.taken sink.new) written)) }
+    ensures unwritten { UnlessWriting result (given K.taken sink.new ≡ given K.taken sink.old) }
+    ensures complete { (asked : List Row) → IsAccepted words.now
+        → IfSome (S.rest source.old) (λ bytes. length bytes ≤ most_bytes → rows callers bytes ≡ Ok asked
+        → (Rose (S.faults source.old) (S.faults source.new) → ⊥)
+        → (Rose (K.faults (inner sink.old)) (K.faults (inner sink.new)) → ⊥)
+        → UnlessMemory result (result ≡ Status.Done)) }
+{
+    match graph_main(rt, alloc, words, source, sink) {
+        Status::Done => match sink.flush() {
+            Ok(()) => Status::Done,
+            Err(_) => Status::WriteFault,
+        },
+        status => status,
+    }
+}
