@@ -25,7 +25,7 @@ levels_from g (suc n) known [] = []
 levels_from g (suc n) known (x ∷ xs) =
     (x ∷ xs) ∷ levels_from g n (known ++ x ∷ xs) (level_after g (known ++ x ∷ xs) (x ∷ xs))
 
--- the levels from a: each holds a key at least, so there are no more of them than keys
+-- the levels from a key a: each holds a key at least, so there are no more of them than keys
 abbrev pub levels_of : Graph → ℕ → List (List ℕ)
 levels_of g a = levels_from g (key_count g) [] (a ∷ [])
 
@@ -53,7 +53,7 @@ way_in g earlier [] b = None
 way_in g earlier (level ∷ later) b =
     cond (stands_in level b) (Some (way_back g earlier b)) (way_in g (level ∷ earlier) later b)
 
--- the path from a to b by parents, if a path leads there
+-- the path from a key a to b by parents, if a path leads there
 abbrev pub reach_path : Graph → ℕ → ℕ → Option (List ℕ)
 reach_path g a b = way_in g [] (levels_of g a) b
 

@@ -30,12 +30,12 @@ pub record IsLeastCost (g : Graph) (a b c : ℕ) : Type 0 where
   pub cost : cost_of g path ≡ c
   pub least : (p : List ℕ) → IsPath g a b p → c ≤ cost_of g p
 
--- all paths of n pairs that start with a
+-- all paths of n pairs from a key a
 abbrev pub paths_of : Graph → ℕ → ℕ → List (List ℕ)
 paths_of g zero a = (a ∷ []) ∷ []
 paths_of g (suc n) a = flat_map (λ y. map (λ p. a ∷ p) (paths_of g n y)) (neighbours g a)
 
--- all paths of fewer than n pairs that start with a
+-- all paths of fewer than n pairs from a key a
 abbrev pub short_paths : Graph → ℕ → ℕ → List (List ℕ)
 short_paths g zero a = []
 short_paths g (suc n) a = short_paths g n a ++ paths_of g n a
@@ -51,7 +51,7 @@ abbrev pub least : List ℕ → Option ℕ
 least [] = None
 least (x ∷ xs) = Some (min x (unwrap_or (least xs) x))
 
--- the least cost of all paths from a to b with fewer pairs than the graph has keys: a path with more
+-- the least cost of all paths from a key a to b with fewer pairs than the graph has keys: a path with more
 -- pairs meets a key twice, and costs more than the path without that round
 abbrev pub least_cost : Graph → ℕ → ℕ → Option ℕ
 least_cost g a b = least (map (cost_of g) (filter (ends_with b) (short_paths g (key_count g) a)))
@@ -75,13 +75,14 @@ abbrev pub behind_before : (ℕ → List ℕ) → ℕ → Option ℕ → List �
 behind_before back y None = y ∷ []
 behind_before back y (Some x) = back x ++ y ∷ []
 
--- the cheapest path from a to y, found backwards: the key before y, the key before that one, until a; in n turns at
--- most
+-- the cheapest path from a key a to y, found backwards: the key before y, the key before that one, until a; in n
+-- turns at most
 abbrev pub cheapest_back : Graph → ℕ → ℕ → ℕ → List ℕ
 cheapest_back g a zero y = y ∷ []
 cheapest_back g a (suc n) y = cond (y == a) (y ∷ []) (behind_before (cheapest_back g a n) y (key_before g a y))
 
--- the cheapest path from a to b: the costs fall on the way back, so no key is met twice and the turns are enough
+-- the cheapest path from a key a to b: the costs fall on the way back, so no key is met twice and the turns are
+-- enough
 abbrev pub cheapest_path : Graph → ℕ → ℕ → List ℕ
 cheapest_path g a b = cheapest_back g a (key_count g) b
 

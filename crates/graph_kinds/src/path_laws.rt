@@ -40,8 +40,8 @@ pub fn levels_are_distances()
     ensures start { (g : Graph) (a : ℕ) → has g a ≡ true → level_at (levels_of g a) 0 ≡ a ∷ [] }
 {}
 
-/// The path of reach is a path, none has fewer pairs, it goes by parents, and no other path is so; there is
-/// none exactly where no path leads there.
+/// From a key, the path of reach is a path, none has fewer pairs, it goes by parents, and no other path is so;
+/// there is none exactly where no path leads there.
 pub fn reach_is_shortest()
     ensures path { (g : Graph) (a b : ℕ) (p : List ℕ) → IsGraph g → has g a ≡ true
         → reach_path g a b ≡ Some p → IsPath g a b p }
@@ -57,7 +57,7 @@ pub fn reach_is_shortest()
     ensures itself { (g : Graph) (a : ℕ) → IsGraph g → has g a ≡ true → reach_path g a a ≡ Some (a ∷ []) }
 {}
 
-/// The least cost is the least cost of all paths, and there is none exactly where no path leads there.
+/// From a key, the least cost is the least cost of all paths, and there is none exactly where no path leads there.
 pub fn least_costs_are_least()
     ensures least { (g : Graph) (a b c : ℕ) → IsGraph g → has g a ≡ true
         → ((least_cost g a b ≡ Some c) ↔ IsLeastCost g a b c) }
@@ -66,8 +66,8 @@ pub fn least_costs_are_least()
     ensures itself { (g : Graph) (a : ℕ) → IsGraph g → has g a ≡ true → least_cost g a a ≡ Some 0 }
 {}
 
-/// The path found backwards is a path, it costs the least cost, and each of its keys but the first comes
-/// behind the least key over which a cheapest way leads to it; no other path goes so.
+/// From a key, the path found backwards is a path, it costs the least cost, and each of its keys but the first
+/// comes behind the least key over which a cheapest way leads to it; no other path goes so.
 pub fn cheapest_is_a_path()
     ensures path { (g : Graph) (a b c : ℕ) → IsGraph g → has g a ≡ true
         → least_cost g a b ≡ Some c → IsPath g a b (cheapest_path g a b) }
