@@ -42,7 +42,8 @@ fn gather(scan: &mut Scan, row: u32) -> u32
 /// The cheapest path from row 0 to the goal: `Cost` with the least cost, a sum of weights below 2^48, and the
 /// keys of the path in the answer region, or `NoPath` with none, where no path leads there or the goal is no key.
 /// Of paths that cost as much it is the one on which each key comes behind the least key that it can. Takes no
-/// memory, in O((rows + edges) · log rows) (Dijkstra 1959, with a binary heap with places, Williams 1964).
+/// memory, in O((rows + edges) · log rows) and what the answer held (Dijkstra 1959, with a binary heap with places,
+/// Williams 1964).
 pub fn cheapest(scan: &mut Scan, goal: u32) -> Outcome
     requires { IsComplete scan.old }
     ensures answer { answered result scan.new ≡ by_cost (least_cost (graph_of_scan scan.old) (root_of scan.old) goal)

@@ -13,7 +13,8 @@ use graph_kinds::Outcome;
 use scan_record::Scan;
 
 /// The levels from row 0, `Levels(n)` of n levels: the answer region gets their keys in order, and for each
-/// level the number of keys up to its end. Takes no memory, in O(rows + edges) (Moore 1959).
+/// level the number of keys up to its end. Takes no memory, in O(rows + edges) and what the answer held (Moore
+/// 1959).
 pub fn levels(scan: &mut Scan) -> Outcome
     requires { IsComplete scan.old }
     ensures answer { answered result scan.new ≡ by_levels (levels_of (graph_of_scan scan.old) (root_of scan.old)) }

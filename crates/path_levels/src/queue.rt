@@ -57,7 +57,7 @@ fn put(scan: &mut Scan, row: u32, parent: u32)
     scan.put_key(scan.vertex(row).key);
 }
 
-/// Begins a queue that has row 0, in O(rows).
+/// Begins a queue that has row 0, in O(rows) and what the answer held.
 pub fn begin(scan: &mut Scan)
     requires { IsComplete scan.old }
     ensures queue { IsQueue scan.new 0 }

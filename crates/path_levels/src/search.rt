@@ -33,7 +33,7 @@ fn expand_level(scan: &mut Scan, from: u32)
     }
 }
 
-/// Lists all levels from row 0, with the place of each key's parent, in O(rows + edges).
+/// Lists all levels from row 0, with the place of each key's parent, in O(rows + edges) and what the answer held.
 pub fn search(scan: &mut Scan)
     requires { IsComplete scan.old }
     ensures keys { scan.new.keys ≡ concat (levels_of (graph_of_scan scan.old) (root_of scan.old)) }

@@ -52,7 +52,8 @@ fn gather(scan: &mut Scan, goal: u32) -> u32
 }
 
 /// The path by parents from row 0 to the goal: `Path` with its keys in the answer region, or `NoPath` with
-/// none, where no path leads there or the goal is no key. Takes no memory, in O(rows + edges) (Moore 1959).
+/// none, where no path leads there or the goal is no key. Takes no memory, in O(rows + edges) and what the answer
+/// held (Moore 1959).
 pub fn reach(scan: &mut Scan, goal: u32) -> Outcome
     requires { IsComplete scan.old }
     ensures answer { answered result scan.new ≡ by_path (reach_path (graph_of_scan scan.old) (root_of scan.old) goal) }
