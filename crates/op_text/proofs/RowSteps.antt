@@ -3,7 +3,7 @@ use Rattle.std.proofs.Common.{◌≡◌, ℕ, ◌+◌, ◌<◌, ◌≤◌, ◌�
 use Rattle.std.proofs.lemmas.List.{append-nil, length-append}
 use Rattle.std.proofs.lemmas.List.Elements.{All-nil, All-push, All-same}
 use Rattle.csv.specs.Machine.{ends_at_end}
-use Rattle.csv.specs.Reading.{ReadRecord, Ready, default_config, source_of, strip_bom, took_first}
+use Rattle.csv.specs.Reading.{ReadRecord, Ready, default_config, is_flexible, source_of, strip_bom, took_first}
 use Rattle.csv.specs.declared.parser.State.TheVariants as st
 use Rattle.csv.specs.declared.reader.Reader.{Reader}
 use Rattle.csv.specs.declared.reader.Trim.TheVariants as trim
@@ -37,10 +37,12 @@ joined_bad callers number fields more read cause e = ap (λ r. joined read (then
 abbrev pub known : Bor (List ℕ) → Option (List ℕ)
 known s = Some s.now
 
--- the rows read are those of the records before this number, and the reader has the further records left
+-- the rows read are those of the records before this number; the reader has the further records left, and takes them at
+-- any length
 pub record IsReadSoFar (bytes : List ℕ) (callers number : ℕ) (reader : Reader (Bor (List ℕ))) (read : List Row) : Type 0 where
   pub left : List ℕ
   pub trim : reader.trim ≡ trim.None
+  pub flexible : reader.flexible ≡ true
   pub ready : Ready reader
   pub config : reader.config ≡ default_config
   pub fresh : ends_at_end reader.state ≡ false
@@ -57,14 +59,16 @@ joined_none (Err e) = refl
 
 -- no record yet
 pub no_rows : (bytes : List ℕ) (callers : ℕ) (a : Reader (Bor (List ℕ))) (read : List Row) → read ≡ []
-    → a.trim ≡ trim.None → Ready a → a.config ≡ default_config → a.state ≡ st.StartRecord → source_of known a ≡ Some (strip_bom bytes)
+    → a.trim ≡ trim.None → a.flexible ≡ true → Ready a → a.config ≡ default_config → a.state ≡ st.StartRecord
+    → source_of known a ≡ Some (strip_bom bytes)
     → IsReadSoFar bytes callers 1 a read
 unfolding rows
-no_rows bytes callers a read none trims ready config state source =
+no_rows bytes callers a read none trims flexible ready config state source =
     let records = rows_from callers 1 (records_left default_config st.StartRecord (strip_bom bytes)) in
     record {
       left = strip_bom bytes;
       trim = trims;
+      flexible = flexible;
       ready = ready;
       config = config;
       fresh = ap ends_at_end state;
@@ -78,13 +82,15 @@ no_rows bytes callers a read none trims ready config state source =
 
 -- one more record, which is a row
 pub next_row : (bytes : List ℕ) (callers number : ℕ) (a b : Reader (Bor (List ℕ))) (read : List Row) (fields : List (List ℕ)) (row : Row) → IsReadSoFar bytes callers number a read
-    → ReadRecord known a b true fields → took_first b ≡ true → Ok row ≡ row_of callers number fields → row.caller < callers → IsWellMade row.call → number < most_rows + 1
+    → ReadRecord known a b true fields → is_flexible b ≡ is_flexible a → took_first b ≡ true
+    → Ok row ≡ row_of callers number fields → row.caller < callers → IsWellMade row.call → number < most_rows + 1
     → IsReadSoFar bytes callers (number + 1) b (read ++ row ∷ [])
-next_row bytes callers number a b read fields row so_far record_b first is_row caller well_made few =
+next_row bytes callers number a b read fields row so_far record_b flexible first is_row caller well_made few =
     let (left, at_left, fresh, records) = record_read known a b fields default_config so_far.left so_far.config so_far.source so_far.fresh record_b in
     record {
       left = left;
       trim = record_b.3 ∙ so_far.trim;
+      flexible = flexible ∙ so_far.flexible;
       ready = inl first;
       config = record_b.2 ∙ so_far.config;
       fresh = fresh;

@@ -15,7 +15,7 @@ ghost use Rattle.op_text.specs.Faults.{IfBad};
 mod kind;
 mod numeral;
 
-use csv::{ByteRecord, ReaderBuilder};
+use csv::{ByteRecord, ErrorKind, ReaderBuilder};
 use graph_kinds::Row;
 use kind::CallKind;
 pub use numeral::numbers_are_decimal;
@@ -181,7 +181,11 @@ pub fn read_rows(alloc: Global, bytes: &[u8], callers: u32) -> Result<Vec<Row>, 
         match reader.read_byte_record(&mut record) {
             Ok(true) => {}
             Ok(false) => return Ok(read),
-            Err(_) => return Err(RowsFault::Memory),
+            Err(e) => match e.kind() {
+                ErrorKind::Io(_) | ErrorKind::OutOfMemory => return Err(RowsFault::Memory),
+                // Records may have any number of fields, and fields any bytes.
+                _ => unreachable!(),
+            },
         }
         match row_of_record(callers, number, &record) {
             Ok(row) => {

@@ -52,6 +52,16 @@ fn causes_come_in_their_order(rt: HostRuntime) {
         (b"0,add-vertex,x,2,\n".as_slice(), 1, RowCause::ExtraField),
         (b"0,add-edge,x,2,0\n".as_slice(), 1, RowCause::BadNumber),
         (
+            b"0,add-vertex,1,,\n0,add-vertex,2\n".as_slice(),
+            2,
+            RowCause::FieldCount,
+        ),
+        (
+            b"0,add-vertex,1,,\n0,add-vertex,2,,,\n".as_slice(),
+            2,
+            RowCause::FieldCount,
+        ),
+        (
             b"0,add-vertex,1,,\n0,fly,1,,\n0,x\n".as_slice(),
             2,
             RowCause::UnknownOp,

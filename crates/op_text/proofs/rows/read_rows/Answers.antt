@@ -10,7 +10,8 @@ loop-number-init c =
     let set = c.flexible.ensures in
     let named = c.has_headers.ensures in
     no_rows c.args.bytes.now c.args.callers c.from_reader-reader.result c.new-read.result.items c.new-read.ensures.items
-    (rw (set, named) at made.trim ∙ c.new.ensures.trim) (inr (inr (rw (set, named) at made.has_headers, made.headers)))
+    (rw (set, named) at made.trim ∙ c.new.ensures.trim)
+    (rw set at made.flexible) (inr (inr (rw (set, named) at made.has_headers, made.headers)))
     (rw (set, named) at made.config ∙ c.new.ensures.config) made.state made.source
 
 pub returns-in-Ok-false-clause-ok : goal.returns-in-Ok-false-clause-ok
@@ -35,7 +36,5 @@ loop-number-preserved c =
     let more = rw good at c.push.ensures.items in
     rw more (next_row c.args.bytes.now c.args.callers c.loop-number.number c.loop-number.reader c.read_byte_record.new.self c.loop-number.read.items
     (fields_of c.read_byte_record.new.row) c.in-Ok.row inv (rw c.in-Ok-true.field-0-test at (c.in-Ok-true.ensures.reads inv.trim inv.ready))
-    (c.in-Ok-true.ensures.ready inv.trim) c.in-Ok.ensures.row c.in-Ok.ensures.caller c.in-Ok.ensures.well_made (omega (arith, c.in-Ok.ensures.most, inv.few)))
-
-pub unreachable-requires : goal.unreachable-requires
-unreachable-requires c = omega (arith, c.loop-number.invariant.few)
+    (c.in-Ok-true.ensures.flexible) (c.in-Ok-true.ensures.ready inv.trim) c.in-Ok.ensures.row
+    c.in-Ok.ensures.caller c.in-Ok.ensures.well_made (omega (arith, c.in-Ok.ensures.most, inv.few)))
