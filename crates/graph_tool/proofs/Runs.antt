@@ -69,3 +69,8 @@ if_told P Q (Some bytes) p f = f bytes p
 -- where all was put, a first part was
 pub puts_all : (old mid new : Option (List ℕ)) (bytes : List ℕ) → Puts old mid bytes → new ≡ mid → PutsSome old new bytes
 puts_all old mid new bytes put same = (length bytes, omega arith, subst (λ (o : Option (List ℕ)). Puts old o (take (length bytes) bytes)) (sym same) (subst (Puts old mid) (sym (take-length bytes)) put))
+
+-- what was put for the answers of the rows in input order
+pub puts_replayed : (old new : Option (List ℕ)) (asked : List Row) (replies : List Answer) (graph : Graph) → replies ≡ answers empty_graph (calls_of asked) → graph ≡ after_all empty_graph (calls_of asked)
+    → Puts old new (text replies graph) → Puts old new (replayed asked)
+puts_replayed old new asked replies graph replies_are graph_is = subst (Puts old new) (λ i. text (replies_are i) (graph_is i))

@@ -11,7 +11,7 @@ ghost use Rattle.graph_kinds.specs.declared.call.Row.{Row};
 ghost use Rattle.op_text.specs.Rows.{rows};
 ghost use Rattle.graph_tool.specs.Command.{command_of};
 ghost use Rattle.graph_tool.specs.Input.{TakesAtMost, most_bytes};
-ghost use Rattle.graph_tool.specs.Run.{Asks, IsAccepted, IsRefused, callers};
+ghost use Rattle.graph_tool.specs.Run.{Asks, IsAccepted, IsRefused, callers, replayed};
 ghost use Rattle.graph_tool.specs.Status.{IfDone, IfUsage, IfBadRow, IfReadFault, IfWriteFault, UnlessMemory};
 ghost use Rattle.graph_tool.specs.Status.{UnlessWriting};
 ghost use Rattle.graph_tool.specs.declared.status.UsageCause.{UsageCause};
@@ -31,7 +31,8 @@ use std::thread::Threads;
 const CALLERS: u32 = 16;
 
 /// Runs the words on the source and writes to the sink. `run` and `replay` read the source to its end and
-/// write one line per row, in input order, and then the lines of the final graph. O(n log n) for n rows
+/// write one line per row, in input order, and then the lines of the final graph: both the answers of the rows in
+/// input order on the graph of one caller, until callers run on threads. O(n log n) for n rows
 /// that add, remove and look up, beside one look-up for each vertex at each removal of a vertex where edges
 /// are left, and O((vertices + edges) log vertices) for each row of `reach`, `levels` or `cheapest`.
 ///
@@ -49,6 +50,8 @@ pub fn graph_main<R: Threads + Sync, S: Source, K: Sink>(
 ) -> Status
     ensures done { IfDone result (IfSome (S.rest source.old) (λ bytes. (written : List ℕ)
         × Asks words.now bytes written × Puts (K.taken sink.old) (K.taken sink.new) written)) }
+    ensures in_order { IfDone result (IfSome (S.rest source.old) (λ bytes. (asked : List Row)
+        × (rows callers bytes ≡ Ok asked) × Puts (K.taken sink.old) (K.taken sink.new) (replayed asked))) }
     ensures end { IfDone result (S.ended source.new ≡ true) }
     ensures usage { IfUsage result (λ cause. (cause ≡ UsageCause.InputTooLong) ⊎ (command_of words.now ≡ Err cause)) }
     ensures refused { (cause : UsageCause) → command_of words.now ≡ Err cause → result ≡ Status.Usage cause }

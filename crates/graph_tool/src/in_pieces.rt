@@ -8,7 +8,7 @@ ghost use Rattle.op_text.specs.Rows.{rows};
 ghost use Rattle.op_text.specs.declared.rows.RowCause.{RowCause};
 ghost use Rattle.graph_tool.specs.Command.{command_of};
 ghost use Rattle.graph_tool.specs.Input.{most_bytes};
-ghost use Rattle.graph_tool.specs.Run.{Asks, IsAccepted, callers};
+ghost use Rattle.graph_tool.specs.Run.{Asks, IsAccepted, callers, replayed};
 ghost use Rattle.graph_tool.specs.Status.{IfDone, IfUsage, IfBadRow, IfReadFault, IfWriteFault, UnlessMemory};
 ghost use Rattle.graph_tool.specs.Status.{UnlessWriting};
 ghost use Rattle.graph_tool.specs.declared.status.UsageCause.{UsageCause};
@@ -35,6 +35,9 @@ pub fn graph_main_in_pieces<R: Threads + Sync, S: Source, K: Sink>(
 ) -> Status
     ensures done { IfDone result (IfSome (S.rest source.old) (λ bytes. (written : List ℕ)
         × Asks words.now bytes written × Puts (given K.taken sink.old) (K.taken (inner sink.new)) written)) }
+    ensures in_order { IfDone result (IfSome (S.rest source.old) (λ bytes. (asked : List Row)
+        × (rows callers bytes ≡ Ok asked)
+        × Puts (given K.taken sink.old) (K.taken (inner sink.new)) (replayed asked))) }
     ensures end { IfDone result (S.ended source.new ≡ true) }
     ensures usage { IfUsage result (λ cause. (cause ≡ UsageCause.InputTooLong) ⊎ (command_of words.now ≡ Err cause)) }
     ensures refused { (cause : UsageCause) → command_of words.now ≡ Err cause → result ≡ Status.Usage cause }

@@ -4,7 +4,7 @@ use Rattle.op_text.specs.Rows.{rows}
 use Rattle.op_text.specs.Text.{text}
 use Rattle.graph_tool.specs.Run.{callers}
 use Rattle.graph_tool.proofs.Inputs.{too_long_by}
-use Rattle.graph_tool.proofs.Runs.{all_shown, asks, not_too_long, if_told}
+use Rattle.graph_tool.proofs.Runs.{all_shown, asks, not_too_long, if_told, puts_replayed}
 use Rattle.graph_tool.proofs.graph_main.graph_main.Goals as goal
 
 pub returns-in-Err-rows_of-clause-too_long_only : goal.returns-in-Err-rows_of-clause-too_long_only
@@ -21,6 +21,15 @@ returns-in-Ok-write_results-clause-done g c =
       asks c.args.words.now bytes c.in_default.field-0 c.as_slice.result.now c.as_slice-2.result.now c.in-Ok-replay.replayed.1 (sym c.in_default.ensures)
           (read ∙ ap Ok (sym c.as_slice.ensures.value)) (c.as_slice-2.ensures.value ∙ c.in-Ok-replay.ensures.answers) c.in-Ok-replay.ensures.graph,
       c.in-Ok-write_results.ensures.ok,
+    ))
+
+pub returns-in-Ok-write_results-clause-in_order : goal.returns-in-Ok-write_results-clause-in_order
+returns-in-Ok-write_results-clause-in_order g c =
+    if_told (λ bytes. rows callers bytes ≡ Ok c.in-Ok.asked.items) _ (g.S.Source.rest c.args.source.now) c.in-Ok.ensures.ok
+    (λ bytes read. (
+      c.as_slice.result.now,
+      read ∙ ap Ok (sym c.as_slice.ensures.value),
+      puts_replayed _ _ c.as_slice.result.now c.as_slice-2.result.now c.in-Ok-replay.replayed.1 (c.as_slice-2.ensures.value ∙ c.in-Ok-replay.ensures.answers) c.in-Ok-replay.ensures.graph c.in-Ok-write_results.ensures.ok,
     ))
 
 pub returns-in-Ok-write_results-clause-too_long_only : goal.returns-in-Ok-write_results-clause-too_long_only
