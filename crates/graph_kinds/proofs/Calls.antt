@@ -11,7 +11,7 @@ use Rattle.graph_kinds.specs.declared.outcome.Outcome.{Outcome}
 use Rattle.graph_kinds.specs.declared.outcome.Outcome.TheVariants as out
 use Rattle.graph_kinds.specs.declared.answer.Answer.{Answer}
 use Rattle.graph_kinds.specs.Graph.{Graph, IsGraph, pair_cmp, empty_graph, has, weight_of, key_count, pair_count}
-use Rattle.graph_kinds.specs.Answer.{IsWellMade, answer, alters, needs_node, after, change, without, is_change, is_added, plain, by_weight, on_keys, by_path, by_levels, by_cost, answers, after_all}
+use Rattle.graph_kinds.specs.Answer.{IsWellMade, answer, alters, needs_node, after, change, without, is_change, is_added, plain, by_weight, on_keys, by_path, by_levels, by_cost, answers, after_all, there_with, is_new, grows}
 use Rattle.graph_kinds.specs.Levels.{reach_path, levels_of}
 use Rattle.graph_kinds.specs.Path.{least_cost, cheapest_path}
 use Rattle.graph_kinds.specs.History.{Item, Demand, LegalFrom, left_by, answered, calls_of, item_by}
@@ -41,6 +41,9 @@ plain_weight : (w : Option ℕ) (there : ℕ → Outcome) (gone : Outcome) → (
 plain_weight None there gone p q = q
 plain_weight (Some w) there gone p q = p w
 
+plain_there : (w x : ℕ) → IsPlain (there_with w x)
+plain_there w x = elim (x == w) as (λ t. IsPlain (cond t (out.Present x) (out.Changed x))) [ true ↦ tt | false ↦ tt ]
+
 plain_path : (p : Option (List ℕ)) → IsPlain (by_path p).outcome
 plain_path None = tt
 plain_path (Some p) = tt
@@ -58,7 +61,7 @@ unfolding answer
 answer-plain g (AddVertex k) = elim (has g k) as (λ b. IsPlain (cond b (out.Present 0) out.Added)) [ true ↦ tt | false ↦ tt ]
 answer-plain g (RemoveVertex k) = elim (has g k) as (λ b. IsPlain (cond b (out.Removed 0) out.Absent)) [ true ↦ tt | false ↦ tt ]
 answer-plain g (HasVertex k) = elim (has g k) as (λ b. IsPlain (cond b out.Yes out.No)) [ true ↦ tt | false ↦ tt ]
-answer-plain g (AddEdge a b w) = plain_keys g a b _ (plain_weight (weight_of g a b) out.Present out.Added (λ x. tt) tt)
+answer-plain g (AddEdge a b w) = plain_keys g a b _ (plain_weight (weight_of g a b) (there_with w) out.Added (plain_there w) tt)
 answer-plain g (RemoveEdge a b) = plain_keys g a b _ (plain_weight (weight_of g a b) out.Removed out.NoEdge (λ x. tt) tt)
 answer-plain g (HasEdge a b) = plain_keys g a b _ (plain_weight (weight_of g a b) out.Edge out.NoEdge (λ x. tt) tt)
 answer-plain g (Reach a b) = plain_keys g a b _ (plain_path (reach_path g a b))
@@ -209,26 +212,26 @@ after_valid g c made v = after_either IsGraph g c (λ e. by c made e) v
     by (Cheapest a b) made e = v
 
 -- an answer that adds is not one that removes, looks up or asks for a way
-no_add_weight : (g : Graph) (a b : ℕ) (there : ℕ → Outcome) (gone : Outcome) → ((w : ℕ) → is_added (there w) ≡ false) → is_added gone ≡ false → is_added (on_keys g a b (by_weight (weight_of g a b) there gone)).outcome ≡ false
+no_add_weight : (g : Graph) (a b : ℕ) (there : ℕ → Outcome) (gone : Outcome) → ((w : ℕ) → is_new (there w) ≡ false) → is_new gone ≡ false → is_new (on_keys g a b (by_weight (weight_of g a b) there gone)).outcome ≡ false
 no_add_weight g a b there gone p q = by (has g a && has g b) (weight_of g a b)
   where
-    by : (t : Bool) (w : Option ℕ) → is_added (cond t (by_weight w there gone) (plain out.NoVertex)).outcome ≡ false
+    by : (t : Bool) (w : Option ℕ) → is_new (cond t (by_weight w there gone) (plain out.NoVertex)).outcome ≡ false
     by false w = refl
     by true None = q
     by true (Some w) = p w
 
-added_there : (g : Graph) (a b : ℕ) → is_added (on_keys g a b (by_weight (weight_of g a b) out.Present out.Added)).outcome ≡ true → ((has g a && has g b) ≡ true) × (weight_of g a b ≡ None)
-added_there g a b e = by (has g a && has g b) (weight_of g a b) e
+added_there : (g : Graph) (a b u : ℕ) → is_new (on_keys g a b (by_weight (weight_of g a b) (there_with u) out.Added)).outcome ≡ true → ((has g a && has g b) ≡ true) × (weight_of g a b ≡ None)
+added_there g a b u e = by (has g a && has g b) (weight_of g a b) e
   where
-    by : (t : Bool) (w : Option ℕ) → is_added (cond t (by_weight w out.Present out.Added) (plain out.NoVertex)).outcome ≡ true → (t ≡ true) × (w ≡ None)
+    by : (t : Bool) (w : Option ℕ) → is_new (cond t (by_weight w (there_with u) out.Added) (plain out.NoVertex)).outcome ≡ true → (t ≡ true) × (w ≡ None)
     by false w e = absurd (true≢false (sym e))
     by true None e = (refl, refl)
-    by true (Some w) e = absurd (true≢false (sym e))
+    by true (Some w) e = absurd (elim (w == u) as (λ t. is_new (cond t (out.Present w) (out.Changed w)) ≡ true → ⊥) [ true ↦ λ f. true≢false (sym f) | false ↦ λ f. true≢false (sym f) ] e)
 
-fresh_key : (g : Graph) (k : ℕ) → is_added (cond (has g k) (out.Present 0) out.Added) ≡ true → has g k ≡ false
+fresh_key : (g : Graph) (k : ℕ) → is_new (cond (has g k) (out.Present 0) out.Added) ≡ true → has g k ≡ false
 fresh_key g k e = by (has g k) e
   where
-    by : (t : Bool) → is_added (cond t (out.Present 0) out.Added) ≡ true → t ≡ false
+    by : (t : Bool) → is_new (cond t (out.Present 0) out.Added) ≡ true → t ≡ false
     by true e = absurd (true≢false (sym e))
     by false e = refl
 
@@ -238,7 +241,16 @@ added_alters g c e = by (answer g c).outcome e
   where
     by : (o : Outcome) → is_added o ≡ true → is_change o ≡ true
     by out.Added e = refl
+    by (out.Changed w) e = refl
     by out.Overtaken e = absurd (true≢false (sym e))
+    by _ e = absurd (true≢false (sym e))
+
+new_alters : (g : Graph) (c : Call) → grows g c ≡ true → alters g c ≡ true
+unfolding grows alters
+new_alters g c e = by (answer g c).outcome e
+  where
+    by : (o : Outcome) → is_new o ≡ true → is_change o ≡ true
+    by out.Added e = refl
     by _ e = absurd (true≢false (sym e))
 
 key_more : (g : Graph) (k : ℕ) → has g k ≡ false → set.len (set.insert g.keys k) ≡ set.len g.keys + 1
@@ -247,23 +259,23 @@ key_more g k e = set.len-insert nat_cmp_total g.keys k ∙ ap (λ t. cond t (set
 pair_more : (g : Graph) (a b w : ℕ) → weight_of g a b ≡ None → map.len (map.insert g.pairs (a, b) w) ≡ map.len g.pairs + 1
 pair_more g a b w e = map.len-insert pair_total g.pairs (a, b) w ∙ ap (λ o. cond (is_some o) (map.len g.pairs) (map.len g.pairs + 1)) e
 
-pub one_more : (g : Graph) (c : Call) → needs_node g c ≡ true → key_count (after g c) + pair_count (after g c) ≡ key_count g + pair_count g + 1
-unfolding needs_node answer
-one_more g c e = subst (λ (h : Graph). key_count h + pair_count h ≡ key_count g + pair_count g + 1) (sym (after_change g c (added_alters g c e))) (by c e)
+pub one_more : (g : Graph) (c : Call) → grows g c ≡ true → key_count (after g c) + pair_count (after g c) ≡ key_count g + pair_count g + 1
+unfolding grows answer
+one_more g c e = subst (λ (h : Graph). key_count h + pair_count h ≡ key_count g + pair_count g + 1) (sym (after_change g c (new_alters g c e))) (by c e)
   where
-    no : (c : Call) → is_added (answer g c).outcome ≡ false → is_added (answer g c).outcome ≡ true → key_count (change g c) + pair_count (change g c) ≡ key_count g + pair_count g + 1
+    no : (c : Call) → is_new (answer g c).outcome ≡ false → is_new (answer g c).outcome ≡ true → key_count (change g c) + pair_count (change g c) ≡ key_count g + pair_count g + 1
     no c f t = absurd (true≢false (sym t ∙ f))
 
-    by : (c : Call) → needs_node g c ≡ true → key_count (change g c) + pair_count (change g c) ≡ key_count g + pair_count g + 1
+    by : (c : Call) → grows g c ≡ true → key_count (change g c) + pair_count (change g c) ≡ key_count g + pair_count g + 1
     by (AddVertex k) e = let h = key_more g k (fresh_key g k e) in omega arith
-    by (RemoveVertex k) e = no (RemoveVertex k) (elim (has g k) as (λ t. is_added (cond t (out.Removed 0) out.Absent) ≡ false) [ true ↦ refl | false ↦ refl ]) e
-    by (HasVertex k) e = no (HasVertex k) (elim (has g k) as (λ t. is_added (cond t out.Yes out.No) ≡ false) [ true ↦ refl | false ↦ refl ]) e
-    by (AddEdge a b w) e = let h = pair_more g a b w (added_there g a b e).1 in omega arith
+    by (RemoveVertex k) e = no (RemoveVertex k) (elim (has g k) as (λ t. is_new (cond t (out.Removed 0) out.Absent) ≡ false) [ true ↦ refl | false ↦ refl ]) e
+    by (HasVertex k) e = no (HasVertex k) (elim (has g k) as (λ t. is_new (cond t out.Yes out.No) ≡ false) [ true ↦ refl | false ↦ refl ]) e
+    by (AddEdge a b w) e = let h = pair_more g a b w (added_there g a b w e).1 in omega arith
     by (RemoveEdge a b) e = no (RemoveEdge a b) (no_add_weight g a b out.Removed out.NoEdge (λ w. refl) refl) e
     by (HasEdge a b) e = no (HasEdge a b) (no_add_weight g a b out.Edge out.NoEdge (λ w. refl) refl) e
-    by (Reach a b) e = no (Reach a b) (elim (has g a && has g b) as (λ t. is_added (cond t (by_path (reach_path g a b)) (plain out.NoVertex)).outcome ≡ false) [ true ↦ elim (reach_path g a b) as (λ p. is_added (by_path p).outcome ≡ false) [ None ↦ refl | Some p ↦ refl ] | false ↦ refl ]) e
-    by (Levels a) e = no (Levels a) (elim (has g a) as (λ t. is_added (cond t (by_levels (levels_of g a)) (plain out.NoVertex)).outcome ≡ false) [ true ↦ refl | false ↦ refl ]) e
-    by (Cheapest a b) e = no (Cheapest a b) (elim (has g a && has g b) as (λ t. is_added (cond t (by_cost (least_cost g a b) (cheapest_path g a b)) (plain out.NoVertex)).outcome ≡ false) [ true ↦ elim (least_cost g a b) as (λ c. is_added (by_cost c (cheapest_path g a b)).outcome ≡ false) [ None ↦ refl | Some c ↦ refl ] | false ↦ refl ]) e
+    by (Reach a b) e = no (Reach a b) (elim (has g a && has g b) as (λ t. is_new (cond t (by_path (reach_path g a b)) (plain out.NoVertex)).outcome ≡ false) [ true ↦ elim (reach_path g a b) as (λ p. is_new (by_path p).outcome ≡ false) [ None ↦ refl | Some p ↦ refl ] | false ↦ refl ]) e
+    by (Levels a) e = no (Levels a) (elim (has g a) as (λ t. is_new (cond t (by_levels (levels_of g a)) (plain out.NoVertex)).outcome ≡ false) [ true ↦ refl | false ↦ refl ]) e
+    by (Cheapest a b) e = no (Cheapest a b) (elim (has g a && has g b) as (λ t. is_new (cond t (by_cost (least_cost g a b) (cheapest_path g a b)) (plain out.NoVertex)).outcome ≡ false) [ true ↦ elim (least_cost g a b) as (λ c. is_new (by_cost c (cheapest_path g a b)).outcome ≡ false) [ None ↦ refl | Some c ↦ refl ] | false ↦ refl ]) e
 
 key_less : (g : Graph) (k : ℕ) → set.len (set.remove g.keys k) ≤ set.len g.keys
 key_less g k = let h = set.len-remove nat_cmp_total g.keys k in by (set.contains g.keys k) h
@@ -279,29 +291,37 @@ pair_less g a b = let h = map.len-remove pair_total g.pairs (a, b) in by (map.co
     by true h = omega arith
     by false h = omega arith
 
-pub none_more : (g : Graph) (c : Call) → needs_node g c ≡ false → key_count (after g c) + pair_count (after g c) ≤ key_count g + pair_count g
-unfolding needs_node alters answer
+pub none_more : (g : Graph) (c : Call) → grows g c ≡ false → key_count (after g c) + pair_count (after g c) ≤ key_count g + pair_count g
+unfolding grows alters answer
 none_more g c e = after_either (λ (h : Graph). key_count h + pair_count h ≤ key_count g + pair_count g) g c (by c e) (omega arith)
   where
-    adds : (o : Outcome) → is_added o ≡ false → is_change o ≡ true → ((w : ℕ) → o ≡ out.Removed w → ⊥) → ⊥
-    adds out.Added f t r = absurd (true≢false f)
-    adds (out.Removed w) f t r = r w refl
-    adds _ f t r = true≢false (sym t)
+    adds : (o : Outcome) → is_new o ≡ false → is_change o ≡ true → ((w : ℕ) → o ≡ out.Removed w → ⊥) → ((w : ℕ) → o ≡ out.Changed w → ⊥) → ⊥
+    adds out.Added f t r c = absurd (true≢false f)
+    adds (out.Removed w) f t r c = r w refl
+    adds (out.Changed w) f t r c = c w refl
+    adds _ f t r c = true≢false (sym t)
 
     vertex : (t : Bool) (w : ℕ) → cond t (out.Present 0) out.Added ≡ out.Removed w → ⊥
     vertex true w e = cc
     vertex false w e = cc
 
-    edge : (t : Bool) (o : Option ℕ) (w : ℕ) → (cond t (by_weight o out.Present out.Added) (plain out.NoVertex)).outcome ≡ out.Removed w → ⊥
-    edge true None w e = cc
-    edge true (Some x) w e = cc
-    edge false o w e = cc
+    unchanged : (t : Bool) (w : ℕ) → cond t (out.Present 0) out.Added ≡ out.Changed w → ⊥
+    unchanged true w e = cc
+    unchanged false w e = cc
 
-    by : (c : Call) → needs_node g c ≡ false → alters g c ≡ true → key_count (change g c) + pair_count (change g c) ≤ key_count g + pair_count g
-    by (AddVertex k) e a = absurd (adds (cond (has g k) (out.Present 0) out.Added) e a (vertex (has g k)))
+    edge : (t : Bool) (o : Option ℕ) (w : ℕ) → is_new (cond t (by_weight o (there_with w) out.Added) (plain out.NoVertex)).outcome ≡ false
+        → is_change (cond t (by_weight o (there_with w) out.Added) (plain out.NoVertex)).outcome ≡ true → is_some o ≡ true
+    edge true None w e a = absurd (true≢false e)
+    edge true (Some x) w e a = refl
+    edge false o w e a = absurd (true≢false (sym a))
+
+    by : (c : Call) → grows g c ≡ false → alters g c ≡ true → key_count (change g c) + pair_count (change g c) ≤ key_count g + pair_count g
+    by (AddVertex k) e a = absurd (adds (cond (has g k) (out.Present 0) out.Added) e a (vertex (has g k)) (unchanged (has g k)))
     by (RemoveVertex k) e a = let h = key_less g k in let i = len-retain_keys g.pairs (λ p. not (p.0 == k) && not (p.1 == k)) in omega arith
     by (HasVertex k) e a = omega arith
-    by (AddEdge c d w) e a = absurd (adds (on_keys g c d (by_weight (weight_of g c d) out.Present out.Added)).outcome e a (edge (has g c && has g d) (weight_of g c d)))
+    by (AddEdge c d w) e a =
+        let there = edge (has g c && has g d) (weight_of g c d) w e a in
+        let h = map.len-insert pair_total g.pairs (c, d) w ∙ ap (λ t. cond t (map.len g.pairs) (map.len g.pairs + 1)) there in omega arith
     by (RemoveEdge c d) e a = let h = pair_less g c d in omega arith
     by (HasEdge c d) e a = omega arith
     by (Reach c d) e a = omega arith

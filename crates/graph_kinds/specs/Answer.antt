@@ -53,12 +53,16 @@ abbrev pub by_cost : Option ℕ → List ℕ → Answer
 by_cost None p = plain out.NoPath
 by_cost (Some c) p = record { outcome = out.Cost c; keys = p; ends = [] }
 
+-- an edge that is to be added is there: Present where it has this weight, else Changed
+abbrev pub there_with : ℕ → ℕ → Outcome
+there_with w x = cond (x == w) (out.Present x) (out.Changed x)
+
 -- what a call answers on a graph
 unfoldable pub answer : Graph → Call → Answer
 answer g (AddVertex k) = plain (cond (has g k) (out.Present 0) out.Added)
 answer g (RemoveVertex k) = plain (cond (has g k) (out.Removed 0) out.Absent)
 answer g (HasVertex k) = plain (cond (has g k) out.Yes out.No)
-answer g (AddEdge a b w) = on_keys g a b (by_weight (weight_of g a b) out.Present out.Added)
+answer g (AddEdge a b w) = on_keys g a b (by_weight (weight_of g a b) (there_with w) out.Added)
 answer g (RemoveEdge a b) = on_keys g a b (by_weight (weight_of g a b) out.Removed out.NoEdge)
 answer g (HasEdge a b) = on_keys g a b (by_weight (weight_of g a b) out.Edge out.NoEdge)
 answer g (Reach a b) = on_keys g a b (by_path (reach_path g a b))
@@ -68,19 +72,30 @@ answer g (Cheapest a b) = on_keys g a b (by_cost (least_cost g a b) (cheapest_pa
 -- the outcome tells of a change: something was added or removed
 abbrev pub is_change : Outcome → Bool
 is_change out.Added = true
+is_change (out.Changed w) = true
 is_change (out.Removed w) = true
 is_change _ = false
 
 -- the outcome tells that something was added
 abbrev pub is_added : Outcome → Bool
 is_added out.Added = true
+is_added (out.Changed w) = true
 is_added _ = false
 
--- the call would change the graph: its outcome is Added or Removed
+-- the outcome tells that something new is there
+abbrev pub is_new : Outcome → Bool
+is_new out.Added = true
+is_new _ = false
+
+-- the call would make the graph larger: its outcome is Added
+unfoldable pub grows : Graph → Call → Bool
+grows g call = is_new (answer g call).outcome
+
+-- the call would change the graph: its outcome is Added, Changed or Removed
 unfoldable pub alters : Graph → Call → Bool
 alters g call = is_change (answer g call).outcome
 
--- the call would add to the graph: its outcome is Added
+-- the call would take a node: its outcome is Added or Changed
 unfoldable pub needs_node : Graph → Call → Bool
 needs_node g call = is_added (answer g call).outcome
 

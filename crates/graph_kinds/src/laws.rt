@@ -3,7 +3,7 @@
 ghost use Rattle.std.specs.Prelude.{◌≡◌, ℕ, ◌+◌, ◌≤◌, List, Some, None};
 ghost use Rattle.std.specs.Prelude.{true, false};
 ghost use Rattle.graph_kinds.specs.Graph.{Graph, IsGraph, empty_graph, has, weight_of, key_count, pair_count};
-ghost use Rattle.graph_kinds.specs.Answer.{IsWellMade, answer, alters, needs_node, after, after_all, answers};
+ghost use Rattle.graph_kinds.specs.Answer.{IsWellMade, answer, alters, needs_node, grows, after, after_all, answers};
 ghost use Rattle.graph_kinds.specs.History.{IsInterleaving, IsLegal, answered, calls_of};
 ghost use Rattle.graph_kinds.specs.declared.call.Call.{Call};
 ghost use Rattle.graph_kinds.specs.declared.call.Row.{Row};
@@ -27,9 +27,9 @@ pub fn calls_keep_graphs()
 pub fn calls_add_at_most_one()
     ensures stays { (g : Graph) (c : Call) → alters g c ≡ false → after g c ≡ g }
     ensures empty { key_count empty_graph + pair_count empty_graph ≡ 0 }
-    ensures one { (g : Graph) (c : Call) → needs_node g c ≡ true
+    ensures one { (g : Graph) (c : Call) → grows g c ≡ true
         → key_count (after g c) + pair_count (after g c) ≡ key_count g + pair_count g + 1 }
-    ensures none { (g : Graph) (c : Call) → needs_node g c ≡ false
+    ensures none { (g : Graph) (c : Call) → grows g c ≡ false
         → key_count (after g c) + pair_count (after g c) ≤ key_count g + pair_count g }
     ensures adds { (g : Graph) (c : Call) → needs_node g c ≡ true → alters g c ≡ true }
 {}

@@ -13,6 +13,8 @@ pub enum Outcome {
     Added,
     /// The vertex to be added is there, or the edge, with this weight.
     Present(u32),
+    /// The edge is there with another weight, this one, and got the new one.
+    Changed(u32),
     /// The vertex was removed, or the edge, which had this weight.
     Removed(u32),
     /// There is no such vertex to be removed.

@@ -1,5 +1,5 @@
 -- The level ends of an answer rise, and the last is the number of its keys.
-use Rattle.std.proofs.Common.{◌≡◌, ℕ, ◌+◌, ◌-◌, ◌<◌, true, false, cond, ◌&&◌, List, [], ◌∷◌, ◌++◌, length, get_or, Option, Some, None, refl, ap, arith, length-append, add-one}
+use Rattle.std.proofs.Common.{◌≡◌, ℕ, ◌+◌, ◌-◌, ◌<◌, ◌==◌, true, false, cond, ◌&&◌, List, [], ◌∷◌, ◌++◌, length, get_or, Option, Some, None, refl, ap, arith, length-append, add-one}
 use Rattle.std.specs.Prelude.{suc, zero}
 use Rattle.std.specs.List.{concat}
 use Rattle.graph_kinds.specs.declared.call.Call.{Call}
@@ -10,7 +10,7 @@ use Rattle.graph_kinds.specs.declared.answer.Answer.{Answer}
 use Rattle.graph_kinds.specs.Graph.{Graph, has, weight_of, key_count}
 use Rattle.graph_kinds.specs.Levels.{levels_from, levels_of, level_ends, level_after, reach_path}
 use Rattle.graph_kinds.specs.Path.{least_cost, cheapest_path}
-use Rattle.graph_kinds.specs.Answer.{answer, plain, by_weight, on_keys, by_path, by_levels, by_cost}
+use Rattle.graph_kinds.specs.Answer.{answer, plain, by_weight, on_keys, by_path, by_levels, by_cost, there_with}
 use Rattle.op_text.specs.Text.{AreEnds, IsShown}
 
 -- no level is empty
@@ -67,12 +67,15 @@ weighed : (w : Option ℕ) (there : ℕ → Outcome) (gone : Outcome) → ((x : 
 weighed None there gone p q = q
 weighed (Some w) there gone p q = p w
 
+there_shown : (w x : ℕ) → Shown (plain (there_with w x))
+there_shown w x = elim (x == w) as (λ t. Shown (plain (cond t (out.Present x) (out.Changed x)))) [ true ↦ tt | false ↦ tt ]
+
 pub answer-shown : (g : Graph) (c : Call) → Shown (answer g c)
 unfolding answer
 answer-shown g (AddVertex k) = elim (has g k) as (λ b. Shown (plain (cond b (out.Present 0) out.Added))) [ true ↦ tt | false ↦ tt ]
 answer-shown g (RemoveVertex k) = elim (has g k) as (λ b. Shown (plain (cond b (out.Removed 0) out.Absent))) [ true ↦ tt | false ↦ tt ]
 answer-shown g (HasVertex k) = elim (has g k) as (λ b. Shown (plain (cond b out.Yes out.No))) [ true ↦ tt | false ↦ tt ]
-answer-shown g (AddEdge a b w) = on_both g a b _ (weighed (weight_of g a b) out.Present out.Added (λ x. tt) tt)
+answer-shown g (AddEdge a b w) = on_both g a b _ (weighed (weight_of g a b) (there_with w) out.Added (there_shown w) tt)
 answer-shown g (RemoveEdge a b) = on_both g a b _ (weighed (weight_of g a b) out.Removed out.NoEdge (λ x. tt) tt)
 answer-shown g (HasEdge a b) = on_both g a b _ (weighed (weight_of g a b) out.Edge out.NoEdge (λ x. tt) tt)
 answer-shown g (Reach a b) = on_both g a b _ (elim (reach_path g a b) as (λ p. Shown (by_path p)) [ None ↦ tt | Some p ↦ tt ])

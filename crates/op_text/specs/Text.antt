@@ -5,8 +5,8 @@ use Rattle.std.specs.Fmt.{decimal}
 use Rattle.std.specs.List.Sorted.{IsStrictlyIncreasing}
 use Rattle.std.specs.FinMap as map
 use Rattle.graph_kinds.specs.declared.outcome.Outcome.{Outcome}
-use Rattle.graph_kinds.specs.declared.outcome.Outcome.TheVariants.{Added, Present, Removed, Absent, Yes, No, Edge}
-use Rattle.graph_kinds.specs.declared.outcome.Outcome.TheVariants.{NoVertex, NoEdge, Path, Cost, NoPath, Levels}
+use Rattle.graph_kinds.specs.declared.outcome.Outcome.TheVariants.{Added, Present, Changed, Removed, Absent, Yes, No}
+use Rattle.graph_kinds.specs.declared.outcome.Outcome.TheVariants.{Edge, NoVertex, NoEdge, Path, Cost, NoPath, Levels}
 use Rattle.graph_kinds.specs.declared.outcome.Outcome.TheVariants.{Overtaken, Full, Again, Worn}
 use Rattle.graph_kinds.specs.declared.answer.Answer.{Answer}
 use Rattle.graph_kinds.specs.Graph.{Graph, sorted_keys}
@@ -38,6 +38,7 @@ with_weight word w = cond (w == 0) word (word ++ (32 ∷ decimal w))
 abbrev pub outcome_text : Outcome → List ℕ → List ℕ → List ℕ
 outcome_text Added keys ends = codes "added"
 outcome_text (Present w) keys ends = with_weight (codes "present") w
+outcome_text (Changed w) keys ends = codes "changed " ++ decimal w
 outcome_text (Removed w) keys ends = with_weight (codes "removed") w
 outcome_text Absent keys ends = codes "absent"
 outcome_text Yes keys ends = codes "yes"

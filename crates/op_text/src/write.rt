@@ -65,11 +65,12 @@ fn give_outcome<K: Sink>(
     match outcome {
         Outcome::Added => give_text(sink, b"added"),
         Outcome::Present(weight) => give_weighted(sink, b"present", weight),
+        Outcome::Changed(weight) => give_numbered(sink, b"changed ", weight),
         Outcome::Removed(weight) => give_weighted(sink, b"removed", weight),
         Outcome::Absent => give_text(sink, b"absent"),
         Outcome::Yes => give_text(sink, b"yes"),
         Outcome::No => give_text(sink, b"no"),
-        Outcome::Edge(weight) => give_edge(sink, weight),
+        Outcome::Edge(weight) => give_numbered(sink, b"edge ", weight),
         Outcome::NoVertex => give_text(sink, b"no vertex"),
         Outcome::NoEdge => give_text(sink, b"no edge"),
         Outcome::Path => give_path(sink, keys),
@@ -140,11 +141,11 @@ fn give_weighted<K: Sink>(sink: &mut K, word: &[u8], weight: u32) -> Result<(), 
     give_spaced(sink, weight as u64)
 }
 
-/// The answer with an edge's weight.
-fn give_edge<K: Sink>(sink: &mut K, weight: u32) -> Result<(), WriteFailed>
-    ensures { Gives K.taken K.faults sink.old sink.new (codes "edge " ++ decimal weight) result }
+/// The word, which ends with a space, and the weight after it.
+fn give_numbered<K: Sink>(sink: &mut K, word: &[u8], weight: u32) -> Result<(), WriteFailed>
+    ensures { Gives K.taken K.faults sink.old sink.new (word.now ++ decimal weight) result }
 {
-    give_text(sink, b"edge ")?;
+    give_text(sink, word)?;
     give_number(sink, weight as u64)
 }
 

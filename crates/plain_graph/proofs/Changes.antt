@@ -6,7 +6,7 @@ use Rattle.std.specs.FinSet as finite_set
 use Rattle.graph_kinds.specs.declared.call.Call.{Call}
 use Rattle.graph_kinds.specs.declared.call.Call.TheVariants.{AddVertex, AddEdge, RemoveEdge}
 use Rattle.graph_kinds.specs.Graph.{Graph, has, weight_of, key_count, pair_count, IsGraph}
-use Rattle.graph_kinds.specs.Answer.{needs_node, after, change, without}
+use Rattle.graph_kinds.specs.Answer.{grows, after, change, without}
 use Rattle.graph_kinds.proofs.Graphs.{pair_total, same_graph, has_put, has_cut, weight_put, weight_cut, weight_kept, len-retain_keys}
 use Rattle.graph_kinds.proofs.Calls.{none_more as none_added, one_more as one_added}
 
@@ -132,8 +132,8 @@ count-cut_edge g a b = omega (arith, finite_map.len-remove pair_total g.pairs (a
 
 -- a call adds at most one vertex or edge
 pub count-after : (g : Graph) (c : Call) → count_of (after g c) ≤ count_of g + 1
-count-after g c = by (needs_node g c) refl
+count-after g c = by (grows g c) refl
   where
-    by : (t : Bool) → needs_node g c ≡ t → count_of (after g c) ≤ count_of g + 1
+    by : (t : Bool) → grows g c ≡ t → count_of (after g c) ≤ count_of g + 1
     by true e = omega (arith, one_added g c e)
     by false e = omega (arith, none_added g c e)

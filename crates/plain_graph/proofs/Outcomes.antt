@@ -1,5 +1,5 @@
 -- What is answered to each call, by look-ups, and what then stands after it.
-use Rattle.std.proofs.Common.{◌≡◌, ℕ, ◌<◌, ◌&&◌, Bool, true, false, cond, Option, Some, None, List, Result, Ok, Err, refl, sym, ap, subst}
+use Rattle.std.proofs.Common.{◌≡◌, ◌≢◌, ℕ, ◌<◌, ◌==◌, ◌&&◌, Bool, true, false, cond, Option, Some, None, List, Result, Ok, Err, refl, sym, ap, subst, eq-eqb, eqb-true}
 use Rattle.std.specs.Prelude.{IfOk, OnOk}
 use Rattle.graph_kinds.specs.declared.call.Call.{Call}
 use Rattle.graph_kinds.specs.declared.call.Call.TheVariants.{AddVertex, RemoveVertex, HasVertex, AddEdge, RemoveEdge, HasEdge, Reach, Levels, Cheapest}
@@ -9,7 +9,7 @@ use Rattle.graph_kinds.specs.Graph.{Graph, has, weight_of}
 use Rattle.graph_kinds.specs.Levels.{levels_of, reach_path}
 use Rattle.graph_kinds.specs.Path.{least_cost, cheapest_path}
 use Rattle.graph_kinds.specs.declared.answer.Answer.{Answer}
-use Rattle.graph_kinds.specs.Answer.{answer, alters, after, change, plain, on_keys, by_weight, by_path, by_levels, by_cost, is_change}
+use Rattle.graph_kinds.specs.Answer.{answer, alters, after, change, plain, on_keys, by_weight, by_path, by_levels, by_cost, is_change, there_with}
 use Rattle.plain_graph.specs.Calls.{CostIsBelow}
 
 -- by the outcome, the graph is changed or stays
@@ -68,9 +68,9 @@ module _ (g : Graph) (a b : ℕ) (t : Bool) (x : Option ℕ) (both : (has g a &&
   on_pair : (there : ℕ → Outcome) (gone : Outcome) → cond t (by_weight x there gone) (plain out.NoVertex) ≡ on_keys g a b (by_weight (weight_of g a b) there gone)
   on_pair there gone = λ i. cond (sym both i) (by_weight (sym weight i) there gone) (plain out.NoVertex)
 
-  pub answer_add_edge : (w : ℕ) → cond t (by_weight x out.Present out.Added) (plain out.NoVertex) ≡ answer g (AddEdge a b w)
+  pub answer_add_edge : (w : ℕ) → cond t (by_weight x (there_with w) out.Added) (plain out.NoVertex) ≡ answer g (AddEdge a b w)
   unfolding answer
-  answer_add_edge w = on_pair out.Present out.Added
+  answer_add_edge w = on_pair (there_with w) out.Added
 
   pub answer_remove_edge : cond t (by_weight x out.Removed out.NoEdge) (plain out.NoVertex) ≡ answer g (RemoveEdge a b)
   unfolding answer
@@ -79,6 +79,17 @@ module _ (g : Graph) (a b : ℕ) (t : Bool) (x : Option ℕ) (both : (has g a &&
   pub answer_has_edge : cond t (by_weight x out.Edge out.NoEdge) (plain out.NoVertex) ≡ answer g (HasEdge a b)
   unfolding answer
   answer_has_edge = on_pair out.Edge out.NoEdge
+
+-- an edge that is there, by its weight
+pub there_present : (w x : ℕ) → x ≡ w → plain (out.Present x) ≡ plain (there_with w x)
+there_present w x e = ap (λ t. plain (cond t (out.Present x) (out.Changed x))) (sym (eq-eqb x w e))
+
+pub there_changed : (w x : ℕ) → x ≢ w → plain (out.Changed x) ≡ plain (there_with w x)
+there_changed w x e = by (x == w) refl
+  where
+    by : (t : Bool) → (x == w) ≡ t → plain (out.Changed x) ≡ plain (cond t (out.Present x) (out.Changed x))
+    by true same = absurd (e (eqb-true x w same))
+    by false same = refl
 
 -- only a cheapest path has a cost
 module _ (limit : ℕ) where
@@ -111,7 +122,7 @@ module _ (limit : ℕ) where
   update_below g (AddVertex k) reach levels cheapest = plain_either (has g k) (out.Present 0) out.Added tt tt
   update_below g (RemoveVertex k) reach levels cheapest = plain_either (has g k) (out.Removed 0) out.Absent tt tt
   update_below g (HasVertex k) reach levels cheapest = plain_either (has g k) out.Yes out.No tt tt
-  update_below g (AddEdge a b w) reach levels cheapest = either (has g a && has g b) (by_weight (weight_of g a b) out.Present out.Added) (plain out.NoVertex) (weighted (weight_of g a b) out.Present out.Added (λ _. tt) tt) tt
+  update_below g (AddEdge a b w) reach levels cheapest = either (has g a && has g b) (by_weight (weight_of g a b) (there_with w) out.Added) (plain out.NoVertex) (weighted (weight_of g a b) (there_with w) out.Added (λ x. plain_either (x == w) (out.Present x) (out.Changed x) tt tt) tt) tt
   update_below g (RemoveEdge a b) reach levels cheapest = either (has g a && has g b) (by_weight (weight_of g a b) out.Removed out.NoEdge) (plain out.NoVertex) (weighted (weight_of g a b) out.Removed out.NoEdge (λ _. tt) tt) tt
   update_below g (HasEdge a b) reach levels cheapest = either (has g a && has g b) (by_weight (weight_of g a b) out.Edge out.NoEdge) (plain out.NoVertex) (weighted (weight_of g a b) out.Edge out.NoEdge (λ _. tt) tt) tt
   update_below g (Reach a b) reach levels cheapest = absurd (reach a b refl)

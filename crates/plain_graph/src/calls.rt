@@ -143,7 +143,11 @@ impl PlainGraph {
             return Ok(Outcome::NoVertex);
         }
         if let Some(present) = self.weight(from, to) {
-            return Ok(Outcome::Present(present));
+            if present == weight {
+                return Ok(Outcome::Present(present));
+            }
+            self.put_edge(from, to, weight)?;
+            return Ok(Outcome::Changed(present));
         }
         self.put_edge(from, to, weight)?;
         Ok(Outcome::Added)

@@ -129,8 +129,9 @@ fn a_vertex_that_comes_back_has_no_edges(rt: HostRuntime) -> Result<(), Fail> {
             (has_edge(2, 3), Outcome::NoEdge),
             (add_edge(1, 2, 8), Outcome::Added),
             (has_edge(1, 2), Outcome::Edge(8)),
-            (add_edge(1, 2, 9), Outcome::Present(8)),
-            (remove_edge(1, 2), Outcome::Removed(8)),
+            (add_edge(1, 2, 9), Outcome::Changed(8)),
+            (add_edge(1, 2, 9), Outcome::Present(9)),
+            (remove_edge(1, 2), Outcome::Removed(9)),
             (remove_edge(1, 2), Outcome::NoEdge),
         ],
     )?;

@@ -27,6 +27,7 @@ fn each_outcome_has_its_line(rt: HostRuntime) -> Result<(), Fail> {
     shows(&rt, Outcome::Added, &[], &[], "added\n")?;
     shows(&rt, Outcome::Present(0), &[], &[], "present\n")?;
     shows(&rt, Outcome::Present(7), &[], &[], "present 7\n")?;
+    shows(&rt, Outcome::Changed(5), &[], &[], "changed 5\n")?;
     shows(&rt, Outcome::Removed(0), &[], &[], "removed\n")?;
     shows(
         &rt,
