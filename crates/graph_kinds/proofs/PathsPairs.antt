@@ -28,14 +28,14 @@ Rises [] = Unit {0}
 Rises (y ∷ ys) = ((z : ℕ) → In z ys → y < z) × Rises ys
 
 -- so each is below the next
-rises_next : (xs : List ℕ) → Rises xs → IsStrictlyIncreasing xs
+pub rises_next : (xs : List ℕ) → Rises xs → IsStrictlyIncreasing xs
 rises_next [] r k h = absurd (omega arith)
 rises_next (x ∷ []) r k h = absurd (omega arith)
 rises_next (x ∷ y ∷ ys) r zero h = r.0 y (inl refl)
 rises_next (x ∷ y ∷ ys) r (suc k) h = let e : suc k + 1 ≡ suc (k + 1) = omega arith in rw e (rises_next (y ∷ ys) r.1 k (omega arith))
 
 -- the two ways to say that a test is true
-bool_true : (b : Bool) → T b → b ≡ true
+pub bool_true : (b : Bool) → T b → b ≡ true
 bool_true true h = refl
 bool_true false h = absurd h
 

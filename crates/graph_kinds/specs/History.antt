@@ -71,6 +71,14 @@ pub record IsOvertaken (g : Graph) (caller : ℕ) (call : Call) (later : List It
   pub there : has g key ≡ true
   pub done : Removes removal.reply
 
+-- an item overtakes one on an edge: it's another caller's, and removes a key of that edge
+pub record Overtakes (removal i : Item) : Type 0 where
+  pub other : removal.caller ≢ i.caller
+  pub key : ℕ
+  pub removes : removal.call ≡ RemoveVertex key
+  pub touched : Touches i.call key
+  pub done : Removes removal.reply
+
 -- what an answer demands of the graph before its item, by its outcome
 abbrev pub Demand : Outcome → Answer → Graph → Item → List Item → Type 0
 Demand Again r g i later = Unit {0}

@@ -6,3 +6,4 @@ pub mod Part
 pub mod Worked
 pub mod Answer
 pub mod History
+pub mod InMemory

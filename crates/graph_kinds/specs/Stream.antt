@@ -18,6 +18,10 @@ Takes (Some old) new bytes = (rest : List ℕ) × (old ≡ bytes ++ rest) × (ne
 abbrev pub TakesMany : Option (List ℕ) → Option (List ℕ) → ℕ → Type 0
 TakesMany old new n = (bytes : List ℕ) × (length bytes ≡ n) × Takes old new bytes
 
+-- where the bytes left are told: more than so many came from their front
+abbrev pub TakesMore : Option (List ℕ) → Option (List ℕ) → ℕ → Type 0
+TakesMore old new n = (bytes : List ℕ) × (n < length bytes) × Takes old new bytes
+
 -- where the bytes taken are told: these came behind them
 abbrev pub Puts : Option (List ℕ) → Option (List ℕ) → List ℕ → Type 0
 Puts None new bytes = new ≡ None

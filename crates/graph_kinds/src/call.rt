@@ -31,3 +31,22 @@ pub struct Row {
     pub caller: u32,
     pub call: Call,
 }
+
+#[cfg(test)]
+mod tests {
+    use super::*;
+
+    // What may be handed to another thread, and read by several at once.
+    fn crosses_threads<T: Send + Sync>(value: T) -> T {
+        value
+    }
+
+    #[test]
+    fn a_row_is_send_and_sync(rt: HostRuntime) {
+        let row = Row {
+            caller: 3,
+            call: Call::AddVertex { key: 7 },
+        };
+        assert_eq!(rt; crosses_threads(row), row);
+    }
+}

@@ -1,10 +1,15 @@
 //! Laws on the definitions: each is a function that does nothing, and its contract is the law.
 
-ghost use Rattle.std.specs.Prelude.{◌≡◌, ℕ, ◌+◌, ◌≤◌, List, Some, None};
+ghost use Rattle.std.specs.Prelude.{◌≡◌, ℕ, ◌+◌, ◌≤◌, List, ◌∷◌, ◌++◌, Some, None};
 ghost use Rattle.std.specs.Prelude.{true, false};
+ghost use Rattle.std.specs.List.Sorted.{IsStrictlyIncreasing};
 ghost use Rattle.graph_kinds.specs.Graph.{Graph, IsGraph, empty_graph, has, weight_of, key_count, pair_count};
+ghost use Rattle.graph_kinds.specs.Graph.{sorted_keys};
+ghost use Rattle.graph_kinds.specs.Levels.{stands_in};
 ghost use Rattle.graph_kinds.specs.Answer.{IsWellMade, answer, alters, needs_node, grows, after, after_all, answers};
-ghost use Rattle.graph_kinds.specs.History.{IsInterleaving, IsLegal, answered, calls_of};
+ghost use Rattle.graph_kinds.specs.History.{IsInterleaving, IsLegal, answered, calls_of, Item, Every, Overtakes};
+ghost use Rattle.graph_kinds.specs.declared.answer.Answer.{Answer};
+ghost use Rattle.graph_kinds.specs.declared.outcome.Outcome.{Outcome};
 ghost use Rattle.graph_kinds.specs.declared.call.Call.{Call};
 ghost use Rattle.graph_kinds.specs.declared.call.Row.{Row};
 
@@ -41,4 +46,22 @@ pub fn replays_are_legal()
         IsInterleaving rows replies (answered rows replies) }
     ensures legal { (rows : List Row) → let replies = answers empty_graph (calls_of rows) in
         IsLegal (answered rows replies) (after_all empty_graph (calls_of rows)) }
+{}
+
+/// The sorted keys of a graph rise strictly, and are exactly its keys.
+pub fn sorted_keys_are_the_keys()
+    ensures rising { (g : Graph) → IsStrictlyIncreasing (sorted_keys g) }
+    ensures exact { (g : Graph) (k : ℕ) → stands_in (sorted_keys g) k ≡ has g k }
+{}
+
+/// A history in which an item is answered Overtaken isn't legal where no later item overtakes it, nor where one does
+/// so only behind the next item of its caller.
+pub fn overtaken_items_need_a_removal()
+    ensures without { (before later : List Item) (i : Item) (r : Answer) (last : Graph) → i.reply ≡ Some r
+        → r.outcome ≡ Outcome.Overtaken → Every (λ j. ¬ (Overtakes j i)) later
+        → ¬ (IsLegal (before ++ i ∷ later) last) }
+    ensures in_time { (before between beyond : List Item) (i next : Item) (r : Answer) (last : Graph)
+        → i.reply ≡ Some r → r.outcome ≡ Outcome.Overtaken → next.caller ≡ i.caller
+        → Every (λ j. ¬ (Overtakes j i)) between
+        → ¬ (IsLegal (before ++ i ∷ (between ++ next ∷ beyond)) last) }
 {}

@@ -16,7 +16,8 @@ pub use answer::{Answer, Keys, Memory};
 pub use call::{Call, Row};
 pub use entry::{Class, Entry};
 pub use laws::{
-    calls_add_at_most_one, calls_keep_graphs, graphs_are_extensional, replays_are_legal,
+    calls_add_at_most_one, calls_keep_graphs, graphs_are_extensional,
+    overtaken_items_need_a_removal, replays_are_legal, sorted_keys_are_the_keys,
 };
 pub use mem_sink::MemSink;
 pub use mem_source::MemSource;

@@ -1,6 +1,8 @@
 //! A sink into memory, whose writes can be made small and made to fail: for tests and for the top call's rows.
 
-ghost use Rattle.std.specs.Prelude.{◌≡◌, ◌≤◌, ◌<◌, [], Some, IfOk, vec_len};
+ghost use Rattle.std.specs.Prelude.{◌≡◌, ◌+◌, ◌≤◌, ◌<◌, ◌⊎◌, true, [], Some, IfOk, vec_len, vec_capacity, length};
+ghost use Rattle.std.specs.Prelude.{take, min};
+ghost use Rattle.graph_kinds.specs.Stream.{Rose, Puts, IfTook, IfWriteFailed};
 
 use crate::answer::Memory;
 use crate::sink::{Sink, WriteAnswer};
@@ -17,9 +19,12 @@ pub struct MemSink {
     faults: u64,
     ghost some: { 0 < piece },
     ghost fits: { vec_len bytes ≤ room },
+    ghost enough: { room ≤ vec_capacity bytes },
 }
 
 impl MemSink {
+    ghost use Rattle.graph_kinds.specs.InMemory.{sink_setup, writes, room_left};
+
     /// A sink with room for `room` bytes, which it takes at once, and at most `piece` of them a write.
     /// The writes whose numbers, counted from 1, stand in `failing` fail, and so does each write once
     /// the room is used up. A write costs O(bytes of the piece + length of `failing`).
@@ -28,6 +33,9 @@ impl MemSink {
     /// `Memory` where there is no memory for the room.
     pub fn new(alloc: Global, room: u32, piece: u32, failing: Vec<u32>) -> Result<Self, Memory>
         requires { 0 < piece }
+        ensures setup { IfOk result (λ k. sink_setup k ≡ record { piece = piece; failing = failing.items }) }
+        ensures none_yet { IfOk result (λ k. writes k ≡ 0) }
+        ensures room { IfOk result (λ k. room_left k ≡ room) }
         ensures taken { IfOk result (λ k. ⟦<MemSink as Sink>⟧.taken k ≡ Some []) }
         ensures faults { IfOk result (λ k. ⟦<MemSink as Sink>⟧.faults k ≡ 0) }
     {
@@ -60,11 +68,36 @@ impl MemSink {
 }
 
 impl Sink for MemSink {
-    ghost taken = { λ s. Some s.bytes.items };
+    ghost use Rattle.graph_kinds.specs.InMemory.{sink_setup, writes, write_faults, bytes_taken, room_left};
+    ghost use Rattle.graph_kinds.specs.InMemory.{next_call, fails_next};
 
-    ghost faults = { λ s. s.faults };
+    ghost taken = { λ s. Some (bytes_taken s) };
 
-    fn write(&mut self, from: &[u8]) -> WriteAnswer {
+    ghost faults = { write_faults };
+
+    // The clauses of the trait, and then what is said of this sink alone: a write fails exactly where its number is
+    // listed or no room is left, and one that took bytes took as many as a piece, the text and the room allow. So
+    // with an empty list none fails while there is room, and the count of faults stays. It never wants for memory.
+    fn write(&mut self, from: &[u8]) -> WriteAnswer
+        requires { 0 < length from.now }
+        ensures some { IfTook result (λ n. (0 < n) × (n ≤ length from.now)) }
+        ensures took { IfTook result (λ n. Puts (Some (bytes_taken self.old)) (Some (bytes_taken self.new))
+            (take n from.now)) }
+        ensures failed { IfWriteFailed result (Puts (Some (bytes_taken self.old)) (Some (bytes_taken self.new)) []) }
+        ensures rose { IfWriteFailed result (Rose (write_faults self.old) (write_faults self.new)) }
+        ensures faults { write_faults self.old ≤ write_faults self.new }
+        ensures piece { IfTook result (λ n. n ≡ min (min (room_left self.old) (length from.now))
+            (sink_setup self.old).piece) }
+        ensures listed { IfWriteFailed result ((room_left self.old ≡ 0)
+            ⊎ (fails_next (sink_setup self.old) (writes self.old) ≡ true)) }
+        ensures full { room_left self.old ≡ 0 → result ≡ WriteAnswer.Failed }
+        ensures fails { fails_next (sink_setup self.old) (writes self.old) ≡ true → result ≡ WriteAnswer.Failed }
+        ensures counted { writes self.new ≡ next_call (writes self.old) }
+        ensures never { (sink_setup self.old).failing ≡ [] → 0 < room_left self.old
+            → write_faults self.new ≡ write_faults self.old }
+        ensures setup { sink_setup self.new ≡ sink_setup self.old }
+        ensures room { IfTook result (λ n. room_left self.new + n ≡ room_left self.old) }
+    {
         self.writes = self.writes.saturating_add(1);
         let left = self.room as usize - self.bytes.len();
         if left == 0 || self.failing.contains(&self.writes) {
@@ -72,11 +105,11 @@ impl Sink for MemSink {
             return WriteAnswer::Failed;
         }
         let n = left.min(from.len()).min(self.piece as usize);
-        if self.bytes.extend_from_slice(&from[..n]).is_err() {
-            self.faults = self.faults.saturating_add(1);
-            return WriteAnswer::Failed;
+        match self.bytes.extend_from_slice(&from[..n]) {
+            Ok(()) => WriteAnswer::Took(n as u32),
+            // The room was taken at the start.
+            Err(_) => unreachable!(),
         }
-        WriteAnswer::Took(n as u32)
     }
 }
 
