@@ -9,16 +9,22 @@ use Rattle.graph_kinds.specs.declared.answer.Answer.{Answer}
 use Rattle.graph_kinds.specs.Graph.{Graph, empty_graph}
 use Rattle.graph_kinds.specs.Answer.{after, answers, after_all}
 use Rattle.graph_kinds.specs.History.{answered, calls_of}
-use Rattle.graph_kinds.specs.Stream.{Puts, PutsSome, TakesMany}
+use Rattle.graph_kinds.specs.Stream.{Puts, PutsSome, TakesMore}
 use Rattle.graph_kinds.proofs.Calls.{replay_legal, length-answers}
 use Rattle.op_text.specs.Text.{IsShown, text}
 use Rattle.op_text.specs.Rows.{rows}
 use Rattle.op_text.proofs.Shown.{answer-shown}
 use Rattle.std.specs.declared.string.String.{String}
 use Rattle.std.proofs.Common.{Global}
+use Rattle.op_text.specs.Pieces.{IsFirstPart, behind}
+use Rattle.op_text.proofs.TextPieces.{first-part}
+use Rattle.graph_tool.specs.Status.{IfWriteFault}
 use Rattle.graph_tool.specs.Command.{command_of}
 use Rattle.graph_tool.specs.Input.{TakesAtMost, most_bytes}
 use Rattle.graph_tool.specs.Run.{Asks, Writes, replayed, callers}
+use Rattle.graph_tool.specs.declared.status.Status.{Status}
+use Rattle.graph_tool.specs.declared.status.Status.TheVariants.{Done, Usage, BadRow, ReadFault, WriteFault, Memory}
+use Rattle.graph_tool.specs.declared.status.UsageCause.TheVariants.{InputTooLong}
 use Rattle.graph_tool.specs.declared.command.Command.{Command}
 use Rattle.graph_tool.specs.declared.command.Command.TheVariants.{Run, Replay}
 use Rattle.graph_tool.proofs.Inputs.{too_many}
@@ -56,8 +62,8 @@ asks words bytes command asked replies graph accepted read replies_are graph_is 
   text_is = subst (λ (t : List ℕ). Writes command asked t) (sym (λ i. text (replies_are i) (graph_is i))) (writes command asked);
 }
 
--- where at most the limit was taken, not one byte more was
-pub not_too_long : (old new : Option (List ℕ)) (P : Type 0) → TakesAtMost old new most_bytes → IfSome old (λ bytes. TakesMany (Some bytes) new (most_bytes + 1) → P)
+-- where at most the limit was taken, not more was
+pub not_too_long : (old new : Option (List ℕ)) (P : Type 0) → TakesAtMost old new most_bytes → IfSome old (λ bytes. TakesMore (Some bytes) new most_bytes → P)
 not_too_long None new P few = tt
 not_too_long (Some old) new P few = λ many. absurd (too_many old new many few)
 
@@ -74,3 +80,20 @@ puts_all old mid new bytes put same = (length bytes, omega arith, subst (λ (o :
 pub puts_replayed : (old new : Option (List ℕ)) (asked : List Row) (replies : List Answer) (graph : Graph) → replies ≡ answers empty_graph (calls_of asked) → graph ≡ after_all empty_graph (calls_of asked)
     → Puts old new (text replies graph) → Puts old new (replayed asked)
 puts_replayed old new asked replies graph replies_are graph_is = subst (Puts old new) (λ i. text (replies_are i) (graph_is i))
+
+-- where a longer input can't end Done, it can't end otherwise behind it
+pub never_done : (old : Option (List ℕ)) (P : Type 0) (s : Status) (n : ℕ) → IfSome old (λ bytes. n < length bytes → P → Done ≡ Usage InputTooLong) → IfSome old (λ bytes. n < length bytes → P → s ≡ Usage InputTooLong)
+never_done None P s n h = tt
+never_done (Some bytes) P s n h = λ longer p. absurd (let e : Done ≡ Usage InputTooLong = h longer p in cc)
+
+-- what the sink behind has after a write fault, by what was given
+pub fault_behind : (s : Status) (rest old taken : Option (List ℕ)) (held : List ℕ) (A : List ℕ → List ℕ → Type 0)
+    → IfWriteFault s (IfSome rest (λ bytes. (written : List ℕ) × A bytes written × PutsSome old (behind taken held) written))
+    → IfWriteFault s (IfSome rest (λ bytes. (written : List ℕ) × A bytes written × IsFirstPart old taken written))
+fault_behind WriteFault rest old taken held A h =
+    if_told (λ bytes. (written : List ℕ) × A bytes written × PutsSome old (behind taken held) written) _ rest h (λ bytes d. (d.0, d.1, first-part taken old held d.0 d.2))
+fault_behind Done rest old taken held A h = tt
+fault_behind (Usage cause) rest old taken held A h = tt
+fault_behind (BadRow row cause) rest old taken held A h = tt
+fault_behind ReadFault rest old taken held A h = tt
+fault_behind Memory rest old taken held A h = tt

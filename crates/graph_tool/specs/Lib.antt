@@ -2,3 +2,4 @@ pub mod Input
 pub mod Status
 pub mod Command
 pub mod Run
+pub mod Streams

@@ -1,5 +1,5 @@
 -- What a command writes for the rows of its input.
-use Rattle.std.specs.Prelude.{◌≡◌, ℕ, List, Option, Ok, Err, IsOk, IfSome, true, false, ◌+◌, Bool}
+use Rattle.std.specs.Prelude.{◌≡◌, ℕ, List, Option, Ok, Err, IsOk, IfSome, true, false, ◌+◌, ◌≤◌, length, Bool}
 use Rattle.std.specs.declared.string.String.{String}
 use Rattle.std.proofs.Common.{Global}
 use Rattle.graph_kinds.specs.declared.call.Row.{Row}
@@ -59,6 +59,7 @@ IsRefused old new ended before after (Usage cause) =
     (cause ≡ InputTooLong) × TakesMany old new (most_bytes + 1) × (ended ≡ false)
 IsRefused old new ended before after (BadRow row cause) =
     (ended ≡ true) × IfSome old (λ bytes. rows callers bytes ≡ Err (row, cause)) × TakesAtMost old new most_bytes
+    × IfSome old (λ bytes. length bytes ≤ most_bytes)
 IsRefused old new ended before after ReadFault = Rose before after × TakesAtMost old new most_bytes × (ended ≡ false)
 IsRefused old new ended before after Memory = Unit {0}
 IsRefused old new ended before after Done = ⊥

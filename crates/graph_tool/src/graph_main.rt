@@ -3,10 +3,10 @@
 //! The order is words, reading, rows, running, writing. Memory may take the place of any answer up to
 //! running, and never comes once writing began. What is written is `Asks` of `specs/Run.antt`.
 
-ghost use Rattle.std.specs.Prelude.{◌≡◌, ◌+◌, ◌≤◌, ◌⊎◌, ℕ, List, true, false, Ok, Err, All, IfOk, IfErr, IfSome, OnOk};
+ghost use Rattle.std.specs.Prelude.{◌≡◌, ◌+◌, ◌<◌, ◌≤◌, ◌⊎◌, ℕ, List, true, false, Ok, Err, All, IfOk, IfErr, IfSome, OnOk};
 ghost use Rattle.std.specs.Prelude.{OnErr, Some, length, vec_len};
 ghost use Rattle.graph_kinds.specs.Answer.{IsWellMade};
-ghost use Rattle.graph_kinds.specs.Stream.{Rose, Puts, PutsSome, TakesMany};
+ghost use Rattle.graph_kinds.specs.Stream.{Rose, Puts, PutsSome, TakesMany, TakesMore};
 ghost use Rattle.graph_kinds.specs.declared.call.Row.{Row};
 ghost use Rattle.op_text.specs.Rows.{rows};
 ghost use Rattle.graph_tool.specs.Command.{command_of};
@@ -37,8 +37,8 @@ const CALLERS: u32 = 16;
 /// are left, and O((vertices + edges) log vertices) for each row of `reach`, `levels` or `cheapest`.
 ///
 /// # Errors
-/// `Usage` exactly where the words are no command, with the first fault from the left, or with
-/// `InputTooLong` where 8,388,609 bytes were taken; `BadRow` exactly where the input was read to its end
+/// `Usage` exactly where the words are no command, with the first fault from the left and the source unread, or
+/// with `InputTooLong` where 8,388,609 bytes were taken and the end wasn't answered; `BadRow` exactly where the input was read to its end
 /// and has a bad record; `ReadFault` and `WriteFault` only where the count of faults of the source or the
 /// sink rose; `Memory` where memory ran out, before anything was written.
 pub fn graph_main<R: Threads + Sync, S: Source, K: Sink>(
@@ -55,10 +55,14 @@ pub fn graph_main<R: Threads + Sync, S: Source, K: Sink>(
     ensures end { IfDone result (S.ended source.new ≡ true) }
     ensures usage { IfUsage result (λ cause. (cause ≡ UsageCause.InputTooLong) ⊎ (command_of words.now ≡ Err cause)) }
     ensures refused { (cause : UsageCause) → command_of words.now ≡ Err cause → result ≡ Status.Usage cause }
-    ensures too_long { result ≡ Status.Usage UsageCause.InputTooLong
-        → IsAccepted words.now × TakesMany (S.rest source.old) (S.rest source.new) (most_bytes + 1) }
+    ensures unread { (cause : UsageCause) → command_of words.now ≡ Err cause → source.new ≡ source.old }
+    ensures too_long { result ≡ Status.Usage UsageCause.InputTooLong → IsAccepted words.now
+        × TakesMany (S.rest source.old) (S.rest source.new) (most_bytes + 1) × (S.ended source.new ≡ false) }
     ensures too_long_only { IsAccepted words.now → IfSome (S.rest source.old) (λ bytes.
-        TakesMany (Some bytes) (S.rest source.new) (most_bytes + 1)
+        TakesMore (Some bytes) (S.rest source.new) most_bytes
+        → UnlessMemory result (result ≡ Status.Usage UsageCause.InputTooLong)) }
+    ensures too_long_input { IsAccepted words.now → IfSome (S.rest source.old) (λ bytes. most_bytes < length bytes
+        → (Rose (S.faults source.old) (S.faults source.new) → ⊥)
         → UnlessMemory result (result ≡ Status.Usage UsageCause.InputTooLong)) }
     ensures bad_row { IfBadRow result (λ row cause. IsAccepted words.now × (S.ended source.new ≡ true)
         × IfSome (S.rest source.old) (λ bytes. rows callers bytes ≡ Err (row, cause))) }
@@ -70,6 +74,8 @@ pub fn graph_main<R: Threads + Sync, S: Source, K: Sink>(
     ensures prefix { IfWriteFault result (IfSome (S.rest source.old) (λ bytes. (written : List ℕ)
         × Asks words.now bytes written × PutsSome (K.taken sink.old) (K.taken sink.new) written)) }
     ensures unwritten { UnlessWriting result (K.taken sink.new ≡ K.taken sink.old) }
+    ensures untouched { UnlessWriting result (sink.new ≡ sink.old) }
+    ensures reads { S.faults source.old ≤ S.faults source.new }
     ensures faults { K.faults sink.old ≤ K.faults sink.new }
     ensures complete { (asked : List Row) → IsAccepted words.now
         → IfSome (S.rest source.old) (λ bytes. length bytes ≤ most_bytes → rows callers bytes ≡ Ok asked
@@ -101,6 +107,8 @@ fn rows_of<S: Source>(alloc: Global, source: &mut S) -> Result<Vec<Row>, Status>
     ensures few { IfOk result (λ v. vec_len v ≤ 65536) }
     ensures end { OnOk result (S.ended source.new ≡ true) }
     ensures fits { OnOk result (TakesAtMost (S.rest source.old) (S.rest source.new) most_bytes) }
+    ensures short { OnOk result (IfSome (S.rest source.old) (λ bytes. length bytes ≤ most_bytes)) }
+    ensures reads { S.faults source.old ≤ S.faults source.new }
     ensures err { IfErr result (IsRefused (S.rest source.old) (S.rest source.new) (S.ended source.new)
         (S.faults source.old) (S.faults source.new)) }
 {

@@ -1,9 +1,9 @@
 //! The top call over a sink that hands on in pieces, so that the sink behind has all in the end.
 
-ghost use Rattle.std.specs.Prelude.{◌≡◌, ◌+◌, ◌≤◌, ◌⊎◌, ℕ, List, true, Ok, Err, IfSome, Some, length};
-ghost use Rattle.graph_kinds.specs.Stream.{Puts, PutsSome, Rose, TakesMany};
+ghost use Rattle.std.specs.Prelude.{◌≡◌, ◌+◌, ◌<◌, ◌≤◌, ◌⊎◌, ℕ, List, true, false, Ok, Err, IfSome, Some, length};
+ghost use Rattle.graph_kinds.specs.Stream.{Puts, PutsSome, Rose, TakesMany, TakesMore};
 ghost use Rattle.graph_kinds.specs.declared.call.Row.{Row};
-ghost use Rattle.op_text.specs.Pieces.{given, inner};
+ghost use Rattle.op_text.specs.Pieces.{IsFirstPart, given, inner};
 ghost use Rattle.op_text.specs.Rows.{rows};
 ghost use Rattle.op_text.specs.declared.rows.RowCause.{RowCause};
 ghost use Rattle.graph_tool.specs.Command.{command_of};
@@ -21,7 +21,8 @@ use std::alloc::Global;
 use std::thread::Threads;
 
 /// `graph_main` on a sink that hands on in pieces, and behind a run that is Done the last piece: then the sink
-/// behind was given the whole text. Costs what `graph_main` costs.
+/// behind was given the whole text. After `WriteFault` it has a first part of what it had, what was held, and the
+/// text; after any other refusal it is as it was. Costs what `graph_main` costs.
 ///
 /// # Errors
 /// Those of `graph_main`, exactly where they come there; and `WriteFault` where the last piece can't be handed
@@ -41,10 +42,14 @@ pub fn graph_main_in_pieces<R: Threads + Sync, S: Source, K: Sink>(
     ensures end { IfDone result (S.ended source.new ≡ true) }
     ensures usage { IfUsage result (λ cause. (cause ≡ UsageCause.InputTooLong) ⊎ (command_of words.now ≡ Err cause)) }
     ensures refused { (cause : UsageCause) → command_of words.now ≡ Err cause → result ≡ Status.Usage cause }
-    ensures too_long { result ≡ Status.Usage UsageCause.InputTooLong
-        → IsAccepted words.now × TakesMany (S.rest source.old) (S.rest source.new) (most_bytes + 1) }
+    ensures unread { (cause : UsageCause) → command_of words.now ≡ Err cause → source.new ≡ source.old }
+    ensures too_long { result ≡ Status.Usage UsageCause.InputTooLong → IsAccepted words.now
+        × TakesMany (S.rest source.old) (S.rest source.new) (most_bytes + 1) × (S.ended source.new ≡ false) }
     ensures too_long_only { IsAccepted words.now → IfSome (S.rest source.old) (λ bytes.
-        TakesMany (Some bytes) (S.rest source.new) (most_bytes + 1)
+        TakesMore (Some bytes) (S.rest source.new) most_bytes
+        → UnlessMemory result (result ≡ Status.Usage UsageCause.InputTooLong)) }
+    ensures too_long_input { IsAccepted words.now → IfSome (S.rest source.old) (λ bytes. most_bytes < length bytes
+        → (Rose (S.faults source.old) (S.faults source.new) → ⊥)
         → UnlessMemory result (result ≡ Status.Usage UsageCause.InputTooLong)) }
     ensures bad_row { IfBadRow result (λ row cause. IsAccepted words.now × (S.ended source.new ≡ true)
         × IfSome (S.rest source.old) (λ bytes. rows callers bytes ≡ Err (row, cause))) }
@@ -56,7 +61,12 @@ pub fn graph_main_in_pieces<R: Threads + Sync, S: Source, K: Sink>(
         × Rose (K.faults (inner sink.old)) (K.faults (inner sink.new))) }
     ensures prefix { IfWriteFault result (IfSome (S.rest source.old) (λ bytes. (written : List ℕ)
         × Asks words.now bytes written × PutsSome (given K.taken sink.old) (given K.taken sink.new) written)) }
+    ensures prefix_behind { IfWriteFault result (IfSome (S.rest source.old) (λ bytes. (written : List ℕ)
+        × Asks words.now bytes written × IsFirstPart (given K.taken sink.old) (K.taken (inner sink.new)) written)) }
     ensures unwritten { UnlessWriting result (given K.taken sink.new ≡ given K.taken sink.old) }
+    ensures untouched { UnlessWriting result (inner sink.new ≡ inner sink.old) }
+    ensures reads { S.faults source.old ≤ S.faults source.new }
+    ensures faults { K.faults (inner sink.old) ≤ K.faults (inner sink.new) }
     ensures complete { (asked : List Row) → IsAccepted words.now
         → IfSome (S.rest source.old) (λ bytes. length bytes ≤ most_bytes → rows callers bytes ≡ Ok asked
         → (Rose (S.faults source.old) (S.faults source.new) → ⊥)

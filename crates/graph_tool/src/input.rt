@@ -4,7 +4,7 @@
 //! the limit has come: that byte alone tells that the input is too long. The loop keeps what was taken
 //! so far as the bytes at hand (`Takes` of graph_kinds).
 
-ghost use Rattle.std.specs.Prelude.{◌≡◌, ◌+◌, ◌≤◌, ◌<◌, true, false, IfOk, OnOk, IfSome};
+ghost use Rattle.std.specs.Prelude.{◌≡◌, ◌+◌, ◌≤◌, ◌<◌, true, false, IfOk, OnOk, IfSome, length};
 ghost use Rattle.graph_kinds.specs.Stream.{Rose, Takes, TakesMany};
 ghost use Rattle.graph_tool.specs.Input.{IfFailed, IfTooLong, TakesAtMost, most_bytes};
 
@@ -36,6 +36,7 @@ pub fn read_input<S: Source>(alloc: Global, source: &mut S) -> Result<Vec<u8>, I
     ensures bytes { IfOk result (λ v. Takes (S.rest source.old) (S.rest source.new) v.items) }
     ensures all { IfOk result (λ v. IfSome (S.rest source.old) (λ bytes. v.items ≡ bytes)) }
     ensures fits { OnOk result (TakesAtMost (S.rest source.old) (S.rest source.new) most_bytes) }
+    ensures short { OnOk result (IfSome (S.rest source.old) (λ bytes. length bytes ≤ most_bytes)) }
     ensures too_long { IfTooLong result (TakesMany (S.rest source.old) (S.rest source.new) (most_bytes + 1)) }
     ensures more { IfTooLong result (S.ended source.new ≡ false) }
     ensures rose { IfFailed result (Rose (S.faults source.old) (S.faults source.new)) }

@@ -11,7 +11,7 @@ mod status;
 mod streams;
 
 use crate::in_pieces::graph_main_in_pieces;
-use crate::status::{Status, UsageCause};
+use crate::status::Status;
 use crate::streams::{ReadSource, WriteSink};
 use op_text::Pieces;
 use std::process::ExitCode;
@@ -28,12 +28,12 @@ fn main(rt: HostRuntime) -> ExitCode {
     ExitCode::from(number)
 }
 
-// Arguments that are no text are an unknown command. Output goes in pieces of 65,536 bytes.
+// Output goes in pieces of 65,536 bytes.
 fn run<R: Env + Input + Print + AllocGlobal + Threads + Sync>(rt: &R) -> Status {
     let alloc = rt.alloc();
     let args = match env::args(rt) {
         Ok(args) => args,
-        Err(_) => return Status::Usage(UsageCause::UnknownCommand),
+        Err(fault) => return Status::of_arguments(&fault),
     };
     let words = match args.skip(1).collect::<Vec<String>>(alloc) {
         Ok(words) => words,

@@ -1,10 +1,12 @@
 //! How a run ends: the status, the number that the process ends with, and the line on standard error.
 
-ghost use Rattle.std.specs.Prelude.{◌≡◌};
+ghost use Rattle.std.specs.Prelude.{◌≡◌, ◌≢◌};
+ghost use Rattle.std.specs.IoError.{error_kind};
 ghost use Rattle.graph_tool.specs.Status.{line_of, number_of, usage_of, cause_of};
 
 use op_text::RowCause;
-use std::fmt;
+use std::io::ErrorKind;
+use std::{fmt, io};
 
 /// What is wrong with the words of the command line, or that the input is too long.
 #[derive(Debug, Drop, Clone, Copy, PartialEq, Eq)]
@@ -33,6 +35,20 @@ pub enum Status {
 }
 
 impl Status {
+    /// How a run ends whose arguments can't be had: `Memory` where memory ran out, and else an argument is no text,
+    /// which is an unknown command. O(1).
+    pub fn of_arguments(fault: &io::Error) -> Status
+        ensures memory { error_kind fault.now ≡ ErrorKind.OutOfMemory → result ≡ Status.Memory }
+        ensures no_text { error_kind fault.now ≢ ErrorKind.OutOfMemory
+            → result ≡ Status.Usage UsageCause.UnknownCommand }
+    {
+        if fault.kind() == ErrorKind::OutOfMemory {
+            Status::Memory
+        } else {
+            Status::Usage(UsageCause::UnknownCommand)
+        }
+    }
+
     /// The number that the process ends with: 0 Done, 2 Usage, 3 BadRow, 4 ReadFault, 5 WriteFault,
     /// 6 Memory. O(1).
     pub fn number(&self) -> u8
@@ -49,8 +65,8 @@ impl Status {
     }
 }
 
-// The text of a cause of Usage.
-fn usage_text(cause: UsageCause) -> &'static str
+/// The text of a cause of Usage. O(1).
+pub fn usage_text(cause: UsageCause) -> &'static str
     ensures { result.now ≡ usage_of cause }
 {
     match cause {
@@ -61,8 +77,8 @@ fn usage_text(cause: UsageCause) -> &'static str
     }
 }
 
-// The text of a cause of BadRow.
-fn row_text(cause: RowCause) -> &'static str
+/// The text of a cause of BadRow. O(1).
+pub fn row_text(cause: RowCause) -> &'static str
     ensures { result.now ≡ cause_of cause }
 {
     match cause {

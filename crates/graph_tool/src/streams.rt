@@ -1,10 +1,12 @@
 //! Standard input and output, or any reader and writer, as a source and a sink.
 //!
-//! They are the trusted edge: what the system gives and takes is told to nobody, so their meanings are
-//! none, and what is proved is that they keep the promises of `Source` and `Sink` on counts and ends.
+//! They are the trusted edge: what the system gives and takes is told to nobody, so as a source and a sink they
+//! tell no bytes, and keep the promises of `Source` and `Sink` on counts and ends. Of a reader or a writer whose
+//! bytes the library does tell, each call says what became of them.
 
-ghost use Rattle.std.specs.Prelude.{◌≡◌, true, false, Option, None, List, ℕ, IfSome, ◌≤◌, ◌<◌, length};
-ghost use Rattle.graph_kinds.specs.Stream.{Rose};
+ghost use Rattle.std.specs.Prelude.{◌≡◌, true, false, None, List, [], ℕ, IfSome, IfNone, ◌≤◌, ◌<◌, length, take};
+ghost use Rattle.std.specs.Io.KnownBytes.{Appends, Consumes, IsAtEnd, Keeps};
+ghost use Rattle.graph_kinds.specs.Stream.{Rose, IfGot, IfEnd, IfReadFailed, IfTook, IfWriteFailed};
 
 use graph_kinds::{ReadAnswer, Sink, Source, WriteAnswer};
 use std::io;
@@ -38,13 +40,32 @@ impl<R: io::Read> ReadSource<R> {
 }
 
 impl<R: io::Read> Source for ReadSource<R> {
+    ghost use Rattle.graph_tool.specs.Streams.{reader_of, read_faults, has_ended};
+
     ghost rest = { λ _. None };
 
-    ghost ended = { λ s. s.ended };
+    ghost ended = { has_ended };
 
-    ghost faults = { λ s. s.faults };
+    ghost faults = { read_faults };
 
-    fn read(&mut self, into: &mut [u8]) -> ReadAnswer {
+    // The clauses of the trait, and then what becomes of a reader's bytes where the library tells them: those that
+    // were got came from it, a first End means that none was left, and after a fault all are there still. So
+    // neither a read that was interrupted nor one that failed is taken for the end.
+    fn read(&mut self, into: &mut [u8]) -> ReadAnswer
+        requires { 0 < length into.old }
+        ensures some { IfGot result (λ n. (0 < n) × (n ≤ length into.old)) }
+        ensures goes_on { IfGot result (λ _. has_ended self.new ≡ has_ended self.old) }
+        ensures end { IfEnd result (has_ended self.new ≡ true) }
+        ensures failed { IfReadFailed result (has_ended self.new ≡ has_ended self.old) }
+        ensures rose { IfReadFailed result (Rose (read_faults self.old) (read_faults self.new)) }
+        ensures stays { has_ended self.old ≡ true → result ≡ ReadAnswer.End }
+        ensures faults { read_faults self.old ≤ read_faults self.new }
+        ensures known { IfGot result (λ n. Consumes (R.remaining (reader_of self.old))
+            (R.remaining (reader_of self.new)) (take n into.new)) }
+        ensures known_end { IfEnd result (has_ended self.old ≡ false → IsAtEnd (R.remaining (reader_of self.new))) }
+        ensures known_failed { IfReadFailed result (Keeps (R.remaining (reader_of self.old))
+            (R.remaining (reader_of self.new))) }
+    {
         if self.ended {
             return ReadAnswer::End;
         }
@@ -65,7 +86,10 @@ impl<R: io::Read> Source for ReadSource<R> {
 
 // One read, made again where it was interrupted. None where it failed.
 fn read_some<R: io::Read>(reader: &mut R, into: &mut [u8]) -> Option<usize>
-    ensures { IfSome result (λ n. n ≤ length into.old) }
+    ensures within { IfSome result (λ n. n ≤ length into.old) }
+    ensures known { IfSome result (λ n. Consumes (R.remaining reader.old) (R.remaining reader.new) (take n into.new)) }
+    ensures known_end { IfSome result (λ n. n ≡ 0 → 0 < length into.old → IsAtEnd (R.remaining reader.new)) }
+    ensures known_failed { IfNone result (Keeps (R.remaining reader.old) (R.remaining reader.new)) }
 {
     for _ in 0..TURNS {
         match reader.read(into) {
@@ -97,11 +121,24 @@ impl<W: io::Write> WriteSink<W> {
 }
 
 impl<W: io::Write> Sink for WriteSink<W> {
+    ghost use Rattle.graph_tool.specs.Streams.{writer_of, write_faults};
+
     ghost taken = { λ _. None };
 
-    ghost faults = { λ s. s.faults };
+    ghost faults = { write_faults };
 
-    fn write(&mut self, from: &[u8]) -> WriteAnswer {
+    // The clauses of the trait, and then what a writer has where the library tells its bytes: those that were taken
+    // came behind, and after a fault it has what it had.
+    fn write(&mut self, from: &[u8]) -> WriteAnswer
+        requires { 0 < length from.now }
+        ensures some { IfTook result (λ n. (0 < n) × (n ≤ length from.now)) }
+        ensures rose { IfWriteFailed result (Rose (write_faults self.old) (write_faults self.new)) }
+        ensures faults { write_faults self.old ≤ write_faults self.new }
+        ensures known { IfTook result (λ n. Appends (W.contents (writer_of self.old)) (W.contents (writer_of self.new))
+            (take n from.now)) }
+        ensures known_failed { IfWriteFailed result (Keeps (W.contents (writer_of self.old))
+            (W.contents (writer_of self.new))) }
+    {
         let most = from.len().min(MOST);
         match write_some(&mut self.writer, &from[..most]) {
             Some(n) => WriteAnswer::Took(n as u32),
@@ -117,6 +154,8 @@ impl<W: io::Write> Sink for WriteSink<W> {
 fn write_some<W: io::Write>(writer: &mut W, from: &[u8]) -> Option<usize>
     ensures some { IfSome result (λ n. 0 < n) }
     ensures within { IfSome result (λ n. n ≤ length from.now) }
+    ensures known { IfSome result (λ n. Appends (W.contents writer.old) (W.contents writer.new) (take n from.now)) }
+    ensures known_failed { IfNone result (Keeps (W.contents writer.old) (W.contents writer.new)) }
 {
     for _ in 0..TURNS {
         match writer.write(from) {

@@ -67,7 +67,15 @@ fn worked_rows_give_their_lines(rt: HostRuntime) -> Result<(), Fail> {
             0,remove-edge,1,2,\n0,remove-edge,1,2,\n"
                 .as_slice(),
             b"added\nadded\nadded\nadded\nadded\nremoved\nadded\nno edge\nno edge\nadded\nedge 8\n\
-            present 8\nremoved 8\nno edge\nvertices 1 2 3\n"
+            changed 8\nremoved 9\nno edge\nvertices 1 2 3\n"
+                .as_slice(),
+        ),
+        (
+            b"0,add-vertex,1,,\n0,add-vertex,2,,\n0,add-edge,1,2,5\n0,add-edge,1,2,6\n\
+            0,add-edge,1,2,6\n0,has-edge,1,2,\n0,cheapest,1,2,\n"
+                .as_slice(),
+            b"added\nadded\nadded\nchanged 5\npresent 6\nedge 6\ncost 6 path 1 2\n\
+            vertices 1 2\nedge 1 2 6\n"
                 .as_slice(),
         ),
         (
@@ -499,6 +507,129 @@ fn a_reader_is_a_source(rt: HostRuntime) {
     assert_eq!(rt; source.read(&mut into), ReadAnswer::Got(1));
     assert_eq!(rt; source.read(&mut into), ReadAnswer::End);
     assert_eq!(rt; source.read(&mut into), ReadAnswer::End);
+}
+
+// A reader of two bytes that is interrupted so often before each read, and fails in the end or has none left.
+#[derive(Drop)]
+struct Halting {
+    interruptions: u32,
+    left: u32,
+    read: bool,
+    fails: bool,
+}
+
+impl io::Read for Halting {
+    fn read(&mut self, buf: &mut [u8]) -> io::Result<usize> {
+        if self.left > 0 {
+            self.left -= 1;
+            return Err(io::Error::from(io::ErrorKind::Interrupted));
+        }
+        self.left = self.interruptions;
+        if self.read || buf.len() < 2 {
+            return if self.fails {
+                Err(io::Error::from(io::ErrorKind::Other))
+            } else {
+                Ok(0)
+            };
+        }
+        self.read = true;
+        buf[0] = b'a';
+        buf[1] = b'b';
+        Ok(2)
+    }
+}
+
+// A read that is interrupted is made again, up to 1,024 times; one that fails is a fault, and no end.
+#[test]
+fn an_interrupted_read_is_made_again(rt: HostRuntime) {
+    for (interruptions, fails, answers) in [
+        (0, false, [ReadAnswer::Got(2), ReadAnswer::End]),
+        (1, false, [ReadAnswer::Got(2), ReadAnswer::End]),
+        (1023, false, [ReadAnswer::Got(2), ReadAnswer::End]),
+        (1024, false, [ReadAnswer::Failed, ReadAnswer::Got(2)]),
+        (0, true, [ReadAnswer::Got(2), ReadAnswer::Failed]),
+        (1, true, [ReadAnswer::Got(2), ReadAnswer::Failed]),
+    ] {
+        let mut source = ReadSource::new(Halting {
+            interruptions,
+            left: interruptions,
+            read: false,
+            fails,
+        });
+        for answer in answers {
+            assert_eq!(rt;
+                source.read(&mut [0; 4]),
+                answer,
+                "interrupted {interruptions} times"
+            );
+        }
+    }
+}
+
+// A writer that is interrupted so often before each write, and then takes two bytes or fails.
+#[derive(Drop)]
+struct Stalling {
+    interruptions: u32,
+    left: u32,
+    fails: bool,
+}
+
+impl io::Write for Stalling {
+    fn write(&mut self, buf: &[u8]) -> io::Result<usize> {
+        if self.left > 0 {
+            self.left -= 1;
+            return Err(io::Error::from(io::ErrorKind::Interrupted));
+        }
+        self.left = self.interruptions;
+        if self.fails || buf.len() < 2 {
+            return Err(io::Error::from(io::ErrorKind::Other));
+        }
+        Ok(2)
+    }
+
+    fn flush(&mut self) -> io::Result<()> {
+        Ok(())
+    }
+}
+
+// So is a write.
+#[test]
+fn an_interrupted_write_is_made_again(rt: HostRuntime) {
+    for (interruptions, fails, answers) in [
+        (0, false, [WriteAnswer::Took(2), WriteAnswer::Took(2)]),
+        (1, false, [WriteAnswer::Took(2), WriteAnswer::Took(2)]),
+        (1023, false, [WriteAnswer::Took(2), WriteAnswer::Took(2)]),
+        (1024, false, [WriteAnswer::Failed, WriteAnswer::Took(2)]),
+        (0, true, [WriteAnswer::Failed, WriteAnswer::Failed]),
+        (1, true, [WriteAnswer::Failed, WriteAnswer::Failed]),
+    ] {
+        let mut sink = WriteSink::new(Stalling {
+            interruptions,
+            left: interruptions,
+            fails,
+        });
+        for answer in answers {
+            assert_eq!(rt;
+                sink.write(b"abc"),
+                answer,
+                "interrupted {interruptions} times"
+            );
+        }
+    }
+}
+
+// Arguments that can't be had are no text, but for want of memory.
+#[test]
+fn want_of_memory_for_the_arguments_is_memory(rt: HostRuntime) {
+    for (kind, status) in [
+        (io::ErrorKind::OutOfMemory, Status::Memory),
+        (
+            io::ErrorKind::InvalidData,
+            Status::Usage(UsageCause::UnknownCommand),
+        ),
+    ] {
+        assert_eq!(rt; Status::of_arguments(&io::Error::from(kind)), status);
+    }
 }
 
 // A writer that takes two bytes once, and nothing afterwards.

@@ -3,7 +3,7 @@ use Rattle.std.specs.Prelude.{Ok}
 use Rattle.op_text.specs.Rows.{rows}
 use Rattle.op_text.specs.Text.{text}
 use Rattle.graph_tool.specs.Run.{callers}
-use Rattle.graph_tool.proofs.Inputs.{too_long_by}
+use Rattle.graph_tool.proofs.Inputs.{too_long_by, longer_by, not_longer}
 use Rattle.graph_tool.proofs.Runs.{all_shown, asks, not_too_long, if_told, puts_replayed}
 use Rattle.graph_tool.proofs.graph_main.graph_main.Goals as goal
 
@@ -47,3 +47,12 @@ returns-clause-prefix g c =
           (read ∙ ap Ok (sym c.as_slice.ensures.value)) (c.as_slice-2.ensures.value ∙ c.in-Ok-replay.ensures.answers) c.in-Ok-replay.ensures.graph,
       c.in-Err-write_results.ensures.prefix,
     ))
+
+pub returns-in-Err-rows_of-clause-too_long_input : goal.returns-in-Err-rows_of-clause-too_long_input
+returns-in-Err-rows_of-clause-too_long_input g c = λ accepted. longer_by (g.S.Source.rest c.args.source.now) (g.S.Source.rest c.rows_of.new.source) (g.S.Source.ended c.rows_of.new.source) (g.S.Source.faults c.args.source.now) (g.S.Source.faults c.rows_of.new.source) c.in-Err-rows_of.status c.in-Err-rows_of.ensures.err
+
+pub returns-in-Ok-write_results-clause-too_long_input : goal.returns-in-Ok-write_results-clause-too_long_input
+returns-in-Ok-write_results-clause-too_long_input g c = λ accepted. not_longer _ _ _ c.in-Ok.ensures.short
+
+pub returns-clause-too_long_input : goal.returns-clause-too_long_input
+returns-clause-too_long_input g c = λ accepted. not_longer _ _ _ c.in-Ok.ensures.short
