@@ -11,7 +11,7 @@ pub enum Call {
     RemoveVertex { key: u32 },
     /// Asks whether the key is a vertex.
     HasVertex { key: u32 },
-    /// Puts an edge of this weight where there is none.
+    /// Puts an edge of this weight where there is none, or gives the one that is there this weight.
     AddEdge { from: u32, to: u32, weight: u32 },
     /// Takes the edge out.
     RemoveEdge { from: u32, to: u32 },

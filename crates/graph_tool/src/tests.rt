@@ -1,7 +1,13 @@
 //! The worked rows: each input with the lines that must be written for it, and each way in which a run ends
 //! otherwise.
 
-ghost use Rattle.std.specs.Prelude.{◌≤◌, ◌<◌};
+ghost use Rattle.std.specs.Prelude.{◌≡◌, ◌≤◌, ◌<◌, true, List, Ok, length};
+ghost use Rattle.graph_kinds.specs.InMemory.{bytes_left, read_faults, write_faults};
+ghost use Rattle.graph_kinds.specs.declared.call.Row.{Row};
+ghost use Rattle.op_text.specs.Rows.{rows};
+ghost use Rattle.graph_tool.specs.Input.{most_bytes};
+ghost use Rattle.graph_tool.specs.Run.{IsAccepted, callers};
+ghost use Rattle.graph_tool.specs.Status.{UnlessMemory};
 
 use crate::graph_main::graph_main;
 use crate::in_pieces::graph_main_in_pieces;
@@ -9,6 +15,7 @@ use crate::status::{Status, UsageCause};
 use crate::streams::{ReadSource, WriteSink};
 use graph_kinds::{MemSink, MemSource, ReadAnswer, Sink, Source, WriteAnswer};
 use op_text::{Pieces, RowCause};
+use std::alloc::Global;
 use std::io;
 use std::test::Fail;
 use std::thread::Threads;
@@ -36,6 +43,26 @@ fn run_on<R: Threads + Sync + AllocGlobal>(
     let mut sink = MemSink::new(alloc, ROOM, ROOM, Vec::new(alloc))?;
     let status = graph_main(rt, alloc, words.as_slice(), &mut source, &mut sink);
     Ok((status, sink))
+}
+
+// How a run in memory ends, and whether no call failed: then, by the clauses alone, it ended Done where words and
+// input are good, or memory ran out.
+fn run_counted<R: Threads + Sync>(
+    rt: &R,
+    alloc: Global,
+    words: &[String],
+    source: &mut MemSource,
+    sink: &mut MemSink,
+) -> (Status, bool)
+    requires no_read { read_faults source.old ≡ 0 }
+    requires no_write { write_faults sink.old ≡ 0 }
+    ensures { (asked : List Row) → IsAccepted words.now → length (bytes_left source.old) ≤ most_bytes
+        → rows callers (bytes_left source.old) ≡ Ok asked → result.1 ≡ true
+        → UnlessMemory result.0 (result.0 ≡ Status.Done) }
+{
+    let status = graph_main(rt, alloc, words, source, sink);
+    let faultless = source.faults() == 0 && sink.faults() == 0;
+    (status, faultless)
 }
 
 const VERTEX_ROWS: &[u8] =
@@ -406,6 +433,21 @@ fn an_input_is_too_long_from_one_byte_past_the_limit(rt: HostRuntime) -> Result<
     let (status, sink) = run_on(&rt, &["run"], input.as_slice())?;
     assert_eq!(rt; status, Status::Usage(UsageCause::InputTooLong));
     assert_eq!(rt; sink.bytes(), b"".as_slice());
+    Ok(())
+}
+
+#[test]
+fn a_run_in_which_no_call_fails_is_done(rt: HostRuntime) -> Result<(), Fail> {
+    let alloc = rt.alloc();
+    let words = words_of(&rt, &["run"])?;
+    for (failing, ended) in [(9, (Status::Done, true)), (1, (Status::ReadFault, false))] {
+        let mut source = MemSource::new(VERTEX_ROWS.to_vec(alloc)?, ROOM, [failing].to_vec(alloc)?);
+        let mut sink = MemSink::new(alloc, ROOM, ROOM, Vec::new(alloc))?;
+        assert_eq!(rt;
+            run_counted(&rt, alloc, words.as_slice(), &mut source, &mut sink),
+            ended
+        );
+    }
     Ok(())
 }
 
