@@ -1,5 +1,5 @@
 -- What was taken of a source that tells its bytes is one list.
-use Rattle.std.proofs.Common.{◌≡◌, ℕ, ◌+◌, ◌<◌, ◌≤◌, Bool, List, length, sym, ap, ◌∙◌, arith, length-append}
+use Rattle.std.proofs.Common.{◌≡◌, ℕ, ◌<◌, ◌≤◌, Bool, List, length, sym, ap, ◌∙◌, arith, length-append}
 use Rattle.std.specs.Prelude.{Option, Some, None, IfSome}
 use Rattle.graph_kinds.specs.Stream.{Rose, Takes, TakesMore}
 use Rattle.graph_tool.specs.Input.{TakesAtMost, most_bytes}

@@ -1,5 +1,5 @@
 -- What is written for rows is what their command asks.
-use Rattle.std.proofs.Common.{◌≡◌, ℕ, ◌+◌, ◌<◌, List, [], ◌∷◌, length, take, get_or, refl, sym, subst, arith}
+use Rattle.std.proofs.Common.{◌≡◌, ℕ, ◌<◌, List, [], ◌∷◌, length, take, get_or, refl, sym, subst, arith}
 use Rattle.std.proofs.Math.Seq.{take-length}
 use Rattle.std.specs.Prelude.{Option, Some, None, IfSome, Ok, zero, suc}
 use Rattle.std.specs.Prelude.{All}

@@ -1,6 +1,6 @@
 use Rattle.std.proofs.Common.{ℕ, List}
-use Rattle.graph_kinds.specs.Stream.{Puts, PutsSome}
-use Rattle.op_text.specs.Pieces.{IsFirstPart, given, held, inner}
+use Rattle.graph_kinds.specs.Stream.{Puts}
+use Rattle.op_text.specs.Pieces.{given, held, inner}
 use Rattle.op_text.proofs.TextPieces.{first-part}
 use Rattle.graph_tool.specs.Run.{Asks}
 use Rattle.graph_tool.proofs.Runs.{fault_behind, if_told, never_done, puts_all}
