@@ -1,6 +1,7 @@
 -- What is answered to each call, by look-ups, and what then stands after it.
-use Rattle.std.proofs.Common.{◌≡◌, ◌≢◌, ℕ, ◌<◌, ◌==◌, ◌&&◌, Bool, true, false, cond, Option, Some, None, List, Result, Ok, Err, refl, sym, ap, subst, eq-eqb, eqb-true}
+use Rattle.std.proofs.Common.{◌≡◌, ℕ, ◌<◌, ◌&&◌, ◌==◌, eqb, eqb-true, Bool, true, false, cond, Option, Some, None, List, Result, Ok, Err, refl, sym, ap, subst, ◌∙◌}
 use Rattle.std.specs.Prelude.{IfOk, OnOk}
+use Rattle.std.specs.Option.{option_eq}
 use Rattle.graph_kinds.specs.declared.call.Call.{Call}
 use Rattle.graph_kinds.specs.declared.call.Call.TheVariants.{AddVertex, RemoveVertex, HasVertex, AddEdge, RemoveEdge, HasEdge, Reach, Levels, Cheapest}
 use Rattle.graph_kinds.specs.declared.outcome.Outcome.{Outcome}
@@ -10,7 +11,7 @@ use Rattle.graph_kinds.specs.Levels.{levels_of, reach_path}
 use Rattle.graph_kinds.specs.Path.{least_cost, cheapest_path}
 use Rattle.graph_kinds.specs.declared.answer.Answer.{Answer}
 use Rattle.graph_kinds.specs.Answer.{answer, alters, after, change, plain, on_keys, by_weight, by_path, by_levels, by_cost, is_change, there_with}
-use Rattle.plain_graph.specs.Calls.{CostIsBelow}
+use Rattle.plain_graph.specs.Calls.{CostIsBelow, replacing}
 
 -- by the outcome, the graph is changed or stays
 pub after_outcome : (g : Graph) (c : Call) (o : Outcome) → plain o ≡ answer g c → cond (is_change o) (change g c) g ≡ after g c
@@ -80,16 +81,38 @@ module _ (g : Graph) (a b : ℕ) (t : Bool) (x : Option ℕ) (both : (has g a &&
   unfolding answer
   answer_has_edge = on_pair out.Edge out.NoEdge
 
--- an edge that is there, by its weight
-pub there_present : (w x : ℕ) → x ≡ w → plain (out.Present x) ≡ plain (there_with w x)
-there_present w x e = ap (λ t. plain (cond t (out.Present x) (out.Changed x))) (sym (eq-eqb x w e))
-
-pub there_changed : (w x : ℕ) → x ≢ w → plain (out.Changed x) ≡ plain (there_with w x)
-there_changed w x e = by (x == w) refl
+-- an add of an edge, by the weight before: where it's this one, it's present, and else replaced
+pub add_by : (w : ℕ) (x : Option ℕ) → by_weight x (there_with w) out.Added ≡ cond (option_eq eqb x (Some w)) (plain (out.Present w)) (plain (replacing x))
+add_by w None = refl
+add_by w (Some x) = by (x == w) refl
   where
-    by : (t : Bool) → (x == w) ≡ t → plain (out.Changed x) ≡ plain (cond t (out.Present x) (out.Changed x))
-    by true same = absurd (e (eqb-true x w same))
-    by false same = refl
+    by : (t : Bool) → (x == w) ≡ t → plain (cond t (out.Present x) (out.Changed x)) ≡ cond t (plain (out.Present w)) (plain (out.Changed x))
+    by true e = ap (λ n. plain (out.Present n)) (eqb-true x w e)
+    by false e = refl
+
+module _ (g : Graph) (a b w : ℕ) (x : Option ℕ) (both : (has g a && has g b) ≡ true) (weight : weight_of g a b ≡ x) where
+  added_by : cond (option_eq eqb x (Some w)) (plain (out.Present w)) (plain (replacing x)) ≡ answer g (AddEdge a b w)
+  added_by = sym (add_by w x) ∙ answer_add_edge g a b true x both weight w
+
+  pub present_is : true ≡ option_eq eqb x (Some w) → plain (out.Present w) ≡ answer g (AddEdge a b w)
+  present_is same = ap (λ t. cond t (plain (out.Present w)) (plain (replacing x))) same ∙ added_by
+
+  module _ (other : false ≡ option_eq eqb x (Some w)) where
+    replaced : plain (replacing x) ≡ answer g (AddEdge a b w)
+    replaced = ap (λ t. cond t (plain (out.Present w)) (plain (replacing x))) other ∙ added_by
+
+    pub replaced_is : (o : Outcome) → o ≡ replacing x → plain o ≡ answer g (AddEdge a b w)
+    replaced_is o is = ap plain is ∙ replaced
+
+    pub replaced_after : change g (AddEdge a b w) ≡ after g (AddEdge a b w)
+    replaced_after = sym (ap (λ t. cond t (change g (AddEdge a b w)) g) (changes x)) ∙ after_outcome g (AddEdge a b w) (replacing x) replaced
+      where
+        changes : (x : Option ℕ) → is_change (replacing x) ≡ true
+        changes None = refl
+        changes (Some y) = refl
+
+there_below : (limit w x : ℕ) → CostIsBelow limit (there_with w x)
+there_below limit w x = elim (x == w) as (λ t. CostIsBelow limit (cond t (out.Present x) (out.Changed x))) [ true ↦ tt | false ↦ tt ]
 
 -- only a cheapest path has a cost
 module _ (limit : ℕ) where
@@ -122,7 +145,7 @@ module _ (limit : ℕ) where
   update_below g (AddVertex k) reach levels cheapest = plain_either (has g k) (out.Present 0) out.Added tt tt
   update_below g (RemoveVertex k) reach levels cheapest = plain_either (has g k) (out.Removed 0) out.Absent tt tt
   update_below g (HasVertex k) reach levels cheapest = plain_either (has g k) out.Yes out.No tt tt
-  update_below g (AddEdge a b w) reach levels cheapest = either (has g a && has g b) (by_weight (weight_of g a b) (there_with w) out.Added) (plain out.NoVertex) (weighted (weight_of g a b) (there_with w) out.Added (λ x. plain_either (x == w) (out.Present x) (out.Changed x) tt tt) tt) tt
+  update_below g (AddEdge a b w) reach levels cheapest = either (has g a && has g b) (by_weight (weight_of g a b) (there_with w) out.Added) (plain out.NoVertex) (weighted (weight_of g a b) (there_with w) out.Added (there_below limit w) tt) tt
   update_below g (RemoveEdge a b) reach levels cheapest = either (has g a && has g b) (by_weight (weight_of g a b) out.Removed out.NoEdge) (plain out.NoVertex) (weighted (weight_of g a b) out.Removed out.NoEdge (λ _. tt) tt) tt
   update_below g (HasEdge a b) reach levels cheapest = either (has g a && has g b) (by_weight (weight_of g a b) out.Edge out.NoEdge) (plain out.NoVertex) (weighted (weight_of g a b) out.Edge out.NoEdge (λ _. tt) tt) tt
   update_below g (Reach a b) reach levels cheapest = absurd (reach a b refl)

@@ -1,9 +1,9 @@
 -- Kinds of calls and of outcomes that contracts speak of.
-use Rattle.std.specs.Prelude.{ℕ, ◌<◌}
+use Rattle.std.specs.Prelude.{ℕ, ◌<◌, Option, Some, None}
 use Rattle.graph_kinds.specs.declared.call.Call.{Call}
 use Rattle.graph_kinds.specs.declared.call.Call.TheVariants.{AddVertex, AddEdge}
 use Rattle.graph_kinds.specs.declared.outcome.Outcome.{Outcome}
-use Rattle.graph_kinds.specs.declared.outcome.Outcome.TheVariants.{Cost}
+use Rattle.graph_kinds.specs.declared.outcome.Outcome.TheVariants.{Added, Changed, Cost}
 
 -- the call asks to add a vertex or an edge
 abbrev pub IsAdd : Call → Type 0
@@ -15,3 +15,8 @@ IsAdd _ = ⊥
 abbrev pub CostIsBelow : ℕ → Outcome → Type 0
 CostIsBelow limit (Cost c) = c < limit
 CostIsBelow limit _ = Unit {0}
+
+-- the outcome of an edge's add, by the other weight that the edge had before
+abbrev pub replacing : Option ℕ → Outcome
+replacing None = Added
+replacing (Some x) = Changed x

@@ -6,7 +6,7 @@
 ghost use Rattle.std.specs.Prelude.{◌≡◌, ◌+◌, ◌≤◌, ◌<◌, ◌^◌, ◌&&◌, IfOk, OnOk, OnErr};
 ghost use Rattle.graph_kinds.specs.Graph.{has, key_count, pair_count, IsGraph};
 ghost use Rattle.graph_kinds.specs.Answer.{IsWellMade, plain, answer, after};
-ghost use Rattle.plain_graph.specs.Calls.{CostIsBelow, IsAdd};
+ghost use Rattle.plain_graph.specs.Calls.{CostIsBelow, IsAdd, replacing};
 ghost use Rattle.graph_kinds.specs.Answer.{IsPathCall};
 ghost use Rattle.scan_record.specs.Asked.{answered};
 
@@ -23,6 +23,16 @@ fn bare(alloc: Global, outcome: Outcome) -> Answer
         outcome,
         keys: Keys::new(alloc),
         ends: Keys::new(alloc),
+    }
+}
+
+// The outcome of an edge's add, by the other weight that it had before.
+fn put_in_place_of(before: Option<u32>) -> Outcome
+    ensures { result ≡ replacing before }
+{
+    match before {
+        Some(weight) => Outcome::Changed(weight),
+        None => Outcome::Added,
     }
 }
 
@@ -131,7 +141,7 @@ impl PlainGraph {
         }
     }
 
-    /// Puts the edge where both ends are there and it isn't.
+    /// Puts the edge where both ends are there, in place of one with another weight.
     fn add_edge(&mut self, from: u32, to: u32, weight: u32) -> Result<Outcome, Memory>
         requires weighed { 1 ≤ weight }
         requires room { key_count self.old + pair_count self.old < 65536 }
@@ -142,15 +152,12 @@ impl PlainGraph {
         if !self.has_both(from, to) {
             return Ok(Outcome::NoVertex);
         }
-        if let Some(present) = self.weight(from, to) {
-            if present == weight {
-                return Ok(Outcome::Present(present));
-            }
-            self.put_edge(from, to, weight)?;
-            return Ok(Outcome::Changed(present));
+        let before = self.weight(from, to);
+        if before == Some(weight) {
+            return Ok(Outcome::Present(weight));
         }
         self.put_edge(from, to, weight)?;
-        Ok(Outcome::Added)
+        Ok(put_in_place_of(before))
     }
 
     /// Takes the edge out where it is there.

@@ -139,6 +139,26 @@ fn a_vertex_that_comes_back_has_no_edges(rt: HostRuntime) -> Result<(), Fail> {
     assert_text(&rt, &graph, "vertices 1 2 3\n")
 }
 
+#[test]
+fn an_edge_gets_another_weight(rt: HostRuntime) -> Result<(), Fail> {
+    let graph = replayed(
+        &rt,
+        &[
+            (add_vertex(1), Outcome::Added),
+            (add_vertex(2), Outcome::Added),
+            (add_edge(1, 2, 5), Outcome::Added),
+            (add_edge(1, 2, 6), Outcome::Changed(5)),
+            (add_edge(1, 2, 6), Outcome::Present(6)),
+            (has_edge(1, 2), Outcome::Edge(6)),
+            (add_edge(2, 2, 3), Outcome::Added),
+            (add_edge(2, 2, 4_294_967_295), Outcome::Changed(3)),
+            (add_edge(2, 2, 3), Outcome::Changed(4_294_967_295)),
+        ],
+    )?;
+    assert_eq!(rt; (graph.vertex_count(), graph.edge_count()), (2, 2));
+    assert_text(&rt, &graph, "vertices 1 2\nedge 1 2 6\nedge 2 2 3\n")
+}
+
 // What the two `put` calls ask of the graph.
 fn has_room(graph: &PlainGraph) -> bool
     ensures { IsTrue result → key_count graph.now + pair_count graph.now < 65536 }
