@@ -1,6 +1,4 @@
 pub mod Changes
-pub mod Counting
-pub mod Forgetting
 pub mod Held
 pub mod Outcomes
 pub mod Pairs

@@ -1,5 +1,6 @@
 -- What a step on the maps makes of the graph that they hold, and that the maps keep what they keep.
-use Rattle.std.proofs.Common.{◌≡◌, ℕ, zero, suc, ◌+◌, ◌-◌, ◌<◌, ◌≤◌, ◌==◌, ◌&&◌, ◌||◌, [], true, false, true≢false, cond, Some, None, Result, Ok, Err, OnOk, OnErr, is_some, sym, ap, subst, ◌∙◌, arith}
+use Rattle.std.proofs.Common.{◌≡◌, ℕ, zero, suc, ◌+◌, ◌-◌, ◌<◌, ◌≤◌, ◌==◌, ◌&&◌, ◌||◌, false, List, [], true, cond, Option, Some, None, Result, Ok, Err, OnOk, OnErr, is_some, sym, ap, subst, ◌∙◌, arith}
+use Rattle.std.specs.Prelude.{IsSome, IfSome, IfNone}
 use Rattle.std.specs.Ordering.{nat_cmp}
 use Rattle.std.specs.BTreeMap.{IsOrdered, get, is_at, values}
 use Rattle.std.specs.Map.{lookup}
@@ -9,9 +10,9 @@ use Rattle.graph_kinds.specs.declared.answer.Memory.{Memory}
 use Rattle.graph_kinds.specs.declared.call.Call.TheVariants.{AddVertex, AddEdge, RemoveEdge}
 use Rattle.graph_kinds.specs.Graph.{Graph, pair_cmp, empty_graph, has, weight_of, pair_count, IsGraph}
 use Rattle.graph_kinds.specs.Answer.{change, without}
-use Rattle.plain_graph.specs.Kept.{Edges, Vertices, edges_in, graph_of, holds, weight_held, Rises, IsKept}
-use Rattle.plain_graph.proofs.Changes.{count_of, has-add, has-without, weight-without, weight-add, weight-cut, sound-add_vertex, sound-without, sound-add_edge, sound-cut_edge, count-add_vertex, count-add_edge, count-without, count-cut_edge}
-use Rattle.plain_graph.proofs.Held.{has-held, weight-held, graph_from_held, held-empty, pair_count-held}
+use Rattle.plain_graph.specs.Kept.{Edges, Vertices, edges_in, graph_of, holds, weight_held, weight_by, Rises, IsKept, IsMirror, IsIndexed}
+use Rattle.plain_graph.proofs.Changes.{count_of, has-add, has-without, weight-without, weight-bare, pairs-bare, weight-add, weight-cut, sound-add_vertex, sound-without, sound-add_edge, sound-cut_edge, count-add_vertex, count-add_edge, count-without, count-cut_edge, some_pair}
+use Rattle.plain_graph.proofs.Held.{has-held, weight-held, graph_from_held, held-empty}
 use Rattle.graph_kinds.proofs.Graphs.{pair_total}
 
 -- maps that rise and hold such a graph, with the count of its edges, keep what they keep
@@ -34,6 +35,41 @@ kept-empty m e ordered = kept_of m (record { outer = ordered; inner = none }) em
 
     no : (a b w : ℕ) → weight_of empty_graph a b ≡ Some w → ⊥
     no a b w f = let none : None ≡ Some w = sym (finite_map.get-empty pair_cmp (a, b)) ∙ f in cc
+
+-- and their index is that of no edges
+pub mirror-empty : (m sources : Vertices) → m.entries ≡ [] → sources.entries ≡ [] → IsOrdered nat_cmp sources → IsMirror m sources
+mirror-empty m sources e f ordered = record {
+  rising = record { outer = ordered; inner = none };
+  keys = λ k. ap (λ (es : List (ℕ × Edges)). is_some (lookup (is_at (nat_cmp k)) es)) (f ∙ sym e);
+  weights = λ a b. ap (λ (es : List (ℕ × Edges)). weight_by (lookup (is_at (nat_cmp b)) es) a) f ∙ sym (ap (λ (es : List (ℕ × Edges)). weight_by (lookup (is_at (nat_cmp a)) es) b) e);
+}
+  where
+    none : (k : ℕ) (edges : Edges) → get nat_cmp sources k ≡ Some edges → IsOrdered nat_cmp edges
+    none k edges g = let no : None ≡ Some edges = ap (lookup (is_at (nat_cmp k))) (sym f) ∙ g in absurd (cc)
+
+-- what is looked up in the maps or in their index is the weight of the graph
+module _ (m sources : Vertices) {edges : ℕ} (g : Graph) (view : graph_of m ≡ g) (kept : IsIndexed m sources edges) where
+  pub weight-looked_up : (a b : ℕ) → weight_held m a b ≡ weight_of g a b
+  weight-looked_up a b = sym (weight-held m kept.kept.rising.outer a b) ∙ ap (λ (h : Graph). weight_of h a b) view
+
+  weight-mirrored : (a b : ℕ) → weight_held sources b a ≡ weight_of g a b
+  weight-mirrored a b = kept.mirror.weights a b ∙ weight-looked_up a b
+
+  pub some-source : (k : ℕ) (r : Option ℕ) → IfSome r (λ a. IsSome (weight_held sources k a)) → IfSome r (λ a. IsSome (weight_of g a k))
+  some-source k None h = tt
+  some-source k (Some a) h = subst IsSome (weight-mirrored a k) h
+
+  pub no-source : (k : ℕ) (r : Option ℕ) → IfNone r ((a : ℕ) → weight_held sources k a ≡ None) → IfNone r ((a : ℕ) → weight_of g a k ≡ None)
+  no-source k None h = λ a. sym (weight-mirrored a k) ∙ h a
+  no-source k (Some a) h = tt
+
+  pub some-target : (k : ℕ) (r : Option ℕ) → IfSome r (λ b. IsSome (weight_held m k b)) → IfSome r (λ b. IsSome (weight_of g k b))
+  some-target k None h = tt
+  some-target k (Some b) h = subst IsSome (weight-looked_up k b) h
+
+  pub no-target : (k : ℕ) (r : Option ℕ) → IfNone r ((b : ℕ) → weight_held m k b ≡ None) → IfNone r ((b : ℕ) → weight_of g k b ≡ None)
+  no-target k None h = λ b. sym (weight-looked_up k b) ∙ h b
+  no-target k (Some b) h = tt
 
 module _ (m n : Vertices) {edges : ℕ} (g : Graph) (view : graph_of m ≡ g) (kept : IsKept m edges) (rises : Rises n) where
   has_now : (k : ℕ) → holds m k ≡ has g k
@@ -65,16 +101,15 @@ module _ (m n : Vertices) {edges : ℕ} (g : Graph) (view : graph_of m ≡ g) (k
     kept-add_vertex (Ok u) room ok err weights = kept_of n rises _ (view-add_vertex ok weights) (sound-add_vertex g k sound_now) (omega (arith, count-add_vertex g k)) edges counted_now
     kept-add_vertex (Err u) room ok err weights = kept-stays err weights
 
-    pub view-cut_vertex : ((q : ℕ) → holds n q ≡ cond (k == q) false (holds m q)) → ((a b : ℕ) → weight_held n a b ≡ cond ((k == a) || (k == b)) None (weight_held m a b)) → graph_of n ≡ without g k
-    view-cut_vertex keys weights = graph_from_held n rises _
-        (λ q. keys q ∙ (ap (cond (k == q) false) (has_now q) ∙ sym (has-without g k q)))
-        (λ a b. weights a b ∙ (ap (cond ((k == a) || (k == b)) None) (weight_now a b) ∙ sym (weight-without g k a b)))
+    module _ (keys : (q : ℕ) → holds n q ≡ cond (k == q) false (holds m q)) (weights : (a b : ℕ) → weight_held n a b ≡ weight_held m a b)
+        (no_source : (a : ℕ) → weight_of g a k ≡ None) (no_target : (b : ℕ) → weight_of g k b ≡ None) where
+      pub view-cut_vertex : graph_of n ≡ without g k
+      view-cut_vertex = graph_from_held n rises _
+          (λ q. keys q ∙ (ap (cond (k == q) false) (has_now q) ∙ sym (has-without g k q)))
+          (λ a b. weights a b ∙ (weight_now a b ∙ sym (weight-bare g k no_source no_target a b)))
 
-    pub kept-cut_vertex : ((q : ℕ) → holds n q ≡ cond (k == q) false (holds m q)) → ((a b : ℕ) → weight_held n a b ≡ cond ((k == a) || (k == b)) None (weight_held m a b))
-        → (left : ℕ) → left ≡ edges_in (values n) → IsKept n left
-    kept-cut_vertex keys weights left counted =
-        let view_left = view-cut_vertex keys weights in
-        kept_of n rises _ view_left (sound-without g k sound_now) (let less = count-without g k in omega (arith, few_now)) left (counted ∙ (sym (pair_count-held n rises) ∙ ap pair_count view_left))
+      pub kept-cut_vertex : IsKept n edges
+      kept-cut_vertex = kept_of n rises _ view-cut_vertex (sound-without g k sound_now) (let less = count-without g k in omega (arith, few_now)) edges (counted_now ∙ sym (pairs-bare g k no_source no_target))
 
   module _ (x y : ℕ) (keys : (q : ℕ) → holds n q ≡ holds m q) where
     pub view-add_edge : (w : ℕ) → ((a b : ℕ) → weight_held n a b ≡ cond ((x == a) && (y == b)) (Some w) (weight_held m a b)) → graph_of n ≡ change g (AddEdge x y w)
@@ -95,10 +130,4 @@ module _ (m n : Vertices) {edges : ℕ} (g : Graph) (view : graph_of m ≡ g) (k
 
     -- an edge that is there is counted
     pub counted-there : is_some (weight_held m x y) ≡ true → 1 ≤ edges
-    counted-there there = by edges counted_now
-      where
-        by : (count : ℕ) → count ≡ pair_count g → 1 ≤ count
-        by zero e =
-            let nothing : weight_of g x y ≡ None = ap (λ ps. finite_map.get ps (x, y)) (finite_map.empty_of_len g.pairs (sym e)) ∙ finite_map.get-empty pair_cmp (x, y) in
-            absurd (true≢false (sym there ∙ ap is_some (weight_now x y ∙ nothing)))
-        by (suc count) e = omega arith
+    counted-there there = omega (arith, counted_now, some_pair g x y (sym (ap is_some (weight_now x y)) ∙ there))

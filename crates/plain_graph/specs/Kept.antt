@@ -56,3 +56,14 @@ pub record IsKept (m : Vertices) (edges : ℕ) : Type 0 where
   pub sound : IsGraph (graph_of m)
   pub few : key_count (graph_of m) + pair_count (graph_of m) ≤ 65536
   pub counted : edges ≡ pair_count (graph_of m)
+
+-- the index of the maps: the same vertices, and each edge the other way round
+pub record IsMirror (m sources : Vertices) : Type 0 where
+  pub rising : Rises sources
+  pub keys : (k : ℕ) → holds sources k ≡ holds m k
+  pub weights : (a b : ℕ) → weight_held sources b a ≡ weight_held m a b
+
+-- what a plain graph keeps: its maps and its count, and the index beside them
+pub record IsIndexed (m sources : Vertices) (edges : ℕ) : Type 0 where
+  pub kept : IsKept m edges
+  pub mirror : IsMirror m sources

@@ -1,9 +1,11 @@
 //! The graph of one caller, in ordered maps.
 //!
-//! A map has each vertex by its key with the map of its out-edges, and the edges are counted beside it. Contracts
-//! see the graph that the maps hold (`graph_of`); what maps and count keep is `IsKept`, both of `specs/Kept.antt`.
+//! A map has each vertex by its key with the map of its out-edges. Beside it stand the count of the edges and an
+//! index, which has the edges that lead to each vertex. Contracts see the graph that the map holds (`graph_of`); what
+//! map, count and index keep is `IsIndexed`, both of `specs/Kept.antt`.
 
-ghost use Rattle.std.specs.Prelude.{◌≡◌, ℕ, ◌+◌, ◌≤◌, ◌<◌, [], true, IfOk, OnOk, OnErr};
+ghost use Rattle.std.specs.Prelude.{◌≡◌, ℕ, ◌+◌, ◌≤◌, ◌<◌, ◌==◌, [], true, cond, IfOk, OnOk, OnErr};
+ghost use Rattle.std.specs.Prelude.{None, IsSome, IfSome, IfNone};
 ghost use Rattle.std.specs.BTreeMap.{keys};
 ghost use Rattle.std.specs.FinMap as finite_map;
 ghost use Rattle.plain_graph.specs.Kept.{pairs_in};
@@ -12,7 +14,7 @@ ghost use Rattle.graph_kinds.specs.Answer.{change};
 ghost use Rattle.scan_record.specs.Scan.{IsComplete, row_at};
 ghost use Rattle.scan_record.specs.ScanGraph.{graph_of_scan};
 
-use crate::{maps, scans};
+use crate::{index, maps, scans};
 use graph_kinds::{Call, Memory};
 use scan_record::Scan;
 use std::alloc::Global;
@@ -24,6 +26,7 @@ use std::marker::Model;
 pub struct PlainGraph {
     alloc: Global,
     vertices: BTreeMap<u32, BTreeMap<u32, u32>>,
+    sources: BTreeMap<u32, BTreeMap<u32, u32>>,
     edges: u32,
 }
 
@@ -34,11 +37,11 @@ impl Model for PlainGraph {
 
     ghost coded = { graph_code };
 
-    ghost use Rattle.plain_graph.specs.Kept.{graph_of, IsKept};
+    ghost use Rattle.plain_graph.specs.Kept.{graph_of, IsIndexed};
 
     ghost view = { λ g. graph_of g.vertices };
 
-    ghost invariant = { λ g. IsKept g.vertices g.edges };
+    ghost invariant = { λ g. IsIndexed g.vertices g.sources g.edges };
 }
 
 impl PlainGraph {
@@ -49,6 +52,7 @@ impl PlainGraph {
         PlainGraph {
             alloc,
             vertices: BTreeMap::new(alloc),
+            sources: BTreeMap::new(alloc),
             edges: 0,
         }
     }
@@ -113,7 +117,7 @@ impl PlainGraph {
         if self.vertices.contains_key(&key) {
             return Ok(());
         }
-        maps::insert_vertex(&mut self.vertices, self.alloc, key)
+        index::insert_vertex(&mut self.vertices, &mut self.sources, self.alloc, key)
     }
 
     /// Puts the edge between two vertices, or gives the one that is there its new weight. O(log V + log E).
@@ -128,25 +132,71 @@ impl PlainGraph {
         ensures ok { OnOk result (self.new ≡ change self.old (Call.AddEdge from to weight)) }
         ensures err { OnErr result (self.new ≡ self.old) }
     {
-        if maps::insert_edge(&mut self.vertices, from, to, weight)?.is_none() {
+        if index::insert_edge(&mut self.vertices, &mut self.sources, from, to, weight)?.is_none() {
             self.edges += 1;
         }
         Ok(())
     }
 
-    /// Takes out a vertex with its edges and the edges to it. O(log V) and its out-degree where no edge is left behind
-    /// its own, else one look-up for each vertex, O(V log E).
+    /// Takes out a vertex with its edges and the edges to it. O((1 + degree) log V), in-edges counted.
     pub(crate) fn cut_vertex(&mut self, key: u32)
         ensures { self.new ≡ change self.old (Call.RemoveVertex key) }
     {
-        self.edges = maps::remove_vertex(&mut self.vertices, self.edges, key);
+        self.cut_edges_to(key);
+        self.cut_edges_from(key);
+        self.cut_bare_vertex(key);
+    }
+
+    /// Takes out a vertex that no edge leads from or to. O(log V).
+    fn cut_bare_vertex(&mut self, key: u32)
+        requires no_source { (a : ℕ) → weight_of self.old a key ≡ None }
+        requires no_target { (b : ℕ) → weight_of self.old key b ≡ None }
+        ensures { self.new ≡ change self.old (Call.RemoveVertex key) }
+    {
+        index::remove_vertex(&mut self.vertices, &mut self.sources, key);
+    }
+
+    /// Takes out the edges that lead to a key. O(in-degree · log V).
+    fn cut_edges_to(&mut self, key: u32)
+        ensures keys { (q : ℕ) → has self.new q ≡ has self.old q }
+        ensures weights { (a b : ℕ) → weight_of self.new a b ≡ cond (key == b) None (weight_of self.old a b) }
+    {
+        while let Some(from) = self.source_of(key) {
+            self.cut_edge(from, key);
+        }
+    }
+
+    /// Takes out the edges that lead from a key. O(out-degree · log V).
+    fn cut_edges_from(&mut self, key: u32)
+        ensures keys { (q : ℕ) → has self.new q ≡ has self.old q }
+        ensures weights { (a b : ℕ) → weight_of self.new a b ≡ cond (key == a) None (weight_of self.old a b) }
+    {
+        while let Some(to) = self.target_of(key) {
+            self.cut_edge(key, to);
+        }
+    }
+
+    /// The least key from which an edge leads to this one, if there is any. O(log V).
+    fn source_of(&self, key: u32) -> Option<u32>
+        ensures some { IfSome result (λ from. IsSome (weight_of self.now from key)) }
+        ensures none { IfNone result ((a : ℕ) → weight_of self.now a key ≡ None) }
+    {
+        maps::first_target(&self.sources, key)
+    }
+
+    /// The least key to which an edge leads from this one, if there is any. O(log V).
+    fn target_of(&self, key: u32) -> Option<u32>
+        ensures some { IfSome result (λ to. IsSome (weight_of self.now key to)) }
+        ensures none { IfNone result ((b : ℕ) → weight_of self.now key b ≡ None) }
+    {
+        maps::first_target(&self.vertices, key)
     }
 
     /// Takes out the edge between two keys. O(log V + log E).
     pub(crate) fn cut_edge(&mut self, from: u32, to: u32)
         ensures { self.new ≡ change self.old (Call.RemoveEdge from to) }
     {
-        if maps::remove_edge(&mut self.vertices, from, to).is_some() {
+        if index::remove_edge(&mut self.vertices, &mut self.sources, from, to).is_some() {
             self.edges -= 1;
         }
     }

@@ -3,6 +3,7 @@
 
 mod calls;
 mod graph;
+mod index;
 mod maps;
 mod rows;
 mod scans;

@@ -1,11 +1,10 @@
-//! The maps of a plain graph: of each vertex the map of its out-edges, which has the weight of each by the key of
-//! its target.
+//! A map of vertices: of each the map of its edges, which has the weight of each by the key of its other end.
 //!
-//! No second index is kept, so an edge stands at one place alone. What the functions leave is said by look-ups
-//! (`holds` and `weight_held` of `specs/Kept.antt`); all of them keep `Rises`.
+//! A plain graph has two of them, which `index` keeps alike. What the functions leave is said by look-ups (`holds`
+//! and `weight_held` of `specs/Kept.antt`); all of them keep `Rises`.
 
-ghost use Rattle.std.specs.Prelude.{◌≡◌, ℕ, ◌+◌, ◌≤◌, ◌==◌, ◌&&◌, ◌||◌, true, false, cond, IsTrue, IfOk, OnOk, OnErr};
-ghost use Rattle.std.specs.Prelude.{Some, None};
+ghost use Rattle.std.specs.Prelude.{◌≡◌, ℕ, ◌+◌, ◌≤◌, ◌==◌, ◌&&◌, ◌||◌, true, false, cond, IfOk, OnOk, OnErr};
+ghost use Rattle.std.specs.Prelude.{Some, None, IsSome, IfSome, IfNone};
 ghost use Rattle.plain_graph.specs.Kept.{Rises, edges_in, holds, weight_held};
 ghost use Rattle.std.specs.Ordering.{nat_cmp};
 ghost use Rattle.std.specs.BTreeMap.{get, IsOrdered, values, btree_map_len};
@@ -67,6 +66,7 @@ pub fn insert_edge(
     ensures weights { OnOk result ((a b : ℕ)
         → weight_held vertices.new a b ≡ cond ((from == a) && (to == b)) (Some weight) (weight_held vertices.old a b)) }
     ensures before { IfOk result (λ w. w ≡ weight_held vertices.old from to) }
+    ensures absent { OnErr result (weight_held vertices.old from to ≡ None) }
     ensures stays { OnErr result ((a b : ℕ) → weight_held vertices.new a b ≡ weight_held vertices.old a b) }
 {
     match vertices.get_mut(&from) {
@@ -93,62 +93,23 @@ pub fn remove_edge(vertices: &mut Vertices, from: u32, to: u32) -> Option<u32>
     }
 }
 
-/// Takes out a vertex with the edges out of it, and answers how many these were. O(log V), and O(1) for each of them.
-fn take_vertex(vertices: &mut Vertices, key: u32) -> u32
-    requires rises { Rises vertices.old }
-    requires few { edges_in (values vertices.old) ≤ 65536 }
+/// Takes out a vertex with the edges out of it. O(log V), and O(1) for each of them.
+pub fn remove_vertex(vertices: &mut Vertices, key: u32)
+    requires { Rises vertices.old }
     ensures rises { Rises vertices.new }
     ensures keys { (q : ℕ) → holds vertices.new q ≡ cond (key == q) false (holds vertices.old q) }
     ensures weights { (a b : ℕ)
         → weight_held vertices.new a b ≡ cond (key == a) None (weight_held vertices.old a b) }
-    ensures count { result + edges_in (values vertices.new) ≡ edges_in (values vertices.old) }
 {
-    match vertices.remove(&key) {
-        Some(edges) => edges.len() as u32,
-        None => 0,
-    }
+    vertices.remove(&key);
 }
 
-/// Takes out the edge to a key. It answers `true` always, so that it keeps the vertex in a `retain`.
-fn forget(edges: &mut Edges, key: u32) -> bool
-    ensures kept { result ≡ true }
-    ensures rises { IsOrdered nat_cmp edges.new }
-    ensures weights { (b : ℕ) → get nat_cmp edges.new b ≡ cond (key == b) None (get nat_cmp edges.old b) }
-    ensures fewer { btree_map_len edges.new ≤ btree_map_len edges.old }
+/// The least target of the edges out of a vertex; none where there is no such edge or no such vertex. O(log V + log E).
+pub fn first_target(vertices: &Vertices, from: u32) -> Option<u32>
+    ensures some { IfSome result (λ to. IsSome (weight_held vertices.now from to)) }
+    ensures none { IfNone result ((b : ℕ) → weight_held vertices.now from b ≡ None) }
 {
-    edges.remove(&key);
-    true
-}
-
-/// Takes out the edges to a key. One look-up for each vertex, O(V log E).
-fn forget_edges_to(vertices: &mut Vertices, key: u32)
-    requires { Rises vertices.old }
-    ensures rises { Rises vertices.new }
-    ensures keys { (q : ℕ) → holds vertices.new q ≡ holds vertices.old q }
-    ensures weights { (a b : ℕ)
-        → weight_held vertices.new a b ≡ cond (key == b) None (weight_held vertices.old a b) }
-    ensures fewer { edges_in (values vertices.new) ≤ edges_in (values vertices.old) }
-{
-    vertices.retain(|_, edges| forget(edges, key));
-}
-
-/// Takes out a vertex with its edges and the edges to it. It is told how many edges there are, and answers how many
-/// are left. O(log V) and its out-degree where none is left behind its own, else one look-up for each vertex,
-/// O(V log E).
-pub fn remove_vertex(vertices: &mut Vertices, edges: u32, key: u32) -> u32
-    requires rises { Rises vertices.old }
-    requires counted { edges ≡ edges_in (values vertices.old) }
-    requires few { edges ≤ 65536 }
-    ensures rises { Rises vertices.new }
-    ensures keys { (q : ℕ) → holds vertices.new q ≡ cond (key == q) false (holds vertices.old q) }
-    ensures weights { (a b : ℕ)
-        → weight_held vertices.new a b ≡ cond ((key == a) || (key == b)) None (weight_held vertices.old a b) }
-    ensures count { result ≡ edges_in (values vertices.new) }
-{
-    let own = take_vertex(vertices, key);
-    if own == edges {
-        return 0;
-    }
-    forget_edges_to(vertices, key);
-    edge_count(vertices)
+    let edges = vertices.get(&from)?;
+    let (to, _) = edges.first_key_value()?;
+    Some(*to)
 }

@@ -1,15 +1,8 @@
-use Rattle.std.proofs.Common.{◌∙◌}
-use Rattle.plain_graph.proofs.Held.{pair_count-held}
-use Rattle.plain_graph.proofs.Steps.{view-cut_vertex, kept-cut_vertex}
+use Rattle.std.proofs.Common.{◌==◌, cond, None, ap, ◌∙◌}
+use Rattle.plain_graph.proofs.Changes.{without-cut}
 use Rattle.plain_graph.proofs.graph.PlainGraph.cut_vertex.Goals as goal
 
-pub remove_vertex-self-inside-requires-clause-counted : goal.remove_vertex-self-inside-requires-clause-counted
-remove_vertex-self-inside-requires-clause-counted c = c.self.invariant.counted ∙ pair_count-held c.self.inside.vertices c.self.invariant.rising
-
-pub invariant_of-self : goal.invariant_of-self
-invariant_of-self c = kept-cut_vertex c.self.inside.vertices c.remove_vertex-self-inside.new.vertices c.args.self.now c.self.view_is c.self.invariant c.remove_vertex-self-inside.ensures.rises c.args.key
-    c.remove_vertex-self-inside.ensures.keys c.remove_vertex-self-inside.ensures.weights c.remove_vertex-self-inside.result c.remove_vertex-self-inside.ensures.count
-
 pub returns : goal.returns
-returns c = view-cut_vertex c.self.inside.vertices c.remove_vertex-self-inside.new.vertices c.args.self.now c.self.view_is c.self.invariant c.remove_vertex-self-inside.ensures.rises c.args.key
-    c.remove_vertex-self-inside.ensures.keys c.remove_vertex-self-inside.ensures.weights
+returns c = c.cut_bare_vertex.ensures ∙ without-cut c.args.self.now c.cut_edges_from.new.self c.args.key
+    (λ q. c.cut_edges_from.ensures.keys q ∙ c.cut_edges_to.ensures.keys q)
+    (λ a b. c.cut_edges_from.ensures.weights a b ∙ ap (cond (c.args.key == a) None) (c.cut_edges_to.ensures.weights a b))
