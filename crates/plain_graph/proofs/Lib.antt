@@ -3,9 +3,6 @@ pub mod Held
 pub mod Outcomes
 pub mod Pairs
 pub mod Replays
-pub mod ScanGraphs
-pub mod ScanKeys
-pub mod ScanFills
-pub mod ScanRows
 pub mod Steps
 pub mod Texts
+pub mod Collects

@@ -52,6 +52,14 @@ pub answer_cheapest : (g : Graph) (a b : ℕ) (t : Bool) → (has g a && has g b
 unfolding answer
 answer_cheapest g a b t both = ap (λ s. cond s (by_cost (least_cost g a b) (cheapest_path g a b)) (plain out.NoVertex)) (sym both)
 
+-- the least cost and, where there is one, its path
+pub cost_alike : (c d : Option ℕ) (p q : List ℕ) → c ≡ d → ((w : ℕ) → d ≡ Some w → p ≡ q) → by_cost c p ≡ by_cost d q
+cost_alike c d p q same path = ap (λ x. by_cost x p) same ∙ by d path
+  where
+    by : (d : Option ℕ) → ((w : ℕ) → d ≡ Some w → p ≡ q) → by_cost d p ≡ by_cost d q
+    by None path = refl
+    by (Some w) path = ap (by_cost (Some w)) (path w refl)
+
 module _ (g : Graph) (k : ℕ) where
   pub answer_add_vertex : (b : Bool) → has g k ≡ b → plain (cond b (out.Present 0) out.Added) ≡ answer g (AddVertex k)
   unfolding answer

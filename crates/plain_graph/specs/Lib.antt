@@ -1,3 +1,3 @@
 pub mod Kept
 pub mod Calls
-pub mod Filling
+pub mod Collecting

@@ -11,7 +11,7 @@ ghost use Rattle.graph_kinds.specs.Answer.{IsPathCall};
 ghost use Rattle.scan_record.specs.Asked.{answered};
 
 use crate::graph::PlainGraph;
-use graph_kinds::{Answer, Call, Keys, Memory, Outcome};
+use graph_kinds::{Answer, Call, Keys, Memory, Outcome, parts_are_answered_alike};
 use scan_record::Scan;
 use std::alloc::Global;
 
@@ -189,49 +189,61 @@ impl PlainGraph {
         }
     }
 
-    /// The path by parents, through a scan of the graph.
-    fn reach(&self, from: u32, to: u32) -> Result<Answer, Memory>
-        ensures answer { IfOk result (λ a. a ≡ answer self.now (Call.Reach from to)) }
-        ensures change { OnOk result (self.now ≡ after self.now (Call.Reach from to)) }
-        ensures sound { IsGraph self.now }
+    /// The path by parents, through a scan of the part that is reached.
+    fn reach(&mut self, from: u32, to: u32) -> Result<Answer, Memory>
+        ensures answer { IfOk result (λ a. a ≡ answer self.old (Call.Reach from to)) }
+        ensures change { OnOk result (self.new ≡ after self.old (Call.Reach from to)) }
+        ensures stays { self.new ≡ self.old }
+        ensures sound { IsGraph self.old }
     {
         let alloc = self.allocator();
         if !self.has_both(from, to) {
             return Ok(bare(alloc, Outcome::NoVertex));
         }
+        parts_are_answered_alike();
         let mut scan = self.scan_from(from)?;
         let outcome = path_levels::reach(&mut scan, to);
-        copied(alloc, outcome, &scan)
+        let answer = copied(alloc, outcome, &scan);
+        self.keep_scan(scan);
+        answer
     }
 
-    /// The levels, through a scan of the graph.
-    fn levels(&self, from: u32) -> Result<Answer, Memory>
-        ensures answer { IfOk result (λ a. a ≡ answer self.now (Call.Levels from)) }
-        ensures change { OnOk result (self.now ≡ after self.now (Call.Levels from)) }
-        ensures sound { IsGraph self.now }
+    /// The levels, through a scan of the part that is reached.
+    fn levels(&mut self, from: u32) -> Result<Answer, Memory>
+        ensures answer { IfOk result (λ a. a ≡ answer self.old (Call.Levels from)) }
+        ensures change { OnOk result (self.new ≡ after self.old (Call.Levels from)) }
+        ensures stays { self.new ≡ self.old }
+        ensures sound { IsGraph self.old }
     {
         let alloc = self.allocator();
         if !self.has(from) {
             return Ok(bare(alloc, Outcome::NoVertex));
         }
+        parts_are_answered_alike();
         let mut scan = self.scan_from(from)?;
         let outcome = path_levels::levels(&mut scan);
-        copied(alloc, outcome, &scan)
+        let answer = copied(alloc, outcome, &scan);
+        self.keep_scan(scan);
+        answer
     }
 
-    /// The cheapest path by least keys, through a scan of the graph.
-    fn cheapest(&self, from: u32, to: u32) -> Result<Answer, Memory>
-        ensures answer { IfOk result (λ a. a ≡ answer self.now (Call.Cheapest from to)) }
+    /// The cheapest path by least keys, through a scan of the part that is reached.
+    fn cheapest(&mut self, from: u32, to: u32) -> Result<Answer, Memory>
+        ensures answer { IfOk result (λ a. a ≡ answer self.old (Call.Cheapest from to)) }
         ensures bounded { IfOk result (λ a. CostIsBelow (2 ^ 48) a.outcome) }
-        ensures change { OnOk result (self.now ≡ after self.now (Call.Cheapest from to)) }
-        ensures sound { IsGraph self.now }
+        ensures change { OnOk result (self.new ≡ after self.old (Call.Cheapest from to)) }
+        ensures stays { self.new ≡ self.old }
+        ensures sound { IsGraph self.old }
     {
         let alloc = self.allocator();
         if !self.has_both(from, to) {
             return Ok(bare(alloc, Outcome::NoVertex));
         }
+        parts_are_answered_alike();
         let mut scan = self.scan_from(from)?;
         let outcome = path_costs::cheapest(&mut scan, to);
-        copied(alloc, outcome, &scan)
+        let answer = copied(alloc, outcome, &scan);
+        self.keep_scan(scan);
+        answer
     }
 }

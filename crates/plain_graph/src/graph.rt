@@ -2,7 +2,8 @@
 //!
 //! A map has each vertex by its key with the map of its out-edges. Beside it stand the count of the edges and an
 //! index, which has the edges that lead to each vertex. Contracts see the graph that the map holds (`graph_of`); what
-//! map, count and index keep is `IsIndexed`, both of `specs/Kept.antt`.
+//! map, count and index keep is `IsIndexed`, both of `specs/Kept.antt`. The scan of the last path and the numbers of
+//! its rows are kept for the next one, and are no part of the graph.
 
 ghost use Rattle.std.specs.Prelude.{◌≡◌, ℕ, ◌+◌, ◌≤◌, ◌<◌, ◌==◌, [], true, cond, IfOk, OnOk, OnErr};
 ghost use Rattle.std.specs.Prelude.{None, IsSome, IfSome, IfNone};
@@ -10,11 +11,12 @@ ghost use Rattle.std.specs.BTreeMap.{keys};
 ghost use Rattle.std.specs.FinMap as finite_map;
 ghost use Rattle.plain_graph.specs.Kept.{pairs_in};
 ghost use Rattle.graph_kinds.specs.Graph.{empty_graph, sorted_keys, has, weight_of, key_count, pair_count, IsGraph};
+ghost use Rattle.graph_kinds.specs.Part.{part};
 ghost use Rattle.graph_kinds.specs.Answer.{change};
 ghost use Rattle.scan_record.specs.Scan.{IsComplete, row_at};
 ghost use Rattle.scan_record.specs.ScanGraph.{graph_of_scan};
 
-use crate::{index, maps, scans};
+use crate::{index, maps, parts};
 use graph_kinds::{Call, Memory};
 use scan_record::Scan;
 use std::alloc::Global;
@@ -28,6 +30,8 @@ pub struct PlainGraph {
     vertices: BTreeMap<u32, BTreeMap<u32, u32>>,
     sources: BTreeMap<u32, BTreeMap<u32, u32>>,
     edges: u32,
+    scan: Option<Scan>,
+    numbers: BTreeMap<u32, u32>,
 }
 
 impl Model for PlainGraph {
@@ -54,6 +58,8 @@ impl PlainGraph {
             vertices: BTreeMap::new(alloc),
             sources: BTreeMap::new(alloc),
             edges: 0,
+            scan: None,
+            numbers: BTreeMap::new(alloc),
         }
     }
 
@@ -154,6 +160,7 @@ impl PlainGraph {
         ensures { self.new ≡ change self.old (Call.RemoveVertex key) }
     {
         index::remove_vertex(&mut self.vertices, &mut self.sources, key);
+        self.numbers.remove(&key);
     }
 
     /// Takes out the edges that lead to a key. O(in-degree · log V).
@@ -201,18 +208,29 @@ impl PlainGraph {
         }
     }
 
-    /// A scan that holds the graph, with the root's row first and no answer yet. O((V + E) log V).
+    /// A scan that holds the part that is reached from a root, with the root's row first and no answer yet.
+    /// O(part · log V).
     ///
     /// # Errors
     /// `Memory` where there is no room for it.
-    pub(crate) fn scan_from(&self, root: u32) -> Result<Scan, Memory>
-        requires { has self.now root ≡ true }
+    pub(crate) fn scan_from(&mut self, root: u32) -> Result<Scan, Memory>
+        requires { has self.old root ≡ true }
         ensures complete { IfOk result (λ s. IsComplete s) }
-        ensures graph { IfOk result (λ s. graph_of_scan s ≡ self.now) }
+        ensures graph { IfOk result (λ s. graph_of_scan s ≡ part self.old root) }
         ensures root { IfOk result (λ s. (row_at s 0).key ≡ root) }
         ensures no_keys { IfOk result (λ s. s.keys ≡ []) }
         ensures no_ends { IfOk result (λ s. s.ends ≡ []) }
+        ensures same { self.new ≡ self.old }
+        ensures sound { IsGraph self.old }
     {
-        scans::scan_of(self.alloc, &self.vertices, root)
+        let kept = self.scan.take();
+        parts::scan_of_part(self.alloc, kept, &mut self.numbers, &self.vertices, root)
+    }
+
+    /// Keeps a scan for the next path. O(1).
+    pub(crate) fn keep_scan(&mut self, scan: Scan)
+        ensures { self.new ≡ self.old }
+    {
+        self.scan = Some(scan);
     }
 }

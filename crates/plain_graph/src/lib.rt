@@ -5,8 +5,8 @@ mod calls;
 mod graph;
 mod index;
 mod maps;
+mod parts;
 mod rows;
-mod scans;
 mod text;
 
 pub use graph::PlainGraph;

@@ -5,9 +5,9 @@
 
 ghost use Rattle.std.specs.Prelude.{◌≡◌, ℕ, ◌+◌, ◌≤◌, ◌==◌, ◌&&◌, ◌||◌, true, false, cond, IfOk, OnOk, OnErr};
 ghost use Rattle.std.specs.Prelude.{Some, None, IsSome, IfSome, IfNone};
-ghost use Rattle.plain_graph.specs.Kept.{Rises, edges_in, holds, weight_held};
+ghost use Rattle.plain_graph.specs.Kept.{Rises, holds, weight_held};
 ghost use Rattle.std.specs.Ordering.{nat_cmp};
-ghost use Rattle.std.specs.BTreeMap.{get, IsOrdered, values, btree_map_len};
+ghost use Rattle.std.specs.BTreeMap.{get};
 
 use graph_kinds::Memory;
 use std::alloc::Global;
@@ -18,18 +18,6 @@ pub type Edges = BTreeMap<u32, u32>;
 
 /// The vertices by their keys, each with its edges.
 pub type Vertices = BTreeMap<u32, BTreeMap<u32, u32>>;
-
-/// How many edges all vertices have. O(V).
-pub fn edge_count(vertices: &Vertices) -> u32
-    requires { edges_in (values vertices.now) ≤ 65536 }
-    ensures { result ≡ edges_in (values vertices.now) }
-{
-    let mut count = 0;
-    for edges in vertices.values() {
-        count += edges.len() as u32;
-    }
-    count
-}
 
 /// Puts a vertex without edges at a key that has none. O(log V).
 ///

@@ -221,8 +221,8 @@ fn assert_scan<R: Abort>(rt: &R, scan: &Scan, rows: &[(u32, u32, u32)], edges: &
 }
 
 #[test]
-fn a_scan_starts_at_its_root(rt: HostRuntime) -> Result<(), Fail> {
-    let graph = replayed(
+fn a_scan_has_what_its_root_reaches(rt: HostRuntime) -> Result<(), Fail> {
+    let mut graph = replayed(
         &rt,
         &[
             (add_vertex(30), Outcome::Added),
@@ -234,26 +234,24 @@ fn a_scan_starts_at_its_root(rt: HostRuntime) -> Result<(), Fail> {
             (add_edge(20, 20, 2), Outcome::Added),
         ],
     )?;
-    let table = [
-        (
-            10,
-            [(10, 0, 0), (20, 0, 3), (30, 3, 1)],
-            [(10, 0, 5), (20, 1, 2), (30, 2, 7), (20, 1, 1)],
-        ),
+    let table: [(u32, &[(u32, u32, u32)], &[(u32, u32, u32)]); 3] = [
+        (10, &[(10, 0, 0)], &[]),
         (
             20,
-            [(20, 0, 3), (10, 3, 0), (30, 3, 1)],
-            [(10, 1, 5), (20, 0, 2), (30, 2, 7), (20, 0, 1)],
+            &[(20, 0, 3), (10, 3, 0), (30, 3, 1)],
+            &[(10, 1, 5), (20, 0, 2), (30, 2, 7), (20, 0, 1)],
         ),
         (
             30,
-            [(30, 0, 1), (10, 1, 0), (20, 1, 3)],
-            [(20, 2, 1), (10, 1, 5), (20, 2, 2), (30, 0, 7)],
+            &[(30, 0, 1), (20, 1, 3), (10, 4, 0)],
+            &[(20, 1, 1), (10, 2, 5), (20, 1, 2), (30, 0, 7)],
         ),
     ];
     for (root, rows, edges) in &table {
         assert!(rt; graph.has(*root));
-        assert_scan(&rt, &graph.scan_from(*root)?, rows, edges);
+        let scan = graph.scan_from(*root)?;
+        assert_scan(&rt, &scan, rows, edges);
+        graph.keep_scan(scan);
     }
     Ok(())
 }

@@ -101,6 +101,14 @@ impl Scan {
         self.slot_two.clear();
     }
 
+    /// For how many vertex rows there is room, and for as many edge rows, keys and level ends. O(1).
+    pub fn nodes(&self) -> u32
+        ensures count { result ≡ self.now.nodes }
+        ensures few { self.now.nodes ≤ 65536 }
+    {
+        self.nodes
+    }
+
     /// How many vertex rows there are. O(1).
     pub fn vertices(&self) -> u32
         ensures count { result ≡ length self.now.rows }

@@ -1,0 +1,7 @@
+use Rattle.plain_graph.proofs.Collects.{collected_root}
+use Rattle.plain_graph.proofs.parts.collect.Goals as goal
+
+pub loop-row-init : goal.loop-row-init
+loop-row-init c =
+    let begun = collected_root c.args.vertices.now c.push_key.new.numbers c.clear.new.self c.push_key.new.scan c.args.root c.args.scan.now.nodes c.clear.ensures c.in_ok-push_key.ensures.pushed c.requires.held c.in_ok-push_key.ensures.numbering c.in_ok-push_key.ensures.indexed in
+    record { collected = begun.0; root = begun.1 }

@@ -1,0 +1,43 @@
+use Rattle.std.proofs.Common.{◌≡◌, ℕ, ◌∷◌, List, Some, refl, rules}
+use Rattle.std.specs.Ordering.{nat_cmp}
+use Rattle.std.specs.BTreeMap.{get}
+use Rattle.scan_record.specs.Scan.{row_at}
+use Rattle.scan_record.specs.declared.rows.EdgeRow.{EdgeRow}
+use Rattle.plain_graph.specs.Collecting.{LeadsToRow}
+use Rattle.plain_graph.proofs.Collects.{IsInRow, row_meets, row_pushes, row_rises, row_weighed}
+use Rattle.plain_graph.proofs.parts.push_row.Goals as goal
+
+pub push_edge-requires-clause-weighed : goal.push_edge-requires-clause-weighed
+push_edge-requires-clause-weighed c =
+    let m = c.args.vertices.now in
+    let key = c.vertex-key.result.key in
+    let root = (row_at c.args.scan.now 0).key in
+    let found : get nat_cmp m key ≡ Some c.in-Some.edges.now = search rules in
+    let before = rw c.in-Some-2.ensures.steps at c.loop-to.invariant in
+    row_weighed m c.requires.rises c.requires.sound c.in-Some.edges.now key found c.args.row root c.loop-to.numbers c.loop-to.scan (c.in-Some-2.to.now, c.in-Some-2.weight.now) c.next.new.self before
+
+pub push_edge-requires-clause-rising : goal.push_edge-requires-clause-rising
+push_edge-requires-clause-rising c =
+    let m = c.args.vertices.now in
+    let key = c.vertex-key.result.key in
+    let root = (row_at c.args.scan.now 0).key in
+    let found : get nat_cmp m key ≡ Some c.in-Some.edges.now = search rules in
+    let before = rw c.in-Some-2.ensures.steps at c.loop-to.invariant in
+    let met = row_meets m c.requires.rises c.requires.sound c.in-Some.edges.now key found c.args.row root c.loop-to.numbers c.meet.new.numbers c.loop-to.scan c.meet.new.scan (c.in-Some-2.to.now, c.in-Some-2.weight.now) c.next.new.self before
+    c.in_ok-target.ensures.meets c.in_ok-target.ensures.numbering c.in_ok-target.ensures.indexed in
+    row_rises m c.requires.rises c.requires.sound c.in-Some.edges.now key found c.args.row root c.meet.new.numbers c.meet.new.scan (c.in-Some-2.to.now, c.in-Some-2.weight.now) c.next.new.self met
+
+pub loop-to-preserved : goal.loop-to-preserved
+loop-to-preserved c =
+    let m = c.args.vertices.now in
+    let key = c.vertex-key.result.key in
+    let root = (row_at c.args.scan.now 0).key in
+    let found : get nat_cmp m key ≡ Some c.in-Some.edges.now = search rules in
+    let before = rw c.in-Some-2.ensures.steps at c.loop-to.invariant in
+    let met = row_meets m c.requires.rises c.requires.sound c.in-Some.edges.now key found c.args.row root c.loop-to.numbers c.meet.new.numbers c.loop-to.scan c.meet.new.scan (c.in-Some-2.to.now, c.in-Some-2.weight.now) c.next.new.self before
+    c.in_ok-target.ensures.meets c.in_ok-target.ensures.numbering c.in_ok-target.ensures.indexed in
+    let row = rw c.in-Some-3.is at c.in_ok-target.ensures.row in
+    let edge : EdgeRow = record { life = record { index = 0; tag = 0 }; link = 0; key = c.in-Some-2.to.now; weight = c.in-Some-2.weight.now; target = Some c.in-Some-3.target } in
+    let leads : LeadsToRow c.meet.new.scan edge = record { row = c.in-Some-3.target; target = refl; within = row.0; key = row.1 } in
+    row_pushes m c.requires.rises c.requires.sound c.in-Some.edges.now key found c.args.row root c.meet.new.numbers c.meet.new.scan c.push_edge.new.self edge (c.in-Some-2.to.now, c.in-Some-2.weight.now) c.next.new.self met
+    c.edges.ensures.valid leads refl c.push_edge.ensures.pushed c.push_edge.ensures.last

@@ -1,0 +1,76 @@
+-- How a scan collects the part of a graph that is reached from a key: row 0 is that key's, and each key to which an
+-- edge leads from a row gets the next row when it is met first.
+use Rattle.std.specs.Prelude.{◌≡◌, ℕ, ◌<◌, ◌≤◌, List, [], length, map, All, Option, Some, None}
+use Rattle.std.specs.Ordering.{nat_cmp}
+use Rattle.std.specs.BTreeMap.{BTreeMap, get}
+use Rattle.scan_record.specs.declared.rows.EdgeRow.{EdgeRow}
+use Rattle.scan_record.specs.Scan.{ScanValue, row_at, edges_of, with_vertex}
+use Rattle.graph_kinds.specs.Path.{IsPath}
+use Rattle.plain_graph.specs.Kept.{Edges, Vertices, graph_of}
+
+-- the numbers of rows by their keys. A number counts only where the row that it names has the key
+abbrev pub Numbers : Type 0
+Numbers = BTreeMap ℕ ℕ
+
+-- each row's number is found at its key
+abbrev pub IsNumbering : Numbers → ScanValue → Type 0
+IsNumbering numbers s = (k : ℕ) → k < length s.rows → get nat_cmp numbers (row_at s k).key ≡ Some k
+
+-- each row's life has the row's number as its index
+abbrev pub IsIndexed : ScanValue → Type 0
+IsIndexed s = (k : ℕ) → k < length s.rows → (row_at s k).life.index ≡ k
+
+-- the scan with one more row of this key, whose life has the row's number as its index
+abbrev pub with_key : ScanValue → ℕ → ScanValue
+with_key s key = with_vertex s (record { index = length s.rows; tag = 1 }) key
+
+-- the rows and edges are as before, and a row that is new has the key
+pub record Meets (old new : ScanValue) (key : ℕ) : Type 0 where
+  pub longer : length old.rows ≤ length new.rows
+  pub rows : (k : ℕ) → k < length old.rows → row_at new k ≡ row_at old k
+  pub fresh : (k : ℕ) → length old.rows ≤ k → k < length new.rows → (row_at new k).key ≡ key
+  pub edges : new.edges ≡ old.edges
+  pub started : new.started ≡ old.started
+  pub next : new.next ≡ old.next
+  pub keys : new.keys ≡ old.keys
+  pub ends : new.ends ≡ old.ends
+
+-- what an edge row tells of its edge: the key of its target, and its weight
+abbrev pub told : EdgeRow → ℕ × ℕ
+told e = (e.key, e.weight)
+
+-- the edges out of a vertex that may not be there, as a list
+abbrev pub edge_list : Option Edges → List (ℕ × ℕ)
+edge_list None = []
+edge_list (Some edges) = edges.entries
+
+-- the edges out of the vertex with a key
+abbrev pub edges_at : Vertices → ℕ → List (ℕ × ℕ)
+edges_at m k = edge_list (get nat_cmp m k)
+
+-- an edge row leads to the row that has its key
+pub record LeadsToRow (s : ScanValue) (e : EdgeRow) : Type 0 where
+  pub row : ℕ
+  pub target : e.target ≡ Some row
+  pub within : row < length s.rows
+  pub key : (row_at s row).key ≡ e.key
+
+-- a path leads from one key to another
+pub record IsReached (m : Vertices) (a b : ℕ) : Type 0 where
+  pub path : List ℕ
+  pub is_path : IsPath (graph_of m) a b path
+
+-- a part of the graph was collected: each row's key is reached from that of row 0, the first n rows have the edges of
+-- their vertices, the edges of row `at` are next, and each edge leads to its row
+pub record IsCollected (m : Vertices) (numbers : Numbers) (s : ScanValue) (n at : ℕ) : Type 0 where
+  pub some : 0 < length s.rows
+  pub within : n ≤ length s.rows
+  pub numbering : IsNumbering numbers s
+  pub indexed : IsIndexed s
+  pub reached : (k : ℕ) → k < length s.rows → IsReached m (row_at s 0).key (row_at s k).key
+  pub next : s.next ≡ at
+  pub started : s.started ≡ at
+  pub done : (k : ℕ) → k < n → map told (edges_of s (row_at s k)) ≡ edges_at m (row_at s k).key
+  pub targets : All (LeadsToRow s) s.edges
+  pub no_keys : s.keys ≡ []
+  pub no_ends : s.ends ≡ []
