@@ -8,3 +8,4 @@ pub mod TextLists
 pub mod TextPieces
 pub mod TextWrites
 pub mod Shown
+pub mod GraphLines

@@ -112,8 +112,11 @@ pub(crate) fn give_text<K: Sink>(sink: &mut K, text: &[u8]) -> Result<(), WriteF
     Ok(())
 }
 
-/// The number after a space.
-fn give_spaced<K: Sink>(sink: &mut K, number: u64) -> Result<(), WriteFailed>
+/// Gives the sink a number after a space. O(digits), takes no memory.
+///
+/// # Errors
+/// `WriteFailed` only where the sink's count of faults rose; what the sink took is a prefix of the text.
+pub fn give_spaced<K: Sink>(sink: &mut K, number: u64) -> Result<(), WriteFailed>
     ensures { Gives K.taken K.faults sink.old sink.new (32 ∷ decimal number) result }
 {
     give_text(sink, b" ")?;

@@ -1,7 +1,6 @@
 -- A text that is given to a sink piece by piece: what was given so far, and what is left.
 use Rattle.std.proofs.Common.{◌≡◌, ℕ, List, [], ◌∷◌, ◌++◌, refl, sym, ◌∙◌, append-nil, append_assoc}
 use Rattle.std.specs.Prelude.{Option, Result, Ok, Err, IsErr, flat_map, codes}
-use Rattle.std.specs.Fmt.{decimal}
 use Rattle.std.proofs.lemmas.List.Concat.{flat_map-append}
 use Rattle.op_text.specs.Gives.{Gives}
 use Rattle.op_text.specs.Text.{line, spaced, edge_line}
@@ -34,22 +33,6 @@ module _ {K : Type 0} {E : Type 0} {taken : K → Option (List ℕ)} {faults : K
 -- the lines of the pairs of a vertex and of those behind it
 pub edge_lines-cons : (v : ℕ × Edges) (vs : List (ℕ × Edges)) → flat_map edge_line (flat_map pairs_from (v ∷ vs)) ≡ flat_map edge_line (pairs_from v) ++ flat_map edge_line (flat_map pairs_from vs)
 edge_lines-cons v vs = flat_map-append edge_line (pairs_from v) (flat_map pairs_from vs)
-
--- the line of a pair, as its pieces are given
-abbrev pub behind_to : ℕ → List ℕ
-behind_to w = (32 ∷ decimal w) ++ codes "\n"
-
-abbrev pub behind_from : ℕ → ℕ → List ℕ
-behind_from b w = (32 ∷ decimal b) ++ behind_to w
-
-abbrev pub behind_word : ℕ → ℕ → ℕ → List ℕ
-behind_word a b w = (32 ∷ decimal a) ++ behind_from b w
-
-regroup : (x y z w n : List ℕ) → x ++ (y ++ (z ++ (w ++ n))) ≡ (x ++ (y ++ (z ++ (w ++ [])))) ++ n
-regroup x y z w n = simp (append_assoc, append-nil)
-
-pub edge_line-pieces : (a b w : ℕ) → codes "edge" ++ behind_word a b w ≡ edge_line ((a, b), w)
-edge_line-pieces a b w = regroup (codes "edge") (32 ∷ decimal a) (32 ∷ decimal b) (32 ∷ decimal w) (codes "\n")
 
 -- the line of the keys, as its pieces are given
 pub vertices_line-pieces : (ks : List ℕ) → codes "vertices" ++ (spaced ks ++ codes "\n") ≡ line (codes "vertices" ++ spaced ks)

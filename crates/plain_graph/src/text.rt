@@ -1,10 +1,9 @@
 //! The text of a graph: the line of its keys, and a line for each edge.
 //!
-//! The maps have keys and edges in the order of the text, so each is written as it is met. What each piece comes
-//! to is `Gives` of `op_text`.
+//! The maps have keys and edges in the order of the text, so each is written as it is met. Numbers and lines of edges
+//! are spelled by `op_text`; what each piece comes to is its `Gives`.
 
-ghost use Rattle.std.specs.Prelude.{ℕ, ◌≤◌, ◌∷◌, ◌++◌, OnOk, OnErr, codes, flat_map};
-ghost use Rattle.std.specs.Fmt.{decimal};
+ghost use Rattle.std.specs.Prelude.{ℕ, ◌≤◌, ◌++◌, OnOk, OnErr, codes, flat_map};
 ghost use Rattle.std.specs.BTreeMap.{keys};
 ghost use Rattle.graph_kinds.specs.Stream.{Rose, Puts, PutsSome};
 ghost use Rattle.op_text.specs.Gives.{Gives};
@@ -14,7 +13,7 @@ ghost use Rattle.plain_graph.specs.Kept.{pairs_from, pairs_in};
 use crate::graph::PlainGraph;
 use crate::maps::{Edges, Vertices};
 use graph_kinds::Sink;
-use op_text::{WriteFailed, write_number, write_text};
+use op_text::{WriteFailed, give_edge_line, give_spaced, write_text};
 
 impl PlainGraph {
     /// Gives the sink the text of the graph: the line `vertices` with each key by rising key, and then a line
@@ -55,7 +54,7 @@ fn give_all_spaced<K: Sink>(sink: &mut K, vertices: &Vertices) -> Result<(), Wri
     ensures { Gives K.taken K.faults sink.old sink.new (spaced (keys vertices.now)) result }
 {
     for key in vertices.keys() {
-        give_spaced(sink, *key)?;
+        give_spaced(sink, *key as u64)?;
     }
     Ok(())
 }
@@ -75,28 +74,9 @@ fn give_edges_from<K: Sink>(sink: &mut K, from: u32, edges: &Edges) -> Result<()
     ensures { Gives K.taken K.faults sink.old sink.new (flat_map edge_line (pairs_from (from, edges.now))) result }
 {
     for (to, weight) in edges {
-        give_edge(sink, from, *to, *weight)?;
+        give_edge_line(sink, from, *to, *weight)?;
     }
     Ok(())
-}
-
-/// The line of an edge.
-fn give_edge<K: Sink>(sink: &mut K, from: u32, to: u32, weight: u32) -> Result<(), WriteFailed>
-    ensures { Gives K.taken K.faults sink.old sink.new (edge_line ((from, to), weight)) result }
-{
-    give_text(sink, b"edge")?;
-    give_spaced(sink, from)?;
-    give_spaced(sink, to)?;
-    give_spaced(sink, weight)?;
-    give_text(sink, b"\n")
-}
-
-/// The number after a space.
-fn give_spaced<K: Sink>(sink: &mut K, number: u32) -> Result<(), WriteFailed>
-    ensures { Gives K.taken K.faults sink.old sink.new (32 ∷ decimal number) result }
-{
-    give_text(sink, b" ")?;
-    give_number(sink, number)
 }
 
 /// The text, with its contract in one record.
@@ -104,11 +84,4 @@ fn give_text<K: Sink>(sink: &mut K, text: &[u8]) -> Result<(), WriteFailed>
     ensures { Gives K.taken K.faults sink.old sink.new text.now result }
 {
     write_text(sink, text)
-}
-
-/// The number in decimal, with its contract in one record.
-fn give_number<K: Sink>(sink: &mut K, number: u32) -> Result<(), WriteFailed>
-    ensures { Gives K.taken K.faults sink.old sink.new (decimal number) result }
-{
-    write_number(sink, number as u64)
 }

@@ -1,7 +1,7 @@
 use Rattle.op_text.proofs.TextWrites.{gives-then, gives-stop, gives-as}
-use Rattle.plain_graph.proofs.Texts.{behind_word, behind_from, behind_to, edge_line-pieces}
+use Rattle.op_text.proofs.GraphLines.{behind_word, behind_from, behind_to, edge_line-pieces}
 use Rattle.std.specs.Prelude.{codes}
-use Rattle.plain_graph.proofs.text.give_edge.Goals as goal
+use Rattle.op_text.proofs.graph_lines.give_edge_line.Goals as goal
 
 pub returns-in_err-give_text : goal.returns-in_err-give_text
 returns-in_err-give_text g c = gives-as (edge_line-pieces c.args.from c.args.to c.args.weight)

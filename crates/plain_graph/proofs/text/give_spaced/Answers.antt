@@ -1,5 +1,0 @@
-use Rattle.op_text.proofs.TextWrites.{gives-then}
-use Rattle.plain_graph.proofs.text.give_spaced.Goals as goal
-
-pub returns : goal.returns
-returns g c = gives-then c.in_ok-give_text.ensures c.give_number.ensures
