@@ -48,9 +48,9 @@ fn copied(alloc: Global, outcome: Outcome, scan: &Scan) -> Result<Answer, Memory
 }
 
 impl PlainGraph {
-    /// Answers a call, and makes its change. O(log V + log E); `RemoveVertex` costs O(log V) and the vertex's
-    /// out-degree where no edge is left behind its own, else one look-up for each vertex, O(V log E). `Reach`,
-    /// `Levels` and `Cheapest` cost O((V + E) log V). A cost that is answered is below 2^48.
+    /// Answers a call, and makes its change. O(log V + log d); `RemoveVertex` costs O((1 + degree) log V), in-edges
+    /// counted. `Reach`, `Levels` and `Cheapest` cost O(part · log V) for the vertices and edges that are reached. A
+    /// cost that is answered is below 2^48.
     ///
     /// # Errors
     /// `Memory` where there is no room for a new vertex or edge, or for the search of a path; the graph is

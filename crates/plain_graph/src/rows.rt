@@ -14,8 +14,8 @@ use graph_kinds::{Answer, Memory, Row};
 use std::alloc::Global;
 
 /// The answers to the rows in their order, from the empty graph, and the graph after the last. Costs are below 2^48.
-/// O(n V log E) for n rows that add, remove and look up, O(n log n) where none of them adds an edge, and
-/// O((V + E) log V) for each row that asks for a path or for levels.
+/// O(n log n) for n rows that add, remove and look up: a removal of a vertex takes out no edge that wasn't added. To
+/// it comes O(part · log V) for each row that asks for a path or for levels.
 ///
 /// # Errors
 /// `Memory` where there is no room for the graph, the answers or the search of a path.
