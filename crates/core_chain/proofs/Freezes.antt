@@ -1,16 +1,16 @@
 -- Freezing goes from the head on, one word after another, and at the end nothing on the chain can change.
-use Rattle.std.proofs.Common.{◌≡◌, ◌≢◌, ℕ, sym, ap, ◌∙◌, subst, arith}
+use Rattle.std.proofs.Common.{◌≡◌, ◌≢◌, ℕ, sym, ap, ◌∙◌, subst, arith, inl}
 use Rattle.packed_link.specs.Link.{nowhere}
 use Rattle.core_chain.specs.Chain.{Chain, Position, Head, Node, IsOn, IsChain, Precedes, rank_of}
 use Rattle.core_chain.specs.Steps.{SetsMark, Freezes, Untouched, IsFrozenTo}
-use Rattle.core_chain.specs.Steps.{Step, insert, mark, unlink, freeze_head, freeze}
-use Rattle.core_chain.proofs.Orders.{if_same, by_rank, LeadsTo, rank_of-changed}
+use Rattle.core_chain.specs.Steps.{Step, insert, mark, replace, unlink, freeze_head, freeze}
+use Rattle.core_chain.proofs.Orders.{if_same, by_order, LeadsTo, rank_of-changed, since_of-changed, before_still}
 use Rattle.core_chain.proofs.Marks.{IsOn-back, Keeps-marked, next-marked}
 
 -- only the head doesn't stand behind the head
 frozen_head : (d : Chain) → d.mark Head ≡ 1 → (q : Position) → (Precedes d Head q → ⊥) → d.mark q ≡ 1
 frozen_head d marked Head h = marked
-frozen_head d marked (Node x) h = absurd (h (omega arith))
+frozen_head d marked (Node x) h = absurd (h (inl (omega arith)))
 
 -- the frozen head is a frozen part
 pub IsFrozenTo-head : (c d : Chain) → SetsMark c d Head → IsFrozenTo d Head
@@ -28,11 +28,10 @@ module _ (c d : Chain) (p : Position) (x : ℕ) (chain : IsChain c) (step : Free
   -- what stands no further than the node is the node, or was frozen before
   marks : (q : Position) → IsOn c q → (Precedes c (Node x) q → ⊥) → d.mark q ≡ 1
   marks q on not_behind =
-      let after = there.1 in
-      let led : rank_of c (Node (c.next p)) ≡ rank_of c (Node x) = ap (λ (y : ℕ). rank_of c (Node y)) step.led in
-      by_rank c q (Node x) (λ e. ap d.mark (chain.alone q (Node x) on there.0 e) ∙ step.sets.marked)
+      by_order c q (Node x) chain on there.0 (λ e. ap d.mark e ∙ step.sets.marked)
       (λ low. (Keeps-marked c d (Node x) chain step.sets).marks q
-      (step.frozen.marks q on (λ f. absurd (chain.gap p q step.frozen.present on f (omega arith)))))
+      (step.frozen.marks q on (λ f. chain.gap p q step.frozen.present on f
+      (subst (λ (y : ℕ). Precedes c q (Node y)) (sym step.led) low))))
       (λ high. absurd (not_behind high))
 
   -- the frozen part reaches to the node
@@ -40,9 +39,12 @@ module _ (c d : Chain) (p : Position) (x : ℕ) (chain : IsChain c) (step : Free
   IsFrozenTo-node = record {
     present = step.sets.nodes x ∙ there.0;
     marks = λ q on not_behind.
-        let rank_q = rank_of-changed c d (Node x) step.sets.words q in
-        let rank_x = rank_of-changed c d (Node x) step.sets.words (Node x) in
-        marks q (IsOn-back c d step.sets.nodes q on) (λ h. not_behind (omega arith));
+        let words = step.sets.words in
+        let on' = IsOn-back c d step.sets.nodes q on in
+        marks q on' (λ h.
+        not_behind (before_still c d (Node x) q (rank_of-changed c d (Node x) words (Node x))
+        (rank_of-changed c d (Node x) words q) (since_of-changed c d (Node x) words (Node x) there.0)
+        (since_of-changed c d (Node x) words q on') h));
   }
 
 -- where the frozen part ends the chain, each word is marked
@@ -55,6 +57,7 @@ marked_before : (c d : Chain) (p : Position) → SetsMark c d p → c.mark p ≡
 marked_before c d p step old = record {
   nodes = step.nodes;
   key = λ x on. step.words.key x;
+  since = step.words.since;
   next = λ q on. next-marked c d p step q;
   mark = λ q on.
       if_same q p (λ at. ap d.mark at ∙ (step.marked ∙ (sym old ∙ ap c.mark (sym at)))) (λ ne. step.words.mark q ne);
@@ -68,6 +71,9 @@ Untouched-frozen c d p chain frozen none (insert at node step) =
     let b = step.can.unmarked in absurd (omega arith)
 Untouched-frozen c d p chain frozen none (mark node step) =
     marked_before c d (Node node) step.sets (mark-at_end c p chain frozen none (Node node) step.present)
+Untouched-frozen c d p chain frozen none (replace node fresh step) =
+    let a = mark-at_end c p chain frozen none (Node node) step.can.present in
+    let b = step.can.unmarked in absurd (omega arith)
 Untouched-frozen c d p chain frozen none (unlink at node step) =
     let a = mark-at_end c p chain frozen none at step.can.present in
     let b = step.can.unmarked in absurd (omega arith)

@@ -1,159 +1,295 @@
--- A node that is inserted between its neighbours keeps the chain.
-use Rattle.std.proofs.Common.{◌≡◌, ◌≢◌, ℕ, sym, ap, ◌∙◌, subst, arith, IsTrue}
+-- A node that is put behind a word, between its neighbours, keeps the chain: it is inserted, or replaces the node of its
+-- key.
+use Rattle.std.proofs.Common.{◌≡◌, ◌≢◌, ℕ, ◌<◌, sym, ap, ◌∙◌, subst, arith, IsTrue, inl, inr}
 use Rattle.packed_link.specs.Link.{nowhere}
-use Rattle.core_chain.specs.Chain.{Chain, Position, Head, Node, IsOn, IsChain, Precedes, rank_of}
-use Rattle.core_chain.specs.Steps.{Inserts, IsFrozenTo, Keeps}
-use Rattle.core_chain.proofs.Orders.{if_same, if_equal, by_rank, LeadsTo, NotPast, IsChain-by}
-use Rattle.core_chain.proofs.Orders.{rank_of-changed, IsBelow-precedes}
+use Rattle.core_chain.specs.Chain.{Chain, Position, Head, Node, IsOn, IsChain, Precedes, rank_of, since_of}
+use Rattle.core_chain.specs.Steps.{ChangesOnly, Inserts, Replaces, Joins, IsFrozenTo, Keeps}
+use Rattle.core_chain.proofs.Orders.{if_same, if_equal, by_order, LeadsTo, NotPast, RisesBehind, IsChain-by}
+use Rattle.core_chain.proofs.Orders.{rank_of-changed, since_of-changed, before_still, before_same, before_both, before_then}
+use Rattle.core_chain.proofs.Orders.{IsBelow-rank}
 
-module _ (c d : Chain) (p : Position) (n : ℕ) (chain : IsChain c) (step : Inserts c d p n) where
-  present : IsOn c p
-  present = step.can.passes.present
+-- a node is put behind an unmarked word: it stands behind the word, and its key is less than that of the successor
+pub record Puts (c d : Chain) (p : Position) (n : ℕ) : Type 0 where
+  pub present : IsOn c p
+  pub unmarked : c.mark p ≡ 0
+  pub named : n ≢ nowhere
+  pub absent : IsOn c (Node n) → ⊥
+  pub filled : c.next (Node n) ≡ c.next p
+  pub above : Precedes d p (Node n)
+  pub rises : d.mark p ≡ 0 → rank_of d p < rank_of d (Node n)
+  pub below : c.next p ≢ nowhere → rank_of d (Node n) < rank_of d (Node (c.next p))
+  pub leads : d.next p ≡ n
+  pub words : ChangesOnly c d p
+  pub nodes : Joins c.on d.on n
 
-  above : Precedes c p (Node n)
-  above = IsBelow-precedes c p n step.can.passes.above
-
+module _ (c d : Chain) (p : Position) (n : ℕ) (chain : IsChain c) (step : Puts c d p n) where
   rank : (q : Position) → rank_of d q ≡ rank_of c q
   rank q = rank_of-changed c d p step.words q
 
+  since : (q : Position) → IsOn c q → since_of d q ≡ since_of c q
+  since q on = since_of-changed c d p step.words q on
+
   apart : Node n ≢ p
-  apart e = step.can.absent (subst (IsOn c) (sym e) present)
+  apart e = step.absent (subst (IsOn c) (sym e) step.present)
+
+  -- words of the old chain stand in the order in which they stood
+  forth : (q r : Position) → IsOn c q → IsOn c r → Precedes c q r → Precedes d q r
+  forth q r on_q on_r before = before_still c d q r (rank q) (rank r) (since q on_q) (since r on_r) before
+
+  still : (q r : Position) → IsOn c q → IsOn c r → Precedes d q r → Precedes c q r
+  still q r on_q on_r before =
+      before_still d c q r (sym (rank q)) (sym (rank r)) (sym (since q on_q)) (sym (since r on_r)) before
 
   back : (q : Position) → IsOn d q → q ≢ Node n → IsOn c q
   back Head on ne = tt
   back (Node x) on ne = sym (step.nodes.others x (λ e. ne (ap Node e))) ∙ on
 
   -- what was on the chain is on it
-  pub IsOn-inserted : (q : Position) → IsOn c q → IsOn d q
-  IsOn-inserted Head on = tt
-  IsOn-inserted (Node x) on =
-      if_equal x n (λ e. absurd (step.can.absent (subst (λ (y : ℕ). IsTrue (c.on y)) e on)))
+  pub IsOn-put : (q : Position) → IsOn c q → IsOn d q
+  IsOn-put Head on = tt
+  IsOn-put (Node x) on =
+      if_equal x n (λ e. absurd (step.absent (subst (λ (y : ℕ). IsTrue (c.on y)) e on)))
       (λ ne. step.nodes.others x ne ∙ on)
 
-  -- what stood behind the word stands behind the node
-  behind : (r : Position) → IsOn c r → Precedes c p r → (c.next p ≢ nowhere) × Precedes c (Node n) r
+  -- what stood behind the word stands behind the node, with a greater key
+  behind : (r : Position) → IsOn c r → Precedes c p r → (c.next p ≢ nowhere) × (rank_of d (Node n) < rank_of d r)
   behind r on after =
-      let some : c.next p ≢ nowhere = chain.last p r present on after in
-      let low = step.can.passes.below some in
-      let high = chain.gap p r present on after in
-      (some, omega (arith, high))
+      let some : c.next p ≢ nowhere = chain.last p r step.present on after in
+      let low = step.below some in
+      let next = (chain.leads p step.present some).0 in
+      let a = rank (Node (c.next p)) in
+      let b = rank r in (
+        some,
+        by_order c (Node (c.next p)) r chain next on
+            (λ e. let f : rank_of d (Node (c.next p)) ≡ rank_of d r = ap (rank_of d) e in omega arith)
+            (λ low'. omega arith) (λ high. absurd (chain.gap p r step.present on after high)),
+      )
 
   -- what stands before the node stands at the word or before it
-  ahead : (q : Position) → IsOn c q → Precedes c q (Node n) → q ≢ p → Precedes c q p
+  ahead : (q : Position) → IsOn c q → Precedes d q (Node n) → q ≢ p → Precedes c q p
   ahead q on before ne =
-      by_rank c q p (λ e. absurd (ne (chain.alone q p on present e))) (λ low. low)
+      by_order c q p chain on step.present (λ e. absurd (ne e)) (λ low. low)
       (λ high. let f = (behind q on high).1 in absurd (omega arith))
 
   -- no other word of the old chain stands at the node's place of the order
-  lone : (q : Position) → IsOn c q → rank_of c q ≢ rank_of c (Node n)
-  lone q on same = let low = above in let a = (behind q on (omega arith)).1 in omega arith
+  lone : (q : Position) → IsOn c q → rank_of d q ≡ rank_of d (Node n) → since_of d q ≡ since_of d (Node n) → ⊥
+  lone q on same same' =
+      let low = step.above in
+      by_order c q p chain on step.present
+      (λ e. before_same d p q (grind arith) (sym e))
+      (λ before. let f = forth q p on step.present before in omega arith)
+      (λ high. let f = (behind q on high).1 in omega arith)
 
   -- where the two words lead that were written last
   to_p : (q : Position) → q ≡ p → n ≡ d.next q
   to_p q at = sym step.leads ∙ ap d.next (sym at)
 
   to_n : (q : Position) → q ≡ Node n → c.next p ≡ d.next q
-  to_n q at = sym (step.words.next (Node n) apart ∙ step.can.filled) ∙ ap d.next (sym at)
+  to_n q at = sym (step.words.next (Node n) apart ∙ step.filled) ∙ ap d.next (sym at)
 
   leads : (q : Position) → IsOn d q → d.next q ≢ nowhere → LeadsTo d q (d.next q)
   leads q on some =
-      let rank_q = rank q in
       if_same q p (λ at.
-      let a : rank_of c q ≡ rank_of c p = ap (rank_of c) at in
-      let b = rank (Node n) in
-      let low = above in
-      subst (LeadsTo d q) (to_p q at) (step.nodes.joins, omega arith)) (λ not_p.
+      subst (LeadsTo d q) (to_p q at)
+      (step.nodes.joins, subst (λ (r : Position). Precedes d r (Node n)) (sym at) step.above)) (λ not_p.
       if_same q (Node n) (λ at.
-      let a : rank_of c q ≡ rank_of c (Node n) = ap (rank_of c) at in
-      let b = rank (Node (c.next p)) in
       let some_p : c.next p ≢ nowhere = λ e. some (sym (to_n q at) ∙ e) in
-      let high = step.can.passes.below some_p in
-      let next = chain.leads p present some_p in
-      subst (LeadsTo d q) (to_n q at) (IsOn-inserted (Node (c.next p)) next.0, omega arith)) (λ not_n.
+      let next = chain.leads p step.present some_p in
+      subst (LeadsTo d q) (to_n q at) (
+        IsOn-put (Node (c.next p)) next.0,
+        subst (λ (r : Position). Precedes d r (Node (c.next p))) (sym at) (inl (step.below some_p)),
+      )) (λ not_n.
       let to : c.next q ≡ d.next q = sym (step.words.next q not_p) in
-      let b = rank (Node (c.next q)) in
       let next = chain.leads q (back q on not_n) (λ e. some (sym to ∙ e)) in
-      let after = next.1 in
-      subst (LeadsTo d q) to (IsOn-inserted (Node (c.next q)) next.0, omega arith)))
+      subst (LeadsTo d q) to
+      (IsOn-put (Node (c.next q)) next.0, forth q (Node (c.next q)) (back q on not_n) next.0 next.1)))
 
   upto : (q r : Position) → IsOn d q → IsOn d r → Precedes d q r → NotPast d r (d.next q)
   upto q r on_q on_r before =
-      let rank_q = rank q in
-      let rank_r = rank r in
-      let rank_n = rank (Node n) in
-      let higher = above in
       if_same q p (λ at.
-      let a : rank_of c q ≡ rank_of c p = ap (rank_of c) at in
+      let before_p : Precedes d p r = subst (λ (s : Position). Precedes d s r) at before in
       subst (NotPast d r) (to_p q at) (
-        step.can.named,
-        if_same r (Node n) (λ e. let b : rank_of d r ≡ rank_of d (Node n) = ap (rank_of d) e in λ f. omega arith)
-            (λ ne. let b = (behind r (back r on_r ne) (omega arith)).1 in λ f. omega arith),
+        step.named,
+        if_same r (Node n) (λ e. λ f. before_same d r (Node n) f e)
+            (λ ne.
+            let on = back r on_r ne in
+            let high = (behind r on (still p r step.present on before_p)).1 in
+            λ f. omega arith),
       )) (λ not_p.
       if_same q (Node n) (λ at.
-      let a : rank_of c q ≡ rank_of c (Node n) = ap (rank_of c) at in
-      let not_n : r ≢ Node n = λ e. let b : rank_of c r ≡ rank_of c (Node n) = ap (rank_of c) e in omega arith in
+      let before_n : Precedes d (Node n) r = subst (λ (s : Position). Precedes d s r) at before in
+      let not_n : r ≢ Node n = λ e. before_same d (Node n) r before_n (sym e) in
       let on = back r on_r not_n in
-      let b = chain.gap p r present on (omega arith) in
-      let e = rank (Node (c.next p)) in
-      subst (NotPast d r) (to_n q at) ((behind r on (omega arith)).0, λ f. b (omega arith))) (λ not_n.
+      let after = still p r step.present on (before_then d p (Node n) r step.above before_n) in
+      let some = (behind r on after).0 in
+      subst (NotPast d r) (to_n q at) (
+        some,
+        λ f.
+            chain.gap p r step.present on after
+            (still r (Node (c.next p)) on (chain.leads p step.present some).0 f),
+      )) (λ not_n.
       let on = back q on_q not_n in
-      let e = rank (Node (c.next q)) in
       subst (NotPast d r) (sym (step.words.next q not_p)) (if_same r (Node n) (λ at.
-      let a : rank_of c r ≡ rank_of c (Node n) = ap (rank_of c) at in
-      let low = ahead q on (omega arith) not_p in
-      let b = chain.gap q p on present low in
-      (chain.last q p on present low, λ f. b (omega arith))) (λ ne.
+      let before_n : Precedes d q (Node n) = subst (Precedes d q) at before in
+      let low = ahead q on before_n not_p in
+      let some = chain.last q p on step.present low in
+      let next = (chain.leads q on some).0 in (
+        some,
+        λ f.
+            let over = subst (λ (s : Position). Precedes d s (Node (c.next q))) at f in
+            chain.gap q p on step.present low
+            (still p (Node (c.next q)) step.present next (before_then d p (Node n) (Node (c.next q)) step.above over)),
+      ))
+      (λ ne.
       let on' = back r on_r ne in
-      let low : Precedes c q r = omega arith in
-      let b = chain.gap q r on on' low in
-      (chain.last q r on on' low, λ f. b (omega arith))))))
+      let low = still q r on on' before in
+      let some = chain.last q r on on' low in
+      (some, λ f. chain.gap q r on on' low (still r (Node (c.next q)) on' (chain.leads q on some).0 f))))))
 
-  alone : (q r : Position) → IsOn d q → IsOn d r → rank_of d q ≡ rank_of d r → q ≡ r
-  alone q r on_q on_r same =
-      let same' : rank_of c q ≡ rank_of c r = sym (rank q) ∙ (same ∙ rank r) in
+  alone : (q r : Position)
+      → IsOn d q → IsOn d r → rank_of d q ≡ rank_of d r → since_of d q ≡ since_of d r → q ≡ r
+  alone q r on_q on_r same same' =
       if_same q (Node n) (λ at.
       if_same r (Node n) (λ e. at ∙ sym e)
-      (λ ne. absurd (lone r (back r on_r ne) (sym same' ∙ ap (rank_of c) at)))) (λ not_n.
-      if_same r (Node n) (λ e. absurd (lone q (back q on_q not_n) (same' ∙ ap (rank_of c) e)))
-      (λ ne. chain.alone q r (back q on_q not_n) (back r on_r ne) same'))
+      (λ ne. absurd (lone r (back r on_r ne) (sym same ∙ ap (rank_of d) at) (sym same' ∙ ap (since_of d) at)))) (λ not_n.
+      if_same r (Node n)
+      (λ e. absurd (lone q (back q on_q not_n) (same ∙ ap (rank_of d) e) (same' ∙ ap (since_of d) e)))
+      (λ ne.
+      let on = back q on_q not_n in
+      let on' = back r on_r ne in
+      chain.alone q r on on' (sym (rank q) ∙ (same ∙ rank r)) (sym (since q on) ∙ (same' ∙ since r on'))))
+
+  rises : (q : Position) → IsOn d q → d.next q ≢ nowhere → RisesBehind d q (d.next q)
+  rises q on some =
+      if_same q p (λ at.
+      subst (RisesBehind d q) (to_p q at)
+      (subst (λ (r : Position). RisesBehind d r n) (sym at) step.rises)) (λ not_p.
+      if_same q (Node n) (λ at.
+      let some_p : c.next p ≢ nowhere = λ e. some (sym (to_n q at) ∙ e) in
+      subst (RisesBehind d q) (to_n q at)
+      (subst (λ (r : Position). RisesBehind d r (c.next p)) (sym at) (λ u. step.below some_p))) (λ not_n.
+      let to : c.next q ≡ d.next q = sym (step.words.next q not_p) in
+      subst (RisesBehind d q) to (λ u.
+      let a = rank q in
+      let b = rank (Node (c.next q)) in
+      let f = chain.rises q (back q on not_n) (sym (step.words.mark q not_p) ∙ u) (λ e. some (sym to ∙ e)) in
+      omega arith)))
 
   named : (x : ℕ) → IsOn d (Node x) → x ≢ nowhere
   named x on =
-      if_equal x n (λ e. λ none. step.can.named (sym e ∙ none))
+      if_equal x n (λ e. λ none. step.named (sym e ∙ none))
       (λ ne. chain.named x (sym (step.nodes.others x ne) ∙ on))
 
   -- the chain with the node is a chain
-  pub IsChain-inserted : IsChain d
-  IsChain-inserted = IsChain-by d named leads upto alone
+  pub IsChain-put : IsChain d
+  IsChain-put = IsChain-by d named leads upto alone rises
 
   -- what is frozen stays frozen
   frozen : (q : Position) → IsFrozenTo c q → IsFrozenTo d q
   frozen q old =
-      let rank_q = rank q in
-      let higher = above in
       -- the word that was changed is unmarked, so it stands behind the frozen part
       let unfrozen : (Precedes c q p → ⊥) → ⊥ = λ h.
-      let m = old.marks p present h in let u = step.can.unmarked in omega arith in
+      let m = old.marks p step.present h in let u = step.unmarked in omega arith in
       record {
-        present = IsOn-inserted q old.present;
+        present = IsOn-put q old.present;
         marks = λ r on not_behind.
-            let rank_r = rank r in
-            let not_behind' : Precedes c q r → ⊥ = λ h. not_behind (omega arith) in
             if_same r (Node n) (λ e.
-            let a : rank_of c r ≡ rank_of c (Node n) = ap (rank_of c) e in
-            absurd (unfrozen (λ h. not_behind (omega arith)))) (λ ne.
+            absurd (unfrozen (λ h.
+            not_behind (subst (Precedes d q) (sym e)
+            (before_then d q p (Node n) (forth q p old.present step.present h) step.above))))) (λ ne.
+            let on' = back r on ne in
+            let not_behind' : Precedes c q r → ⊥ = λ h. not_behind (forth q r old.present on' h) in
             let not_p : r ≢ p = λ e. unfrozen (λ h. not_behind' (subst (Precedes c q) (sym e) h)) in
-            step.words.mark r not_p ∙ old.marks r (back r on ne) not_behind');
+            step.words.mark r not_p ∙ old.marks r on' not_behind');
       }
 
   -- the word that was changed was unmarked
   not_marked : (q : Position) → c.mark q ≡ 1 → q ≢ p
-  not_marked q marked e = let a : c.mark q ≡ c.mark p = ap c.mark e in let b = step.can.unmarked in omega arith
+  not_marked q marked e = let a : c.mark q ≡ c.mark p = ap c.mark e in let b = step.unmarked in omega arith
 
-  -- inserting takes nothing back
-  pub Keeps-inserted : Keeps c d
-  Keeps-inserted = record {
+  -- putting a node takes nothing back
+  pub Keeps-put : Keeps c d
+  Keeps-put = record {
     marks = λ q marked. step.words.mark q (not_marked q marked) ∙ marked;
     links = λ q marked. step.words.next q (not_marked q marked);
     frozen = frozen;
   }
+
+module _ (c d : Chain) (p : Position) (n : ℕ) (chain : IsChain c) (step : Inserts c d p n) where
+  -- the node's key is greater than the word's
+  higher : rank_of d p < rank_of d (Node n)
+  higher =
+      let a = rank_of-changed c d p step.words p in
+      let b = rank_of-changed c d p step.words (Node n) in
+      let f = IsBelow-rank c p n step.can.passes.above in
+      omega arith
+
+  -- a node that is inserted is put behind the word
+  pub Puts-inserted : Puts c d p n
+  Puts-inserted = record {
+    present = step.can.passes.present;
+    unmarked = step.can.unmarked;
+    named = step.can.named;
+    absent = step.can.absent;
+    filled = step.can.filled;
+    above = inl higher;
+    rises = λ u. higher;
+    below = λ some.
+        let a = rank_of-changed c d p step.words (Node n) in
+        let b = rank_of-changed c d p step.words (Node (c.next p)) in
+        let f = step.can.passes.below some in
+        omega arith;
+    leads = step.leads;
+    words = step.words;
+    nodes = step.nodes;
+  }
+
+  -- what was on the chain is on it
+  pub IsOn-inserted : (q : Position) → IsOn c q → IsOn d q
+  IsOn-inserted = IsOn-put c d p n chain Puts-inserted
+
+  -- the chain with the node is a chain
+  pub IsChain-inserted : IsChain d
+  IsChain-inserted = IsChain-put c d p n chain Puts-inserted
+
+  -- inserting takes nothing back
+  pub Keeps-inserted : Keeps c d
+  Keeps-inserted = Keeps-put c d p n chain Puts-inserted
+
+module _ (c d : Chain) (x n : ℕ) (chain : IsChain c) (step : Replaces c d x n) where
+  -- a node that replaces another is put behind it
+  pub Puts-replaced : Puts c d (Node x) n
+  Puts-replaced =
+      let change = step.words in
+      let same : rank_of d (Node x) ≡ rank_of d (Node n) =
+      let a = change.key x in let b = change.key n in let e = step.can.key in omega arith in
+      record {
+        present = step.can.present;
+        unmarked = step.can.unmarked;
+        named = step.can.named;
+        absent = step.can.absent;
+        filled = step.can.filled;
+        above = inr (same, let a = change.since x step.can.present in let f = step.later in omega arith);
+        rises = λ u. let m = step.marked in absurd (omega arith);
+        below = λ some.
+            let f = chain.rises (Node x) step.can.present step.can.unmarked some in
+            let a = change.key (c.next (Node x)) in
+            let b = change.key n in
+            let e = step.can.key in
+            omega arith;
+        leads = step.leads;
+        words = step.words;
+        nodes = step.nodes;
+      }
+
+  -- what was on the chain is on it
+  pub IsOn-replaced : (q : Position) → IsOn c q → IsOn d q
+  IsOn-replaced = IsOn-put c d (Node x) n chain Puts-replaced
+
+  -- the chain with both nodes is a chain
+  pub IsChain-replaced : IsChain d
+  IsChain-replaced = IsChain-put c d (Node x) n chain Puts-replaced
+
+  -- replacing takes nothing back
+  pub Keeps-replaced : Keeps c d
+  Keeps-replaced = Keeps-put c d (Node x) n chain Puts-replaced

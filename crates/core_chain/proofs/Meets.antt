@@ -1,12 +1,13 @@
 -- A chain is what one meets from its head.
-use Rattle.std.proofs.Common.{◌≡◌, ◌≢◌, ◌⊎◌, ◌↔◌, ℕ, zero, suc, ◌+◌, ◌<◌, ◌≤◌, List, [], ◌∷◌, get_or}
+use Rattle.std.proofs.Common.{◌≡◌, ◌≢◌, ◌⊎◌, ◌↔◌, ℕ, zero, suc, ◌+◌, ◌*◌, ◌<◌, ◌≤◌, List, [], ◌∷◌, get_or}
 use Rattle.std.proofs.Common.{refl, sym, ap, ◌∙◌, subst, arith, ⊎_elim, inl, inr}
 use Rattle.std.specs.Prelude.{AllPairs, Contains}
 use Rattle.std.proofs.lemmas.List.Elements.{Contains-get_or}
 use Rattle.packed_link.specs.Link.{nowhere}
-use Rattle.core_chain.specs.Chain.{Chain, Position, Head, Node, IsOn, IsChain, Precedes, rank_of}
-use Rattle.core_chain.specs.Met.{Meets, Rises, IsMet}
-use Rattle.core_chain.proofs.Orders.{if_equal, by_rank, LeadsTo, NotPast, IsChain-by}
+use Rattle.core_chain.specs.Chain.{Chain, Position, Head, Node, IsOn, IsChain, Precedes, rank_of, since_of}
+use Rattle.core_chain.specs.Met.{Meets, Rises, RisesUnmarked, IsMet}
+use Rattle.core_chain.proofs.Orders.{if_equal, by_order, LeadsTo, NotPast, RisesBehind, IsChain-by}
+use Rattle.core_chain.proofs.Orders.{before_same, before_both, before_then}
 
 -- nothing is in no list
 Contains-none : (x : ℕ) → Contains [] x → ⊥
@@ -33,22 +34,21 @@ by_place x y xs at first later = ⊎_elim first later (Contains-cases x y xs at)
 Rises-behind : (c : Chain) (p : Position) (xs : List ℕ) (x : ℕ) → Rises c p xs → Contains xs x → Precedes c p (Node x)
 Rises-behind c p [] x rising at = absurd (Contains-none x at)
 Rises-behind c p (y ∷ ys) x rising at =
-    let first = rising.0 in
-    by_place x y ys at (λ e. let a : c.key y ≡ c.key x = ap c.key e in omega arith)
-    (λ later. let a = Rises-behind c (Node y) ys x rising.1 later in omega arith)
+    by_place x y ys at (λ e. subst (λ (z : ℕ). Precedes c p (Node z)) e rising.0)
+    (λ later. before_then c p (Node y) (Node x) rising.0 (Rises-behind c (Node y) ys x rising.1 later))
 
--- the first of the rising nodes has the least key
+-- the first of the rising nodes stands before the others
 first_least : (c : Chain) (p : Position) (y : ℕ) (ys : List ℕ) (x : ℕ)
-    → Rises c p (y ∷ ys) → Contains ys x → c.key y < c.key x
-first_least c p y ys x rising later = let a = Rises-behind c (Node y) ys x rising.1 later in omega arith
+    → Rises c p (y ∷ ys) → Contains ys x → Precedes c (Node y) (Node x)
+first_least c p y ys x rising later = Rises-behind c (Node y) ys x rising.1 later
 
 -- rising nodes are met once each
 Rises-once : (c : Chain) (p : Position) (xs : List ℕ) → Rises c p xs → AllPairs ◌≢◌ xs
 Rises-once c p [] rising i j d low high = absurd (omega arith)
 Rises-once c p (y ∷ ys) rising i zero d low high = absurd (omega arith)
 Rises-once c p (y ∷ ys) rising zero (suc j) d low high = λ e.
-    let a = first_least c p y ys (get_or ys j d) rising (Contains-get_or ys j d (omega arith)) in
-    let b : c.key y ≡ c.key (get_or ys j d) = ap c.key e in omega arith
+    before_same c (Node y) (Node (get_or ys j d))
+    (first_least c p y ys (get_or ys j d) rising (Contains-get_or ys j d (omega arith))) (ap Node e)
 Rises-once c p (y ∷ ys) rising (suc i) (suc j) d low high =
     Rises-once c (Node y) ys rising.1 i j d (omega arith) (omega arith)
 
@@ -64,22 +64,27 @@ met_behind c p [] chain on none =
 met_behind c p (y ∷ ys) chain on met =
     let some : c.next p ≢ nowhere = λ e. met.1 (sym met.0 ∙ e) in
     let first : LeadsTo c p y = subst (LeadsTo c p) met.0 (chain.leads p on some) in
-    let after = first.1 in
-    let rest = met_behind c (Node y) ys chain first.0 met.2 in
-    let led : c.key (c.next p) ≡ c.key y = ap c.key met.0 in (
+    let rest = met_behind c (Node y) ys chain first.0 met.2 in (
       (first.1, rest.0),
       λ x. (
         λ h.
-            let a = h.1 in
-            let b = chain.gap p (Node x) on h.0 h.1 in
-            by_rank c (Node y) (Node x)
-            (λ e. let at : Node y ≡ Node x = chain.alone (Node y) (Node x) first.0 h.0 e in Contains-here x y ys (cc))
+            by_order c (Node y) (Node x) chain first.0 h.0 (λ e. Contains-here x y ys (cc))
             (λ low. Contains-later x y ys ((rest.1 x).0 (h.0, low)))
-            (λ high. absurd (b (omega arith))),
+            (λ high. absurd (chain.gap p (Node x) on h.0 h.1
+            (subst (λ (z : ℕ). Precedes c (Node x) (Node z)) (sym met.0) high))),
         λ at. by_place x y ys at (λ e. subst (LeadsTo c p) e first)
-            (λ later. let g = (rest.1 x).1 later in let g1 = g.1 in (g.0, omega arith)),
+            (λ later. let g = (rest.1 x).1 later in (g.0, before_then c p (Node y) (Node x) first.1 g.1)),
       ),
     )
+
+-- where a word that is met is unmarked, the next key is greater
+met_rises : (c : Chain) (p : Position) (xs : List ℕ) → IsChain c → IsOn c p → Meets c p xs → RisesUnmarked c p xs
+met_rises c p [] chain on none = tt
+met_rises c p (y ∷ ys) chain on met =
+    let some : c.next p ≢ nowhere = λ e. met.1 (sym met.0 ∙ e) in
+    let next : IsOn c (Node y) = subst (λ (z : ℕ). IsOn c (Node z)) met.0 (chain.leads p on some).0 in
+    let led : c.key (c.next p) ≡ c.key y = ap c.key met.0 in
+    (λ u. let f = chain.rises p on u some in omega arith, met_rises c (Node y) ys chain next met.2)
 
 -- the nodes that one meets from the head of a chain are those on it
 pub IsMet-from_Meets : (c : Chain) (xs : List ℕ) → IsChain c → Meets c Head xs → IsMet c xs
@@ -88,8 +93,9 @@ IsMet-from_Meets c xs chain met =
     record {
       met = met;
       rising = all.0;
+      unmarked = met_rises c Head xs chain tt met;
       once = Rises-once c Head xs all.0;
-      exactly = λ x. (λ on. (all.1 x).0 (on, omega arith), λ at. ((all.1 x).1 at).0);
+      exactly = λ x. (λ on. (all.1 x).0 (on, inl (omega arith)), λ at. ((all.1 x).1 at).0);
     }
 
 -- one meets one list only
@@ -115,33 +121,63 @@ most-bound f (suc n) x low =
     if_equal x n (λ e. let a : f x ≡ f n = ap f e in omega arith)
     (λ ne. let a = most-bound f n x (omega arith) in omega arith)
 
--- the keys on a chain have a bound
-abbrev KeysUpto : Chain → ℕ → Type 0
-KeysUpto c bound = (x : ℕ) → IsOn c (Node x) → c.key x ≤ bound
+-- the keys and the steps on a chain have bounds
+abbrev IsWithin : Chain → ℕ → ℕ → Type 0
+IsWithin c bound last = (x : ℕ) → IsOn c (Node x) → (c.key x ≤ bound) × (c.since x ≤ last)
 
--- a word stands at most one place behind the greatest key
-rank_of-bound : (c : Chain) (bound : ℕ) → KeysUpto c bound → (p : Position) → IsOn c p → rank_of c p ≤ bound + 1
-rank_of-bound c bound keys Head on = omega arith
-rank_of-bound c bound keys (Node x) on = omega (arith, keys x on)
+-- where a word of the chain stands, as one number
+abbrev score : Chain → ℕ → Position → ℕ
+score c last p = rank_of c p * (last + 1) + since_of c p
 
--- from a word of a chain with bounded keys one meets some list
-met_within : (c : Chain) (bound steps : ℕ) (p : Position) → IsChain c → KeysUpto c bound → IsOn c p
-    → bound + 2 ≤ steps + rank_of c p → (xs : List ℕ) × Meets c p xs
-met_within c bound zero p chain keys on enough = absurd (omega (arith, rank_of-bound c bound keys p on))
-met_within c bound (suc steps) p chain keys on enough =
+since_within : (c : Chain) (bound last : ℕ) (p : Position) → IsWithin c bound last → IsOn c p → since_of c p ≤ last
+since_within c bound last Head within on = omega arith
+since_within c bound last (Node x) within on = (within x on).1
+
+rank_within : (c : Chain) (bound last : ℕ) (p : Position) → IsWithin c bound last → IsOn c p → rank_of c p ≤ bound + 1
+rank_within c bound last Head within on = omega arith
+rank_within c bound last (Node x) within on = omega (arith, (within x on).0)
+
+times : (a b n : ℕ) → a ≤ b → a * n ≤ b * n
+times a b n low = grind arith
+
+rises_by : (a s b t last : ℕ) → (a < b) ⊎ ((a ≡ b) × (s < t)) → s ≤ last → a * (last + 1) + s < b * (last + 1) + t
+rises_by a s b t last before within =
+    ⊎_elim (λ low. let f = times (a + 1) b (last + 1) (omega arith) in omega arith)
+    (λ same. let f : a * (last + 1) ≡ b * (last + 1) = ap (λ (k : ℕ). k * (last + 1)) same.0 in
+    let g = same.1 in omega arith) before
+
+-- a later word has a greater number
+score-rises : (c : Chain) (last : ℕ) (p q : Position)
+    → Precedes c p q → since_of c p ≤ last → score c last p < score c last q
+score-rises c last p q before within = rises_by (rank_of c p) (since_of c p) (rank_of c q) (since_of c q) last before within
+
+score-bound : (c : Chain) (bound last : ℕ) (p : Position)
+    → IsWithin c bound last → IsOn c p → score c last p ≤ (bound + 1) * (last + 1) + last
+score-bound c bound last p within on =
+    let a = times (rank_of c p) (bound + 1) (last + 1) (rank_within c bound last p within on) in
+    omega (arith, a, since_within c bound last p within on)
+
+-- from a word of a chain with such bounds one meets some list
+met_within : (c : Chain) (bound last steps : ℕ) (p : Position) → IsChain c → IsWithin c bound last → IsOn c p
+    → (bound + 1) * (last + 1) + last + 1 ≤ steps + score c last p → (xs : List ℕ) × Meets c p xs
+met_within c bound last zero p chain within on enough =
+    absurd (omega (arith, score-bound c bound last p within on))
+met_within c bound last (suc steps) p chain within on enough =
     if_equal (c.next p) nowhere (λ none. ([], none)) (λ some.
     let to = chain.leads p on some in
-    let after = to.1 in
-    let rest = met_within c bound steps (Node (c.next p)) chain keys to.0 (omega arith) in
+    let after = score-rises c last p (Node (c.next p)) to.1 (since_within c bound last p within on) in
+    let rest = met_within c bound last steps (Node (c.next p)) chain within to.0 (omega arith) in
     (c.next p ∷ rest.0, (refl, some, rest.1)))
 
 -- a chain of finitely many nodes is met
 pub IsMet-from_chain : (c : Chain) (size : ℕ)
     → IsChain c → ((x : ℕ) → IsOn c (Node x) → x < size) → (xs : List ℕ) × IsMet c xs
-IsMet-from_chain c size chain within =
+IsMet-from_chain c size chain below =
     let bound : ℕ = most c.key size in
-    let keys : KeysUpto c bound = λ x on. most-bound c.key size x (within x on) in
-    let found = met_within c bound (bound + 2) Head chain keys tt (omega arith) in
+    let last : ℕ = most c.since size in
+    let within : IsWithin c bound last = λ x on.
+    (most-bound c.key size x (below x on), most-bound c.since size x (below x on)) in
+    let found = met_within c bound last ((bound + 1) * (last + 1) + last + 1) Head chain within tt (omega arith) in
     (found.0, IsMet-from_Meets c found.0 chain found.1)
 
 -- a node that is met names a node
@@ -177,8 +213,8 @@ first_gap : (c : Chain) (p : Position) (xs : List ℕ) (x : ℕ)
 first_gap c p [] x met rising at = absurd (Contains-none x at)
 first_gap c p (y ∷ ys) x met rising at = subst (NotPast c (Node x)) (sym met.0) (
   met.1,
-  by_place x y ys at (λ e. let a : c.key y ≡ c.key x = ap c.key e in λ f. omega arith)
-      (λ later. let a = first_least c p y ys x rising later in λ f. omega arith),
+  by_place x y ys at (λ e. λ f. before_same c (Node x) (Node y) f (ap Node (sym e)))
+      (λ later. λ f. before_both c (Node y) (Node x) (first_least c p y ys x rising later) f),
 )
 
 met_gap : (c : Chain) (p : Position) (xs : List ℕ) (x y : ℕ) → Meets c p xs → Rises c p xs
@@ -186,26 +222,47 @@ met_gap : (c : Chain) (p : Position) (xs : List ℕ) (x y : ℕ) → Meets c p x
 met_gap c p [] x y met rising at to before = absurd (Contains-none x at)
 met_gap c p (z ∷ zs) x y met rising at to before =
     by_place x z zs at (λ e.
-    let a : c.key z ≡ c.key x = ap c.key e in
     let P : ℕ → Type 0 = λ w. NotPast c (Node y) (c.next (Node w)) in
-    let later = by_place y z zs to (λ e'. let b : c.key z ≡ c.key y = ap c.key e' in absurd (omega arith)) (λ h. h) in
+    let later = by_place y z zs to (λ e'. absurd (before_same c (Node x) (Node y) before (ap Node (sym e ∙ e')))) (λ h. h) in
     subst P e (first_gap c (Node z) zs y met.2 rising.1 later)) (λ at'.
     let a = first_least c p z zs x rising at' in
-    let later = by_place y z zs to (λ e'. let b : c.key z ≡ c.key y = ap c.key e' in absurd (omega arith)) (λ h. h) in
+    let later =
+    by_place y z zs to
+    (λ e'. absurd (before_both c (Node z) (Node x) a (subst (λ (w : ℕ). Precedes c (Node x) (Node w)) (sym e') before)))
+    (λ h. h) in
     met_gap c (Node z) zs x y met.2 rising.1 at' later before)
 
--- two of the rising nodes with one key are one
+-- two of the rising nodes at one place of the order are one
 met_alone : (c : Chain) (p : Position) (xs : List ℕ) (x y : ℕ)
-    → Rises c p xs → Contains xs x → Contains xs y → c.key x ≡ c.key y → x ≡ y
-met_alone c p [] x y rising at to same = absurd (Contains-none x at)
-met_alone c p (z ∷ zs) x y rising at to same =
+    → Rises c p xs → Contains xs x → Contains xs y → c.key x ≡ c.key y → c.since x ≡ c.since y → x ≡ y
+met_alone c p [] x y rising at to same same' = absurd (Contains-none x at)
+met_alone c p (z ∷ zs) x y rising at to same same' =
     by_place x z zs at (λ e.
     let a : c.key z ≡ c.key x = ap c.key e in
+    let a' : c.since z ≡ c.since x = ap c.since e in
     by_place y z zs to (λ e'. sym e ∙ e')
     (λ later. let b = first_least c p z zs y rising later in absurd (omega arith))) (λ at'.
     let a = first_least c p z zs x rising at' in
-    by_place y z zs to (λ e'. let b : c.key z ≡ c.key y = ap c.key e' in absurd (omega arith))
-    (λ later. met_alone c (Node z) zs x y rising.1 at' later same))
+    by_place y z zs to
+    (λ e'.
+    let b : c.key z ≡ c.key y = ap c.key e' in
+    let b' : c.since z ≡ c.since y = ap c.since e' in absurd (omega arith))
+    (λ later. met_alone c (Node z) zs x y rising.1 at' later same same'))
+
+-- the key behind an unmarked word that is met
+first_rises : (c : Chain) (p : Position) (xs : List ℕ)
+    → Meets c p xs → RisesUnmarked c p xs → c.next p ≢ nowhere → RisesBehind c p (c.next p)
+first_rises c p [] met rising some = absurd (some met)
+first_rises c p (y ∷ ys) met rising some = subst (RisesBehind c p) (sym met.0) rising.0
+
+rises_among : (c : Chain) (p : Position) (xs : List ℕ) (x : ℕ) → Meets c p xs → RisesUnmarked c p xs
+    → Contains xs x → c.next (Node x) ≢ nowhere → RisesBehind c (Node x) (c.next (Node x))
+rises_among c p [] x met rising at some = absurd (Contains-none x at)
+rises_among c p (y ∷ ys) x met rising at some =
+    by_place x y ys at (λ e.
+    let P : ℕ → Type 0 = λ z. c.next (Node z) ≢ nowhere → RisesBehind c (Node z) (c.next (Node z)) in
+    subst P e (first_rises c (Node y) ys met.2 rising.1) some)
+    (λ later. rises_among c (Node y) ys x met.2 rising.1 later some)
 
 module _ (c : Chain) (xs : List ℕ) (met : IsMet c xs) where
   met_leads : (p : Position) → IsOn c p → c.next p ≢ nowhere → LeadsTo c p (c.next p)
@@ -221,17 +278,24 @@ module _ (c : Chain) (xs : List ℕ) (met : IsMet c xs) where
   met_upto (Node x) (Node y) on_p on_q before =
       met_gap c Head xs x y met.met met.rising ((met.exactly x).0 on_p) ((met.exactly y).0 on_q) before
 
-  met_apart : (p q : Position) → IsOn c p → IsOn c q → rank_of c p ≡ rank_of c q → p ≡ q
-  met_apart Head Head on_p on_q same = refl
-  met_apart Head (Node y) on_p on_q same = absurd (omega arith)
-  met_apart (Node x) Head on_p on_q same = absurd (omega arith)
-  met_apart (Node x) (Node y) on_p on_q same =
-      ap Node (met_alone c Head xs x y met.rising ((met.exactly x).0 on_p) ((met.exactly y).0 on_q) (omega arith))
+  met_apart : (p q : Position)
+      → IsOn c p → IsOn c q → rank_of c p ≡ rank_of c q → since_of c p ≡ since_of c q → p ≡ q
+  met_apart Head Head on_p on_q same same' = refl
+  met_apart Head (Node y) on_p on_q same same' = absurd (omega arith)
+  met_apart (Node x) Head on_p on_q same same' = absurd (omega arith)
+  met_apart (Node x) (Node y) on_p on_q same same' =
+      ap Node
+      (met_alone c Head xs x y met.rising ((met.exactly x).0 on_p) ((met.exactly y).0 on_q) (omega arith) same')
+
+  met_higher : (p : Position) → IsOn c p → c.next p ≢ nowhere → RisesBehind c p (c.next p)
+  met_higher Head on some = first_rises c Head xs met.met met.unmarked some
+  met_higher (Node x) on some = rises_among c Head xs x met.met met.unmarked ((met.exactly x).0 on) some
 
   -- what is met from the head, in rising order, is a chain
   pub IsChain-from_IsMet : IsChain c
   IsChain-from_IsMet =
       IsChain-by c (λ x on. Meets-named c Head xs x met.met ((met.exactly x).0 on)) met_leads met_upto met_apart
+      met_higher
 
 -- the word from which one meets a list, or a node of it, leads to each node of it
 abbrev IsLeader : Chain → Position → List ℕ → ℕ → Position → Type 0

@@ -1,13 +1,26 @@
 -- A marked node that is unlinked from an unmarked predecessor keeps the chain.
 use Rattle.std.proofs.Common.{◌≡◌, ◌≢◌, ℕ, sym, ap, ◌∙◌, subst, arith, IsTrue}
 use Rattle.packed_link.specs.Link.{nowhere}
-use Rattle.core_chain.specs.Chain.{Chain, Position, Head, Node, IsOn, IsChain, Precedes, rank_of}
+use Rattle.core_chain.specs.Chain.{Chain, Position, Head, Node, IsOn, IsChain, Precedes, rank_of, since_of}
 use Rattle.core_chain.specs.Steps.{Unlinks, IsFrozenTo, Keeps}
-use Rattle.core_chain.proofs.Orders.{if_same, by_rank, LeadsTo, NotPast, IsChain-by, rank_of-changed, one_leads}
+use Rattle.core_chain.proofs.Orders.{if_same, by_order, LeadsTo, NotPast, RisesBehind, IsChain-by}
+use Rattle.core_chain.proofs.Orders.{rank_of-changed, since_of-changed, before_still, before_same, before_both, before_then}
+use Rattle.core_chain.proofs.Orders.{one_leads, rises_behind}
 
 module _ (c d : Chain) (p : Position) (x : ℕ) (chain : IsChain c) (step : Unlinks c d p x) where
   rank : (q : Position) → rank_of d q ≡ rank_of c q
   rank q = rank_of-changed c d p step.words q
+
+  since : (q : Position) → IsOn c q → since_of d q ≡ since_of c q
+  since q on = since_of-changed c d p step.words q on
+
+  -- words of the old chain stand in the order in which they stood
+  forth : (q r : Position) → IsOn c q → IsOn c r → Precedes c q r → Precedes d q r
+  forth q r on_q on_r before = before_still c d q r (rank q) (rank r) (since q on_q) (since r on_r) before
+
+  still : (q r : Position) → IsOn c q → IsOn c r → Precedes d q r → Precedes c q r
+  still q r on_q on_r before =
+      before_still d c q r (sym (rank q)) (sym (rank r)) (sym (since q on_q)) (sym (since r on_r)) before
 
   back : (q : Position) → IsOn d q → IsOn c q
   back Head on = tt
@@ -32,18 +45,16 @@ module _ (c d : Chain) (p : Position) (x : ℕ) (chain : IsChain c) (step : Unli
   -- what stands behind the predecessor stands behind the unlinked node
   behind : (r : Position) → IsOn d r → Precedes c p r → Precedes c (Node x) r
   behind r on after =
-      let high = chain.gap p r step.can.present (back r on) after in
-      let led : rank_of c (Node (c.next p)) ≡ rank_of c (Node x) = ap (λ (y : ℕ). rank_of c (Node y)) step.can.led in
-      by_rank c (Node x) r (λ e. absurd (gone r on (sym (chain.alone (Node x) r present.0 (back r on) e))))
-      (λ low. low) (λ f. absurd (high (omega arith)))
+      by_order c (Node x) r chain present.0 (back r on) (λ e. absurd (gone r on (sym e))) (λ low. low)
+      (λ high. absurd (chain.gap p r step.can.present (back r on) after
+      (subst (λ (y : ℕ). Precedes c r (Node y)) (sym step.can.led) high)))
 
   -- the node's successor is on the chain
   successor : c.next (Node x) ≢ nowhere → LeadsTo c (Node x) (c.next (Node x)) × IsOn d (Node (c.next (Node x)))
   successor some_x =
       let next = chain.leads (Node x) present.0 some_x in
-      let after = next.1 in
       let ne : Node (c.next (Node x)) ≢ Node x = λ same.
-      let f : rank_of c (Node (c.next (Node x))) ≡ rank_of c (Node x) = ap (rank_of c) same in omega arith in
+      before_same c (Node x) (Node (c.next (Node x))) next.1 (sym same) in
       (next, IsOn-unlinked (Node (c.next (Node x))) next.0 ne)
 
   -- where the word leads that was written
@@ -52,65 +63,86 @@ module _ (c d : Chain) (p : Position) (x : ℕ) (chain : IsChain c) (step : Unli
 
   leads : (q : Position) → IsOn d q → d.next q ≢ nowhere → LeadsTo d q (d.next q)
   leads q on leads_on =
-      let rank_q = rank q in
-      let above = present.1 in
       if_same q p (λ at.
-      let a : rank_of c q ≡ rank_of c p = ap (rank_of c) at in
       let next = successor (λ e. leads_on (sym (to_p q at) ∙ e)) in
-      let after = next.0.1 in
-      let b = rank (Node (c.next (Node x))) in
-      subst (LeadsTo d q) (to_p q at) (next.1, omega arith)) (λ not_p.
+      let y : ℕ = c.next (Node x) in
+      subst (LeadsTo d q) (to_p q at) (
+        next.1,
+        subst (λ (r : Position). Precedes d r (Node y)) (sym at)
+            (forth p (Node y) step.can.present next.0.0 (before_then c p (Node x) (Node y) present.1 next.0.1)),
+      )) (λ not_p.
       let to : c.next q ≡ d.next q = sym (step.words.next q not_p) in
       let some_q : c.next q ≢ nowhere = λ e. leads_on (sym to ∙ e) in
       let next = chain.leads q (back q on) some_q in
-      let after = next.1 in
-      let b = rank (Node (c.next q)) in
       let ne : Node (c.next q) ≢ Node x = λ same.
       let same' : c.next q ≡ x = (cc) in
       not_p (one_leads c q p chain (back q on) step.can.present some_q (same' ∙ sym step.can.led)) in
-      subst (LeadsTo d q) to (IsOn-unlinked (Node (c.next q)) next.0 ne, omega arith))
+      subst (LeadsTo d q) to
+      (IsOn-unlinked (Node (c.next q)) next.0 ne, forth q (Node (c.next q)) (back q on) next.0 next.1))
 
   upto : (q r : Position) → IsOn d q → IsOn d r → Precedes d q r → NotPast d r (d.next q)
   upto q r on_q on_r before =
-      let rank_q = rank q in
-      let rank_r = rank r in
+      let on_r' = back r on_r in
       if_same q p (λ at.
-      let a : rank_of c q ≡ rank_of c p = ap (rank_of c) at in
-      let low = behind r on_r (omega arith) in
-      let b = chain.gap (Node x) r present.0 (back r on_r) low in
-      let e = rank (Node (c.next (Node x))) in
-      subst (NotPast d r) (to_p q at)
-      (chain.last (Node x) r present.0 (back r on_r) low, λ f. b (omega arith))) (λ not_p.
-      let low : Precedes c q r = omega arith in
-      let b = chain.gap q r (back q on_q) (back r on_r) low in
-      let e = rank (Node (c.next q)) in
+      let before_p : Precedes d p r = subst (λ (s : Position). Precedes d s r) at before in
+      let low = behind r on_r (still p r step.can.present on_r' before_p) in
+      let some = chain.last (Node x) r present.0 on_r' low in
+      let next = (chain.leads (Node x) present.0 some).0 in
+      subst (NotPast d r) (to_p q at) (
+        some,
+        λ f. chain.gap (Node x) r present.0 on_r' low (still r (Node (c.next (Node x))) on_r' next f),
+      )) (λ not_p.
+      let on_q' = back q on_q in
+      let low = still q r on_q' on_r' before in
+      let some = chain.last q r on_q' on_r' low in
+      let next = (chain.leads q on_q' some).0 in
       subst (NotPast d r) (sym (step.words.next q not_p))
-      (chain.last q r (back q on_q) (back r on_r) low, λ f. b (omega arith)))
+      (some, λ f. chain.gap q r on_q' on_r' low (still r (Node (c.next q)) on_r' next f)))
 
-  alone : (q r : Position) → IsOn d q → IsOn d r → rank_of d q ≡ rank_of d r → q ≡ r
-  alone q r on_q on_r same = chain.alone q r (back q on_q) (back r on_r) (sym (rank q) ∙ (same ∙ rank r))
+  alone : (q r : Position)
+      → IsOn d q → IsOn d r → rank_of d q ≡ rank_of d r → since_of d q ≡ since_of d r → q ≡ r
+  alone q r on_q on_r same same' =
+      let on = back q on_q in
+      let on' = back r on_r in
+      chain.alone q r on on' (sym (rank q) ∙ (same ∙ rank r)) (sym (since q on) ∙ (same' ∙ since r on'))
+
+  rises : (q : Position) → IsOn d q → d.next q ≢ nowhere → RisesBehind d q (d.next q)
+  rises q on leads_on =
+      if_same q p (λ at.
+      let next = successor (λ e. leads_on (sym (to_p q at) ∙ e)) in
+      let y : ℕ = c.next (Node x) in
+      let low = rises_behind c p (Node x) chain step.can.present present.0 step.can.unmarked present.1 in
+      let high = next.0.1 in
+      let a = rank q in
+      let b = rank (Node y) in
+      let e : rank_of c q ≡ rank_of c p = ap (rank_of c) at in
+      subst (RisesBehind d q) (to_p q at) (λ u. grind arith)) (λ not_p.
+      let to : c.next q ≡ d.next q = sym (step.words.next q not_p) in
+      subst (RisesBehind d q) to (λ u.
+      let a = rank q in
+      let b = rank (Node (c.next q)) in
+      let f = chain.rises q (back q on) (sym (step.words.mark q not_p) ∙ u) (λ e. leads_on (sym to ∙ e)) in
+      omega arith))
 
   -- the chain without the node is a chain
   pub IsChain-unlinked : IsChain d
-  IsChain-unlinked = IsChain-by d (λ y on. chain.named y (back (Node y) on)) leads upto alone
+  IsChain-unlinked = IsChain-by d (λ y on. chain.named y (back (Node y) on)) leads upto alone rises
 
   -- what is frozen stays frozen
   frozen : (q : Position) → IsFrozenTo c q → IsFrozenTo d q
   frozen q old =
-      let above = present.1 in
-      let rank_q = rank q in
       -- the word that was changed is unmarked, so it stands behind the frozen part
       let unfrozen : (Precedes c q p → ⊥) → ⊥ = λ h.
       let m = old.marks p step.can.present h in let u = step.can.unmarked in omega arith in
       let not_x : q ≢ Node x = λ e.
-      let a : rank_of c q ≡ rank_of c (Node x) = ap (rank_of c) e in unfrozen (λ h. omega arith) in
+      unfrozen (λ h. before_both c q p h (subst (λ (r : Position). Precedes c p r) (sym e) present.1)) in
       record {
         present = IsOn-unlinked q old.present not_x;
         marks = λ r on not_behind.
-            let rank_r = rank r in
-            let not_behind' : Precedes c q r → ⊥ = λ h. not_behind (omega arith) in
+            let on' = back r on in
+            let not_behind' : Precedes c q r → ⊥ = λ h. not_behind (forth q r old.present on' h) in
             let not_p : r ≢ p = λ e. unfrozen (λ h. not_behind' (subst (Precedes c q) (sym e) h)) in
-            step.words.mark r not_p ∙ old.marks r (back r on) not_behind';
+            step.words.mark r not_p ∙ old.marks r on' not_behind';
       }
 
   -- the word that was changed was unmarked

@@ -1,32 +1,45 @@
 -- What a walk may conclude.
-use Rattle.std.proofs.Common.{◌≡◌, ◌≢◌, ◌↔◌, ℕ, ◌<◌, List, refl, sym, subst, arith, ⊎_elim}
-use Rattle.std.specs.Prelude.{Contains, nat_lt}
-use Rattle.std.proofs.lemmas.Bool.{and_parts, and_from, ltb-true, lt-ltb}
+use Rattle.std.proofs.Common.{◌≡◌, ◌≢◌, ◌↔◌, ℕ, ◌<◌, List, refl, sym, subst, arith, ⊎_elim, inl, true}
+use Rattle.std.specs.Prelude.{Contains}
+use Rattle.std.proofs.lemmas.Bool.{and_parts, and_from}
+use Rattle.std.proofs.lemmas.Bool.Decides.{nat_tests}
 use Rattle.packed_link.specs.Link.{nowhere}
-use Rattle.core_chain.specs.Chain.{Chain, Position, Head, Node, IsOn, IsChain, Precedes, rank_of}
+use Rattle.core_chain.specs.Chain.{Chain, Position, Head, Node, IsOn, IsChain, Precedes, rank_of, since_of}
 use Rattle.core_chain.specs.Met.{Meets}
-use Rattle.core_chain.specs.Walk.{IsBelow, Passes, rest_behind}
-use Rattle.core_chain.proofs.Orders.{IsBelow-precedes, Precedes-below, LeadsTo, NotPast, IsChain-by}
+use Rattle.core_chain.specs.Walk.{IsBelow, Passes, stands_behind, rest_behind}
+use Rattle.core_chain.proofs.Orders.{IsBelow-precedes, Precedes-below, LeadsTo, NotPast, RisesBehind, IsChain-by}
+use Rattle.core_chain.proofs.Orders.{by_order, before_then, rises_behind}
 use Rattle.core_chain.proofs.Meets.{met_behind, leader, IsMet-from_chain}
 
--- two nodes of one key are one
-pub one_of_key : (c : Chain) (x y : ℕ) → IsChain c → IsOn c (Node x) → IsOn c (Node y) → c.key x ≡ c.key y → x ≡ y
-one_of_key c x y chain on_x on_y same =
-    let at : Node x ≡ Node y = chain.alone (Node x) (Node y) on_x on_y (omega arith) in cc
+-- two unmarked nodes of one key are one
+pub one_of_key : (c : Chain) (x y : ℕ) → IsChain c → IsOn c (Node x) → IsOn c (Node y) → c.mark (Node x) ≡ 0
+    → c.mark (Node y) ≡ 0 → c.key x ≡ c.key y → x ≡ y
+one_of_key c x y chain on_x on_y open_x open_y same =
+    by_order c (Node x) (Node y) chain on_x on_y (λ e. cc)
+    (λ low. let f = rises_behind c (Node x) (Node y) chain on_x on_y open_x low in absurd (omega arith))
+    (λ high. let f = rises_behind c (Node y) (Node x) chain on_y on_x open_y high in absurd (omega arith))
 
 -- where a word leads past a key, no node of the key is on the chain
 pub none_of_key : (c : Chain) (p : Position) (key x : ℕ) → IsChain c → Passes c p key → IsOn c (Node x) → c.key x ≢ key
 none_of_key c p key x chain passes on same =
     let before : Precedes c p (Node x) = IsBelow-precedes c p x (rw same passes.above) in
     let low = passes.below (chain.last p (Node x) passes.present on before) in
-    chain.gap p (Node x) passes.present on before (omega arith)
+    chain.gap p (Node x) passes.present on before (inl (omega arith))
 
--- what is met from a word of a chain are the nodes of greater keys, and no others
+-- what is met from a word of a chain is what stands behind it
 pub all_behind : (c : Chain) (p : Position) (xs : List ℕ) (x : ℕ) → IsChain c → IsOn c p → Meets c p xs
-    → Contains xs x ↔ (IsOn c (Node x) × IsBelow c p (c.key x))
+    → Contains xs x ↔ (IsOn c (Node x) × Precedes c p (Node x))
 all_behind c p xs x chain on met =
-    let both = (met_behind c p xs chain on met).1 x in
-    (λ at. let h = both.1 at in (h.0, Precedes-below c p x h.1), λ h. both.0 (h.0, IsBelow-precedes c p x h.1))
+    let both = (met_behind c p xs chain on met).1 x in (λ at. both.1 at, λ h. both.0 h)
+
+-- behind an unmarked word, these are the nodes of greater keys
+pub all_greater : (c : Chain) (p : Position) (xs : List ℕ) (x : ℕ) → IsChain c → IsOn c p → c.mark p ≡ 0 → Meets c p xs
+    → Contains xs x ↔ (IsOn c (Node x) × IsBelow c p (c.key x))
+all_greater c p xs x chain on unmarked met =
+    let both = (met_behind c p xs chain on met).1 x in (
+      λ at. let h = both.1 at in (h.0, Precedes-below c p x (rises_behind c p (Node x) chain on h.0 unmarked h.1)),
+      λ h. both.0 (h.0, IsBelow-precedes c p x h.1),
+    )
 
 -- some word of a chain of finitely many nodes leads to each node on it
 pub leader_of : (c : Chain) (size x : ℕ) → IsChain c → ((y : ℕ) → IsOn c (Node y) → y < size) → IsOn c (Node x)
@@ -43,27 +56,30 @@ leader_of c size x chain within on =
     )
 
 module _ (c : Chain) (p : Position) (chain : IsChain c) (on_p : IsOn c p) where
+  -- whether a word stands behind another
+  behind_true : (q : Position) → stands_behind c p q ≡ true → Precedes c p q
+  behind_true q test = grind (arith, nat_tests)
+
+  behind_test : (q : Position) → Precedes c p q → stands_behind c p q ≡ true
+  behind_test q after = grind (arith, nat_tests)
+
   -- a node of the rest is on the chain, behind the word
   whole : (x : ℕ) → IsOn (rest_behind c p) (Node x) → LeadsTo c p x
   whole x on =
-      let both = and_parts (c.on x) (nat_lt (rank_of c p) (rank_of c (Node x))) on in
-      (both.0, ltb-true (rank_of c p) (rank_of c (Node x)) both.1)
+      let both = and_parts (c.on x) (stands_behind c p (Node x)) on in
+      (both.0, behind_true (Node x) both.1)
 
   -- and the other way round
   part : (x : ℕ) → IsOn c (Node x) → Precedes c p (Node x) → IsOn (rest_behind c p) (Node x)
-  part x on after =
-      let later = lt-ltb (rank_of c p) (rank_of c (Node x)) after in
-      and_from (c.on x) (nat_lt (rank_of c p) (rank_of c (Node x))) on later
+  part x on after = and_from (c.on x) (stands_behind c p (Node x)) on (behind_test (Node x) after)
 
   leads : (q : Position) → IsOn (rest_behind c p) q → (rest_behind c p).next q ≢ nowhere
       → LeadsTo (rest_behind c p) q ((rest_behind c p).next q)
-  leads Head on some = let to = chain.leads p on_p some in (part (c.next p) to.0 to.1, omega arith)
+  leads Head on some = let to = chain.leads p on_p some in (part (c.next p) to.0 to.1, inl (omega arith))
   leads (Node x) on some =
       let at = whole x on in
       let to = chain.leads (Node x) at.0 some in
-      let before = at.1 in
-      let after = to.1 in
-      (part (c.next (Node x)) to.0 (omega arith), to.1)
+      (part (c.next (Node x)) to.0 (before_then c p (Node x) (Node (c.next (Node x))) at.1 to.1), to.1)
 
   upto : (q r : Position) → IsOn (rest_behind c p) q → IsOn (rest_behind c p) r → Precedes (rest_behind c p) q r
       → NotPast (rest_behind c p) r ((rest_behind c p).next q)
@@ -77,12 +93,18 @@ module _ (c : Chain) (p : Position) (chain : IsChain c) (on_p : IsOn c p) where
       (chain.last (Node x) (Node y) from.0 at.0 before, chain.gap (Node x) (Node y) from.0 at.0 before)
 
   alone : (q r : Position) → IsOn (rest_behind c p) q → IsOn (rest_behind c p) r
-      → rank_of (rest_behind c p) q ≡ rank_of (rest_behind c p) r → q ≡ r
-  alone Head Head on_q on_r same = refl
-  alone Head (Node y) on_q on_r same = absurd (omega arith)
-  alone (Node x) Head on_q on_r same = absurd (omega arith)
-  alone (Node x) (Node y) on_q on_r same = chain.alone (Node x) (Node y) (whole x on_q).0 (whole y on_r).0 same
+      → rank_of (rest_behind c p) q ≡ rank_of (rest_behind c p) r
+      → since_of (rest_behind c p) q ≡ since_of (rest_behind c p) r → q ≡ r
+  alone Head Head on_q on_r same same' = refl
+  alone Head (Node y) on_q on_r same same' = absurd (omega arith)
+  alone (Node x) Head on_q on_r same same' = absurd (omega arith)
+  alone (Node x) (Node y) on_q on_r same same' = chain.alone (Node x) (Node y) (whole x on_q).0 (whole y on_r).0 same same'
+
+  rises : (q : Position) → IsOn (rest_behind c p) q → (rest_behind c p).next q ≢ nowhere
+      → RisesBehind (rest_behind c p) q ((rest_behind c p).next q)
+  rises Head on some = λ u. omega arith
+  rises (Node x) on some = λ u. chain.rises (Node x) (whole x on).0 u some
 
   -- the rest behind a word is a chain
   pub IsChain-rest : IsChain (rest_behind c p)
-  IsChain-rest = IsChain-by (rest_behind c p) (λ x on. chain.named x (whole x on).0) leads upto alone
+  IsChain-rest = IsChain-by (rest_behind c p) (λ x on. chain.named x (whole x on).0) leads upto alone rises

@@ -1,7 +1,7 @@
 -- A chain as a walker sees it: the nodes that one meets from the head by following the links.
-use Rattle.std.specs.Prelude.{◌≡◌, ◌≢◌, ◌↔◌, ℕ, List, [], ◌∷◌, AllPairs, Contains}
+use Rattle.std.specs.Prelude.{◌≡◌, ◌≢◌, ◌↔◌, ℕ, ◌<◌, List, [], ◌∷◌, AllPairs, Contains}
 use Rattle.packed_link.specs.Link.{nowhere}
-use Rattle.core_chain.specs.Chain.{Chain, Position, Head, Node, IsOn, Precedes}
+use Rattle.core_chain.specs.Chain.{Chain, Position, Head, Node, IsOn, Precedes, rank_of}
 
 -- following the links from a word on, one meets these nodes, in this order, and then none
 abbrev pub Meets : Chain → Position → List ℕ → Type 0
@@ -13,9 +13,17 @@ abbrev pub Rises : Chain → Position → List ℕ → Type 0
 Rises chain p [] = Unit {0}
 Rises chain p (x ∷ xs) = Precedes chain p (Node x) × Rises chain (Node x) xs
 
--- the nodes that one meets from the head are exactly those on the chain, each once, in rising order
+-- where a word is unmarked, the node that it leads to has a greater key
+abbrev pub RisesUnmarked : Chain → Position → List ℕ → Type 0
+RisesUnmarked chain p [] = Unit {0}
+RisesUnmarked chain p (x ∷ xs) =
+    (chain.mark p ≡ 0 → rank_of chain p < rank_of chain (Node x)) × RisesUnmarked chain (Node x) xs
+
+-- the nodes that one meets from the head are exactly those on the chain, each once, in rising order; two neighbours
+-- have one key only where the first is marked
 pub record IsMet (chain : Chain) (nodes : List ℕ) : Type 0 where
   pub met : Meets chain Head nodes
   pub rising : Rises chain Head nodes
+  pub unmarked : RisesUnmarked chain Head nodes
   pub once : AllPairs ◌≢◌ nodes
   pub exactly : (x : ℕ) → IsOn chain (Node x) ↔ Contains nodes x

@@ -1,14 +1,15 @@
 -- The steps that change one word of a chain, what each needs, and what none of them takes back.
-use Rattle.std.specs.Prelude.{◌≡◌, ◌≢◌, ℕ, Bool, IsTrue}
+use Rattle.std.specs.Prelude.{◌≡◌, ◌≢◌, ℕ, ◌<◌, Bool, IsTrue}
 use Rattle.packed_link.specs.Link.{nowhere}
 use Rattle.core_chain.specs.Chain.{Chain, Position, Head, Node, IsOn, Precedes}
 use Rattle.core_chain.specs.Walk.{Passes}
 
--- every word but one stays, and so do all keys
+-- every word but one stays, and so do all keys; a node on the chain stays linked by the same step
 pub record ChangesOnly (old new : Chain) (at : Position) : Type 0 where
   pub next : (p : Position) → p ≢ at → new.next p ≡ old.next p
   pub mark : (p : Position) → p ≢ at → new.mark p ≡ old.mark p
   pub key : (x : ℕ) → new.key x ≡ old.key x
+  pub since : (x : ℕ) → IsOn old (Node x) → new.since x ≡ old.since x
 
 -- one node joins those on a chain, and every other stays as it is
 pub record Joins (old new : ℕ → Bool) (node : ℕ) : Type 0 where
@@ -36,6 +37,25 @@ pub record Inserts (old new : Chain) (at : Position) (node : ℕ) : Type 0 where
   pub unmarked : new.mark at ≡ 0
   pub words : ChangesOnly old new at
   pub nodes : Joins old.on new.on node
+
+-- a node may be replaced by another: it is on the chain and unmarked; the other isn't on the chain, has the same key,
+-- and its own link is filled with the successor
+pub record CanReplace (chain : Chain) (node fresh : ℕ) : Type 0 where
+  pub present : IsOn chain (Node node)
+  pub unmarked : chain.mark (Node node) ≡ 0
+  pub named : fresh ≢ nowhere
+  pub absent : IsOn chain (Node fresh) → ⊥
+  pub key : chain.key fresh ≡ chain.key node
+  pub filled : chain.next (Node fresh) ≡ chain.next (Node node)
+
+-- a node is replaced: its word has its mark and leads to the node of its key that joins the chain behind it
+pub record Replaces (old new : Chain) (node fresh : ℕ) : Type 0 where
+  pub can : CanReplace old node fresh
+  pub marked : new.mark (Node node) ≡ 1
+  pub leads : new.next (Node node) ≡ fresh
+  pub later : old.since node < new.since fresh
+  pub words : ChangesOnly old new (Node node)
+  pub nodes : Joins old.on new.on fresh
 
 -- a word gets its mark, whether or not it had it before, and all else stays
 pub record SetsMark (old new : Chain) (at : Position) : Type 0 where
@@ -81,6 +101,7 @@ pub record Freezes (old new : Chain) (end : Position) (node : ℕ) : Type 0 wher
 pub record Untouched (old new : Chain) : Type 0 where
   pub nodes : (x : ℕ) → new.on x ≡ old.on x
   pub key : (x : ℕ) → IsOn old (Node x) → new.key x ≡ old.key x
+  pub since : (x : ℕ) → IsOn old (Node x) → new.since x ≡ old.since x
   pub next : (p : Position) → IsOn old p → new.next p ≡ old.next p
   pub mark : (p : Position) → IsOn old p → new.mark p ≡ old.mark p
 
@@ -94,6 +115,7 @@ pub record Keeps (old new : Chain) : Type 0 where
 pub data Step (old new : Chain) : Type 0 where
   insert : (at : Position) (node : ℕ) → Inserts old new at node → Step old new
   mark : (node : ℕ) → Marks old new node → Step old new
+  replace : (node fresh : ℕ) → Replaces old new node fresh → Step old new
   unlink : (at : Position) (node : ℕ) → Unlinks old new at node → Step old new
   freeze_head : SetsMark old new Head → Step old new
   freeze : (end : Position) (node : ℕ) → Freezes old new end node → Step old new

@@ -1,5 +1,5 @@
 -- Chains over the words of one table of packed links.
-use Rattle.std.specs.Prelude.{◌≡◌, ◌≢◌, ℕ, Bool}
+use Rattle.std.specs.Prelude.{◌≡◌, ◌≢◌, ℕ, Bool, IsTrue}
 use Rattle.packed_link.specs.Link.{index_of, mark_of}
 use Rattle.core_chain.specs.Chain.{Chain, Position, Node, IsOn}
 
@@ -8,14 +8,19 @@ pub record Places : Type 0 where
   pub word_at : Position → ℕ
   pub key_at : ℕ → ℕ
 
--- the chain that stands at these places of a table, with these nodes on it
-abbrev pub chain_in : (ℕ → ℕ) → Places → (ℕ → Bool) → Chain
-chain_in words places on = record {
+-- the chain that stands at these places of a table, with these nodes on it, linked by the steps of these numbers
+abbrev pub chain_in : (ℕ → ℕ) → Places → (ℕ → Bool) → (ℕ → ℕ) → Chain
+chain_in words places on since = record {
   on = on;
   key = λ x. words (places.key_at x);
+  since = since;
   next = λ p. index_of (words (places.word_at p));
   mark = λ p. mark_of (words (places.word_at p));
 }
+
+-- the nodes on a chain were linked by the same steps
+abbrev pub KeepsSince : (ℕ → Bool) → (ℕ → ℕ) → (ℕ → ℕ) → Type 0
+KeepsSince on old new = (x : ℕ) → IsTrue (on x) → new x ≡ old x
 
 -- one word of the table is written, and every other stays
 pub record Writes (old new : ℕ → ℕ) (place word : ℕ) : Type 0 where

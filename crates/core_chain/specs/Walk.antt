@@ -1,7 +1,7 @@
 -- What a walker has in hand at a word of a chain: the place of a key, and the rest of the chain.
-use Rattle.std.specs.Prelude.{◌≢◌, ℕ, ◌<◌, ◌&&◌, nat_lt}
+use Rattle.std.specs.Prelude.{◌≢◌, ℕ, ◌<◌, Bool, ◌&&◌, ◌||◌, nat_lt, nat_eq}
 use Rattle.packed_link.specs.Link.{nowhere}
-use Rattle.core_chain.specs.Chain.{Chain, Position, Head, Node, IsOn, rank_of}
+use Rattle.core_chain.specs.Chain.{Chain, Position, Head, Node, IsOn, rank_of, since_of}
 
 -- a word stands before a key: the head before every key, a node's link before those greater than its own
 abbrev pub IsBelow : Chain → Position → ℕ → Type 0
@@ -20,11 +20,18 @@ abbrev pub word_behind : Position → Position → Position
 word_behind p Head = p
 word_behind p (Node x) = Node x
 
+-- whether the second word stands behind the first
+abbrev pub stands_behind : Chain → Position → Position → Bool
+stands_behind chain p q =
+    nat_lt (rank_of chain p) (rank_of chain q)
+    || nat_eq (rank_of chain p) (rank_of chain q) && nat_lt (since_of chain p) (since_of chain q)
+
 -- the rest of a chain, behind a word
 abbrev pub rest_behind : Chain → Position → Chain
 rest_behind chain p = record {
-  on = λ x. chain.on x && nat_lt (rank_of chain p) (rank_of chain (Node x));
+  on = λ x. chain.on x && stands_behind chain p (Node x);
   key = chain.key;
+  since = chain.since;
   next = λ q. chain.next (word_behind p q);
   mark = λ q. chain.mark (word_behind p q);
 }

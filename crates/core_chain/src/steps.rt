@@ -7,7 +7,8 @@
 ghost use Rattle.std.specs.Prelude.{◌≡◌, ◌≢◌, ℕ};
 ghost use Rattle.packed_link.specs.Link.{nowhere};
 ghost use Rattle.core_chain.specs.Chain.{Chain, Head, IsChain, IsOn, Node, Position};
-ghost use Rattle.core_chain.specs.Steps.{Freezes, Inserts, IsFrozenTo, Keeps, SetsMark, Step, Unlinks, Untouched};
+ghost use Rattle.core_chain.specs.Steps.{Freezes, Inserts, IsFrozenTo, Keeps, Replaces, SetsMark, Step, Unlinks};
+ghost use Rattle.core_chain.specs.Steps.{Untouched};
 
 /// The law of inserting: a node joins the chain between its neighbours, and every node that was on it is on it.
 pub fn inserting_keeps_the_chain()
@@ -17,6 +18,16 @@ pub fn inserting_keeps_the_chain()
         → (p : Position) → IsOn old p → IsOn new p }
     ensures keeps { (old new : Chain) (at : Position) (node : ℕ)
         → IsChain old → Inserts old new at node → Keeps old new }
+{}
+
+/// The law of replacing: a node joins the chain behind the unmarked one of its key, which gets its mark, and every node
+/// that was on the chain is on it.
+pub fn replacing_keeps_the_chain()
+    ensures chain { (old new : Chain) (node fresh : ℕ)
+        → IsChain old → Replaces old new node fresh → IsChain new }
+    ensures nodes { (old new : Chain) (node fresh : ℕ) → IsChain old → Replaces old new node fresh
+        → (p : Position) → IsOn old p → IsOn new p }
+    ensures keeps { (old new : Chain) (node fresh : ℕ) → IsChain old → Replaces old new node fresh → Keeps old new }
 {}
 
 /// The law of marking: a node that is marked, or a head, is still on the chain, and so is every other.

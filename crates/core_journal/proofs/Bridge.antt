@@ -8,7 +8,7 @@ use Rattle.graph_kinds.specs.declared.outcome.Outcome.TheVariants.{Overtaken, Fu
 use Rattle.graph_kinds.specs.declared.entry.Class.{Class}
 use Rattle.graph_kinds.specs.declared.entry.Class.TheVariants.{Silent, Late, Own}
 use Rattle.core_journal.specs.declared.event.Kind.{Kind}
-use Rattle.core_journal.specs.declared.event.Kind.TheVariants.{MarkVertex, LinkEdge, MarkEdge}
+use Rattle.core_journal.specs.declared.event.Kind.TheVariants.{MarkVertex, LinkEdge, MarkEdge, ReplaceEdge}
 use Rattle.packed_link.specs.declared.link.Life.{Life}
 use Rattle.core_journal.specs.declared.event.Event.{Event}
 use Rattle.graph_kinds.specs.declared.entry.Entry.{Entry}
@@ -144,6 +144,9 @@ removed_pair past link c (Some a) None s t e = absurd (cc)
 
 on_pair : (past : List Event) (e link : Event) (c : Call) → (k : Kind) → edge_by k past e ≡ Some link → call_by k past e ≡ Some c → IsOnPair past link c
 on_pair past e link c LinkEdge is made =
+    let same : e ≡ link = cc in
+    subst (λ (l : Event). IsOnPair past l c) same (added_pair past e e.weight c (key_of past e.source) (key_of past e.target) refl refl made)
+on_pair past e link c ReplaceEdge is made =
     let same : e ≡ link = cc in
     subst (λ (l : Event). IsOnPair past l c) same (added_pair past e e.weight c (key_of past e.source) (key_of past e.target) refl refl made)
 on_pair past e link c MarkEdge is made =

@@ -1,5 +1,5 @@
 -- What calls change, as far as a history needs it.
-use Rattle.std.proofs.Common.{◌≡◌, ◌≢◌, ℕ, Bool, true, false, cond, not, ◌&&◌, ◌||◌, ◌==◌, ◌⊎◌, inl, inr, Option, Some, None, List, refl, sym, ap, ◌∙◌, true≢false, arith, ne_eqb, eqb-true}
+use Rattle.std.proofs.Common.{◌≡◌, ◌≢◌, ℕ, Bool, true, false, cond, not, ◌&&◌, ◌||◌, ◌==◌, ◌⊎◌, inl, inr, Option, Some, None, List, refl, sym, ap, ◌∙◌, true≢false, arith, ne_eqb, eqb-true, eq-eqb}
 use mathlib.Core.Logic.{dite}
 use native.Mathlib.Decide.{ℕ_discrete}
 use Rattle.std.specs.Prelude.{Decides, nat_eq}
@@ -14,7 +14,7 @@ use Rattle.graph_kinds.specs.declared.call.Call.TheVariants.{AddVertex, RemoveVe
 use Rattle.graph_kinds.specs.declared.outcome.Outcome.{Outcome}
 use Rattle.graph_kinds.specs.declared.outcome.Outcome.TheVariants as out
 use Rattle.graph_kinds.specs.Graph.{Graph, has, weight_of}
-use Rattle.graph_kinds.specs.Answer.{answer, alters, after, change, without, is_change, plain, by_weight, by_path, by_levels, by_cost}
+use Rattle.graph_kinds.specs.Answer.{answer, alters, after, change, without, is_change, plain, by_weight, by_path, by_levels, by_cost, there_with}
 use Rattle.graph_kinds.specs.Levels.{reach_path, levels_of}
 use Rattle.graph_kinds.specs.Path.{least_cost, cheapest_path}
 use Rattle.graph_kinds.specs.History.{Touches}
@@ -165,10 +165,15 @@ pair_of _ = (0, 0)
 abbrev pair_weight : Graph → Call → Option ℕ
 pair_weight g c = weight_of g (pair_of c).0 (pair_of c).1
 
-add_alters : (b : Bool) (w : Option ℕ) → is_change (cond b (by_weight w out.Present out.Added) (plain out.NoVertex)).outcome ≡ true → (b ≡ true) × (w ≡ None)
-add_alters true None e = (refl, refl)
-add_alters true (Some w) e = absurd (cc)
-add_alters false w e = absurd (cc)
+changed_there : (w x : ℕ) → is_change (there_with w x) ≡ true → x ≢ w
+changed_there w x e same =
+    let f : (x == w) ≡ true = eq-eqb x w same in
+    let g : is_change (out.Present x) ≡ true = sym (ap (λ t. is_change (cond t (out.Present x) (out.Changed x))) f) ∙ e in cc
+
+add_alters : (b : Bool) (o : Option ℕ) (w : ℕ) → is_change (cond b (by_weight o (there_with w) out.Added) (plain out.NoVertex)).outcome ≡ true → (b ≡ true) × (o ≢ Some w)
+add_alters true None w e = (refl, λ f. absurd (cc))
+add_alters true (Some x) w e = (refl, λ f. changed_there w x e (cc))
+add_alters false o w e = absurd (cc)
 
 remove_alters : (b : Bool) (w : Option ℕ) → is_change (cond b (by_weight w out.Removed out.NoEdge) (plain out.NoVertex)).outcome ≡ true → (b ≡ true) × (w ≢ None)
 remove_alters true None e = absurd (cc)
@@ -178,7 +183,14 @@ remove_alters false w e = absurd (cc)
 -- to add a pair that is not there alters the graph
 pub adds_edge : (g : Graph) (a b w : ℕ) → has g a ≡ true → has g b ≡ true → weight_of g a b ≡ None → alters g (AddEdge a b w) ≡ true
 unfolding alters answer
-adds_edge g a b w ha hb none = λ i. is_change (cond (ha i && hb i) (by_weight (none i) out.Present out.Added) (plain out.NoVertex)).outcome
+adds_edge g a b w ha hb none = λ i. is_change (cond (ha i && hb i) (by_weight (none i) (there_with w) out.Added) (plain out.NoVertex)).outcome
+
+-- to add a pair that is there with another weight alters the graph
+pub changes_edge : (g : Graph) (a b v w : ℕ) → has g a ≡ true → has g b ≡ true → weight_of g a b ≡ Some v → v ≢ w → alters g (AddEdge a b w) ≡ true
+unfolding alters answer
+changes_edge g a b v w ha hb there ne =
+    (λ i. is_change (cond (ha i && hb i) (by_weight (there i) (there_with w) out.Added) (plain out.NoVertex)).outcome)
+    ∙ ap (λ t. is_change (cond t (out.Present v) (out.Changed v))) (ne_eqb v w ne)
 
 -- to remove a pair that is there alters the graph
 pub removes_edge : (g : Graph) (a b w : ℕ) → has g a ≡ true → has g b ≡ true → weight_of g a b ≡ Some w → alters g (RemoveEdge a b) ≡ true
@@ -198,10 +210,10 @@ itself a b = ap (λ t. t && (b == b)) (set_same a) ∙ set_same b
 pub edge_change : (x : Graph) (c : Call) → IsEdgeCall c → alters x c ≡ true → IsEdgeChange x c
 unfolding alters answer
 edge_change x (AddEdge a b w) h e =
-    let two = add_alters (has x a && has x b) (weight_of x a b) e in
+    let two = add_alters (has x a && has x b) (weight_of x a b) w e in
     let now : weight_of (after x (AddEdge a b w)) a b ≡ Some w = ap (λ (g : Graph). weight_of g a b) (after_change x (AddEdge a b w) e)
     ∙ (weight_put x.pairs a b w a b ∙ ap (λ t. cond t (Some w) (weight_of x a b)) (itself a b)) in
-    record { source = and_left (has x a) (has x b) two.0; target = and_right (has x a) (has x b) two.0; turned = λ same. let f : Some w ≡ None = sym now ∙ (same ∙ two.1) in absurd (cc) }
+    record { source = and_left (has x a) (has x b) two.0; target = and_right (has x a) (has x b) two.0; turned = λ same. two.1 (sym same ∙ now) }
 edge_change x (RemoveEdge a b) h e =
     let two = remove_alters (has x a && has x b) (weight_of x a b) e in
     let now : weight_of (after x (RemoveEdge a b)) a b ≡ None = ap (λ (g : Graph). weight_of g a b) (after_change x (RemoveEdge a b) e)

@@ -1,5 +1,5 @@
 -- What each kind of event does to the graph.
-use Rattle.std.proofs.Common.{◌≡◌, ℕ, Bool, true, false, cond, not, ◌&&◌, ◌||◌, ◌==◌, List, [], ◌∷◌, ◌++◌, filter_map, reverse, Option, Some, None, refl, sym, ap, ◌∙◌, true≢false, arith, eqb-true, ne_eqb}
+use Rattle.std.proofs.Common.{◌≡◌, ℕ, Bool, true, false, cond, not, ◌&&◌, ◌||◌, ◌==◌, List, [], ◌∷◌, ◌++◌, filter_map, reverse, Option, Some, None, refl, sym, ap, ◌∙◌, true≢false, arith, eqb-true, ne_eqb, ◌⊎◌, ⊎_elim, inl, inr}
 use Rattle.std.specs.Prelude.{option_map, option_and_then}
 use Rattle.std.specs.List.{list_any, cons_option}
 use Rattle.std.specs.Cmp.{nat_cmp_total, Equal-is}
@@ -16,12 +16,12 @@ use Rattle.graph_kinds.proofs.Graphs as graphs
 use Rattle.graph_kinds.proofs.Calls.{and_left, and_right}
 use Rattle.packed_link.specs.declared.link.Life.{Life}
 use Rattle.core_journal.specs.declared.event.Event.{Event}
-use Rattle.core_journal.specs.Event.{same_life, links_vertex, marks_vertex, links_edge, marks_edge}
+use Rattle.core_journal.specs.Event.{same_life, links_vertex, marks_vertex, links_edge, marks_edge, cuts_edge, replaces, cut_life}
 use Rattle.core_journal.specs.Life.{vertex_marked, edge_marked, key_of, link_of}
 use Rattle.core_journal.specs.GraphOf.{both, weighed, present_key, pair_between, present_pair, key_by, pair_by, graph_of}
-use Rattle.core_journal.specs.Changes.{is_idle, IsNewVertex, IsRemovedVertex, IsNewEdge, IsRemovedEdge, IsFrozenEdge}
+use Rattle.core_journal.specs.Changes.{is_idle, IsNewVertex, IsRemovedVertex, IsNewEdge, IsRemovedEdge, IsReplacing, IsReplacedEdge, IsFrozenEdge}
 use Rattle.core_journal.proofs.Lists.{every_map}
-use Rattle.core_journal.proofs.Snoc.{same_is, same_self, differs, filter_same, filter_each, filter_skip, filter_last, filter_reverse, every_reverse, none_found, find_last, idle_is, cuts_is, link_skip, link_else, marked_skip, marked_here, cut_skip, cut_else, cut_here, present_skip, present_else, between_skip}
+use Rattle.core_journal.proofs.Snoc.{same_is, same_self, differs, filter_same, filter_each, filter_skip, filter_last, filter_reverse, every_reverse, none_found, find_last, idle_is, cuts_is, link_skip, link_else, marked_skip, marked_here, cut_skip, cut_else, cut_here, own_else, own_here, present_skip, present_else, between_skip}
 
 -- an event after which each life is what it was leaves the graph
 pub graph_stays : (past : List Event) (e : Event) → ((x : Life) → present_key (past ++ e ∷ []) x ≡ present_key past x) → ((x : Life) → present_pair (past ++ e ∷ []) x ≡ present_pair past x)
@@ -56,10 +56,10 @@ pair_of_link past e same (Some link) = same link
 pair_uncut : (past : List Event) (e : Event) → marks_edge e.kind ≡ true → (x : Life) → same_life x e.life ≡ false → present_pair (past ++ e ∷ []) x ≡ present_pair past x
 pair_uncut past e cuts x h =
     let k = cuts_is e.kind cuts in
-    λ i. cond (cut_else past e x h i) None ((ap (option_and_then (pair_between (past ++ e ∷ []))) (link_skip past e k.2 x) ∙ pair_of_link past e (between_skip past e k.0 k.1) (link_of past x)) i)
+    λ i. cond (own_else past e cuts x h i) None ((ap (option_and_then (pair_between (past ++ e ∷ []))) (link_skip past e k.2 x) ∙ pair_of_link past e (between_skip past e k.0 k.1) (link_of past x)) i)
 
 pair_cut : (past : List Event) (e : Event) → marks_edge e.kind ≡ true → present_pair (past ++ e ∷ []) e.life ≡ None
-pair_cut past e cuts = ap (λ b. cond b None (option_and_then (pair_between (past ++ e ∷ [])) (link_of (past ++ e ∷ []) e.life))) (cut_here past e cuts)
+pair_cut past e cuts = ap (λ b. cond b None (option_and_then (pair_between (past ++ e ∷ [])) (link_of (past ++ e ∷ []) e.life))) (own_here past e cuts)
 
 -- an edge is marked whose pair isn't there
 pub hidden_graph : (past : List Event) (e : Event) → marks_edge e.kind ≡ true → present_pair past e.life ≡ None → graph_of (past ++ e ∷ []) ≡ graph_of past
@@ -137,7 +137,7 @@ new_vertex_graph past e n =
         λ i. weighed link.weight (both (else link.source (differs link.source e.life apart.0) i) (else link.target (differs link.target e.life apart.1) i))
 
     pair : (x : Life) → present_pair (past ++ e ∷ []) x ≡ present_pair past x
-    pair x = λ i. cond (cut_skip past e (ap marks_edge n.kind) x i) None ((ap (option_and_then (pair_between (past ++ e ∷ []))) (link_skip past e (ap links_edge n.kind) x) ∙ joined x (link_of past x) refl) i)
+    pair x = λ i. cond (cut_skip past e (ap cuts_edge n.kind) x i) None ((ap (option_and_then (pair_between (past ++ e ∷ []))) (link_skip past e (ap links_edge n.kind) x) ∙ joined x (link_of past x) refl) i)
 
 -- an edge is linked: its pair comes first of all, where there is one
 new_pairs : (past : List Event) (e : Event) → IsNewEdge past e → filter_map (pair_by (past ++ e ∷ [])) (reverse (past ++ e ∷ [])) ≡ cons_option (pair_between past e) (filter_map (pair_by past) (reverse past))
@@ -155,7 +155,7 @@ new_pairs past e n =
     none = none_found (λ (d : Event). links_edge d.kind && same_life e.life d.life) past n.new
 
     uncut : (x : Life) → edge_marked (past ++ e ∷ []) x ≡ edge_marked past x
-    uncut x = cut_skip past e (ap marks_edge n.kind) x
+    uncut x = cut_skip past e (ap cuts_edge n.kind) x
 
     here : pair_by (past ++ e ∷ []) e ≡ pair_between past e
     here =
@@ -277,6 +277,12 @@ pub weight-graph : (journal : List Event) (a b : ℕ) → weight_of (graph_of jo
 unfolding graph_of
 weight-graph journal a b = map.get-from_entries pair_total (filter_map (pair_by journal) (reverse journal)) (a, b)
 
+-- the weights of the graph to which an edge is added
+weight-added : (journal : List Event) (p : ℕ × ℕ) (w : ℕ) (c d : ℕ)
+    → weight_of (change (graph_of journal) (AddEdge p.0 p.1 w)) c d ≡ cond (eq_by_cmp pair_cmp (c, d) p) (Some w) (entry.find pair_cmp (c, d) (filter_map (pair_by journal) (reverse journal)))
+unfolding graph_of
+weight-added journal p w c d = map.get-from_entries pair_total ((p, w) ∷ filter_map (pair_by journal) (reverse journal)) (c, d)
+
 -- a pair without this key
 abbrev free_of : ℕ → ℕ × ℕ → Bool
 free_of key p = not (p.0 == key) && not (p.1 == key)
@@ -347,7 +353,7 @@ removed_vertex_graph past e key r = graphs.same_graph (graph_of (past ++ e ∷ [
 
     pair : (x : Life) → present_pair (past ++ e ∷ []) x ≡ keep_pair (free_of key) (present_pair past x)
     pair x =
-        (λ i. cond (cut_skip past e (ap marks_edge r.kind) x i) None (option_and_then (pair_between (past ++ e ∷ [])) (link_skip past e (ap links_edge r.kind) x i)))
+        (λ i. cond (cut_skip past e (ap cuts_edge r.kind) x i) None (option_and_then (pair_between (past ++ e ∷ [])) (link_skip past e (ap links_edge r.kind) x i)))
         ∙ by (edge_marked past x) (link_of past x)
       where
         by : (c : Bool) (o : Option Event) → cond c None (option_and_then (pair_between (past ++ e ∷ [])) o) ≡ keep_pair (free_of key) (cond c None (option_and_then (pair_between past) o))
@@ -437,3 +443,134 @@ removed_edge_graph past e a b r = graphs.same_graph (graph_of (past ++ e ∷ [])
         ∙ (find_kept (pair_by past) (pair_by (past ++ e ∷ [])) (other_than a b) pair_kept (c, d) (reverse past)
         ∙ (flip ((c == a) && (d == b)) (entry.find pair_cmp (c, d) (filter_map (pair_by past) (reverse past)))
         ∙ sym (weight_cut (graph_of past).pairs a b c d ∙ ap (λ o. cond ((c == a) && (d == b)) None o) (weight-graph past c d)))))
+
+-- pairs of another key are found as they were, where each that goes has this key
+find_less : (f g : Event → Option ((ℕ × ℕ) × ℕ)) (q : ℕ × ℕ) (xs : List Event)
+    → Every (λ d. (g d ≡ f d) ⊎ ((g d ≡ None) × ((p : (ℕ × ℕ) × ℕ) × (f d ≡ Some p) × (eq_by_cmp pair_cmp q p.0 ≡ false)))) xs
+    → sought q (filter_map g xs) ≡ sought q (filter_map f xs)
+find_less f g q [] h = refl
+find_less f g q (d ∷ xs) h =
+    let rest = find_less f g q xs h.1 in
+    ⊎_elim (λ same. ap (λ o. sought q (cons_option o (filter_map g xs))) same ∙ onto (f d) (filter_map g xs) (filter_map f xs) rest)
+    (λ gone. ap (λ o. sought q (cons_option o (filter_map g xs))) gone.0
+    ∙ (rest ∙ sym (ap (λ o. sought q (cons_option o (filter_map f xs))) gone.1.1
+    ∙ ap (λ c. cond c (Some gone.1.0.1) (sought q (filter_map f xs))) gone.1.2))) h.0
+  where
+    onto : (o : Option ((ℕ × ℕ) × ℕ)) (ys zs : List ((ℕ × ℕ) × ℕ)) → sought q ys ≡ sought q zs → sought q (cons_option o ys) ≡ sought q (cons_option o zs)
+    onto None ys zs k = k
+    onto (Some p) ys zs k = ap (λ t. cond (eq_by_cmp pair_cmp q p.0) (Some p.1) t) k
+
+module _ (past : List Event) (e : Event) (n : IsReplacing past e) where
+  same_between : (link : Event) → pair_between (past ++ e ∷ []) link ≡ pair_between past link
+  same_between link = between_skip past e (ap links_vertex n.kind) (ap marks_vertex n.kind) link
+
+  is_old : cut_life e ≡ e.old
+  is_old = ap (λ k. cond (replaces k) e.old e.life) n.kind
+
+  uncut : (x : Life) → same_life x e.old ≡ false → edge_marked (past ++ e ∷ []) x ≡ edge_marked past x
+  uncut x h = cut_else past e x (ap (same_life x) is_old ∙ h)
+
+  cut_old : edge_marked (past ++ e ∷ []) e.old ≡ true
+  cut_old = sym (ap (edge_marked (past ++ e ∷ [])) is_old) ∙ cut_here past e (ap cuts_edge n.kind)
+
+  -- the pair of the new edge is the one between its ends
+  pair_new : present_pair (past ++ e ∷ []) e.life ≡ pair_between past e
+  unfolding link_of
+  pair_new =
+      let found = find_last (λ (d : Event). links_edge d.kind && same_life e.life d.life) past e n.new (λ i. links_edge (n.kind i) && same_self e.life i) in
+      (λ i. cond ((uncut e.life (differs e.life e.old n.apart) ∙ n.unmarked) i) None (option_and_then (pair_between (past ++ e ∷ [])) (found i))) ∙ same_between e
+
+  -- the old edge has none any more, and each other has its own
+  pair_old : present_pair (past ++ e ∷ []) e.old ≡ None
+  pair_old = ap (λ b. cond b None (option_and_then (pair_between (past ++ e ∷ [])) (link_of (past ++ e ∷ []) e.old))) cut_old
+
+  pair_else : (x : Life) → same_life x e.life ≡ false → same_life x e.old ≡ false → present_pair (past ++ e ∷ []) x ≡ present_pair past x
+  pair_else x h g = λ i. cond (uncut x g i) None ((ap (option_and_then (pair_between (past ++ e ∷ []))) (link_else past e x h) ∙ pair_of_link past e same_between (link_of past x)) i)
+
+  same_keys : filter_map (key_by (past ++ e ∷ [])) (past ++ e ∷ []) ≡ filter_map (key_by past) past
+  same_keys =
+      filter_same _ (key_by past) (λ d. ap (λ o. cond (links_vertex d.kind) o None) (present_skip past e (ap links_vertex n.kind) (ap marks_vertex n.kind) d.life)) (past ++ e ∷ [])
+      ∙ filter_skip (key_by past) past e (ap (λ k. cond (links_vertex k) (present_key past e.life) None) n.kind)
+
+  first_pair : filter_map (pair_by (past ++ e ∷ [])) (reverse (past ++ e ∷ [])) ≡ cons_option (pair_between past e) (filter_map (pair_by (past ++ e ∷ [])) (reverse past))
+  first_pair =
+      filter_reverse (pair_by (past ++ e ∷ [])) past e
+      ∙ ap (λ o. cons_option o (filter_map (pair_by (past ++ e ∷ [])) (reverse past)))
+      (ap (λ k. cond (links_edge k) (present_pair (past ++ e ∷ []) e.life) None) n.kind ∙ pair_new)
+
+  -- no earlier event linked the new life
+  unlinked_before : Every (λ (d : Event). (links_edge d.kind && same_life e.life d.life) ≡ false) past
+  unfolding link_of
+  unlinked_before = none_found (λ (d : Event). links_edge d.kind && same_life e.life d.life) past n.new
+
+-- an edge is replaced whose pair is there: the pair has the new weight
+pub replaced_edge_graph : (past : List Event) (e : Event) (a b : ℕ) → IsReplacedEdge past e a b → graph_of (past ++ e ∷ []) ≡ change (graph_of past) (AddEdge a b e.weight)
+replaced_edge_graph past e a b r = graphs.same_graph (graph_of (past ++ e ∷ [])) (change (graph_of past) (AddEdge a b e.weight)) keys weights
+  where
+    n : IsReplacing past e
+    n = r.replaces
+
+    keys : (q : ℕ) → has (graph_of (past ++ e ∷ [])) q ≡ has (graph_of past) q
+    keys q = has-graph (past ++ e ∷ []) q ∙ (ap (list_any (λ y. y == q)) (same_keys past e n) ∙ sym (has-graph past q))
+
+    flip : (x y : Life) → same_life x y ≡ false → same_life y x ≡ false
+    flip x y h = differs y x (λ s. true≢false (sym (ap (same_life x) s ∙ same_self x) ∙ h))
+
+    less : (q : ℕ × ℕ) → eq_by_cmp pair_cmp q (a, b) ≡ false → (d : Event) → (links_edge d.kind && same_life e.life d.life) ≡ false
+        → (pair_by (past ++ e ∷ []) d ≡ pair_by past d)
+        ⊎ ((pair_by (past ++ e ∷ []) d ≡ None) × ((p : (ℕ × ℕ) × ℕ) × (pair_by past d ≡ Some p) × (eq_by_cmp pair_cmp q p.0 ≡ false)))
+    less q apart d h = by (links_edge d.kind) refl (same_life d.life e.old) refl h
+      where
+        by : (l : Bool) → links_edge d.kind ≡ l → (o : Bool) → same_life d.life e.old ≡ o → (l && same_life e.life d.life) ≡ false
+            → (pair_by (past ++ e ∷ []) d ≡ pair_by past d)
+            ⊎ ((pair_by (past ++ e ∷ []) d ≡ None) × ((p : (ℕ × ℕ) × ℕ) × (pair_by past d ≡ Some p) × (eq_by_cmp pair_cmp q p.0 ≡ false)))
+        by false is o at k = inl (ap (λ t. cond t (present_pair (past ++ e ∷ []) d.life) None) is ∙ sym (ap (λ t. cond t (present_pair past d.life) None) is))
+        by true is false at k = inl (ap (λ o. cond (links_edge d.kind) o None) (pair_else past e n d.life (flip e.life d.life k) at))
+        by true is true at k =
+            let same = same_is d.life e.old at in
+            inr (
+              ap (λ t. cond t (present_pair (past ++ e ∷ []) d.life) None) is ∙ (ap (present_pair (past ++ e ∷ [])) same ∙ pair_old past e n),
+              (((a, b), r.weight), ap (λ t. cond t (present_pair past d.life) None) is ∙ (ap (present_pair past) same ∙ r.there), apart),
+            )
+
+    rest : (q : ℕ × ℕ) (t : Bool) → eq_by_cmp pair_cmp q (a, b) ≡ t
+        → cond t (Some e.weight) (sought q (filter_map (pair_by (past ++ e ∷ [])) (reverse past))) ≡ cond t (Some e.weight) (sought q (filter_map (pair_by past) (reverse past)))
+    rest q true apart = refl
+    rest q false apart =
+        find_less (pair_by past) (pair_by (past ++ e ∷ [])) q (reverse past)
+        (every_reverse _ past (every_map (λ (d : Event). (links_edge d.kind && same_life e.life d.life) ≡ false) _ (less q apart) past (unlinked_before past e n)))
+
+    weights : (c d : ℕ) → weight_of (graph_of (past ++ e ∷ [])) c d ≡ weight_of (change (graph_of past) (AddEdge a b e.weight)) c d
+    weights c d =
+        weight-graph (past ++ e ∷ []) c d
+        ∙ (ap (sought (c, d)) (first_pair past e n ∙ (λ i. cons_option (weighed e.weight (both (r.source i) (r.target i))) (filter_map (pair_by (past ++ e ∷ [])) (reverse past))))
+        ∙ (rest (c, d) (eq_by_cmp pair_cmp (c, d) (a, b)) refl ∙ sym (weight-added past (a, b) e.weight c d)))
+
+-- an edge is replaced whose pair isn't there, nor that of the new one
+pub hidden_replaced_graph : (past : List Event) (e : Event) → IsReplacing past e → present_pair past e.old ≡ None → pair_between past e ≡ None → graph_of (past ++ e ∷ []) ≡ graph_of past
+hidden_replaced_graph past e n hidden none = graphs.same_graph (graph_of (past ++ e ∷ [])) (graph_of past) keys weights
+  where
+    keys : (q : ℕ) → has (graph_of (past ++ e ∷ [])) q ≡ has (graph_of past) q
+    keys q = has-graph (past ++ e ∷ []) q ∙ (ap (list_any (λ y. y == q)) (same_keys past e n) ∙ sym (has-graph past q))
+
+    flip : (x y : Life) → same_life x y ≡ false → same_life y x ≡ false
+    flip x y h = differs y x (λ s. true≢false (sym (ap (same_life x) s ∙ same_self x) ∙ h))
+
+    old : (d : Event) → (links_edge d.kind && same_life e.life d.life) ≡ false → pair_by (past ++ e ∷ []) d ≡ pair_by past d
+    old d h = by (links_edge d.kind) refl (same_life d.life e.old) refl h
+      where
+        by : (l : Bool) → links_edge d.kind ≡ l → (o : Bool) → same_life d.life e.old ≡ o → (l && same_life e.life d.life) ≡ false → pair_by (past ++ e ∷ []) d ≡ pair_by past d
+        by false is o at k = ap (λ t. cond t (present_pair (past ++ e ∷ []) d.life) None) is ∙ sym (ap (λ t. cond t (present_pair past d.life) None) is)
+        by true is false at k = ap (λ o. cond (links_edge d.kind) o None) (pair_else past e n d.life (flip e.life d.life k) at)
+        by true is true at k =
+            let same = same_is d.life e.old at in
+            ap (λ o. cond (links_edge d.kind) o None)
+            ((ap (present_pair (past ++ e ∷ [])) same ∙ pair_old past e n) ∙ sym (ap (present_pair past) same ∙ hidden))
+
+    weights : (c d : ℕ) → weight_of (graph_of (past ++ e ∷ [])) c d ≡ weight_of (graph_of past) c d
+    weights c d =
+        weight-graph (past ++ e ∷ []) c d
+        ∙ (ap (sought (c, d)) (first_pair past e n ∙ (ap (λ o. cons_option o (filter_map (pair_by (past ++ e ∷ [])) (reverse past))) none
+        ∙ filter_each (pair_by (past ++ e ∷ [])) (pair_by past) (reverse past)
+        (every_reverse (λ d. pair_by (past ++ e ∷ []) d ≡ pair_by past d) past (every_map (λ (d : Event). (links_edge d.kind && same_life e.life d.life) ≡ false) (λ (d : Event). pair_by (past ++ e ∷ []) d ≡ pair_by past d) old past (unlinked_before past e n)))))
+        ∙ sym (weight-graph past c d))

@@ -4,7 +4,7 @@ use Rattle.std.specs.Prelude.{option_map, is_some}
 use Rattle.std.specs.List.{list_any}
 use Rattle.packed_link.specs.declared.link.Life.{Life}
 use Rattle.core_journal.specs.declared.event.Event.{Event}
-use Rattle.core_journal.specs.Event.{same_life, links_vertex, marks_vertex, links_edge, marks_edge, unlinks, freezes_head}
+use Rattle.core_journal.specs.Event.{same_life, links_vertex, marks_vertex, links_edge, cuts_edge, cut_life, unlinks, freezes_head}
 use Rattle.core_journal.specs.Life.{vertex_linked, vertex_marked, edge_linked, edge_marked, unlinked, head_frozen, key_of, link_of}
 use Rattle.core_journal.proofs.Lists.{any_more, find_more}
 
@@ -33,7 +33,7 @@ pub edge_linked_more : (past more : List Event) (x : Life) → edge_linked past 
 edge_linked_more past more x h = any_more (λ (e : Event). links_edge e.kind && same_life x e.life) past more h
 
 pub edge_marked_more : (past more : List Event) (x : Life) → edge_marked past x ≡ true → edge_marked (past ++ more) x ≡ true
-edge_marked_more past more x h = any_more (λ (e : Event). marks_edge e.kind && same_life x e.life) past more h
+edge_marked_more past more x h = any_more (λ (e : Event). cuts_edge e.kind && same_life x (cut_life e)) past more h
 
 pub unlinked_more : (past more : List Event) (x : Life) → unlinked past x ≡ true → unlinked (past ++ more) x ≡ true
 unlinked_more past more x h = any_more (λ (e : Event). unlinks e.kind && same_life x e.life) past more h

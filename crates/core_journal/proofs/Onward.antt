@@ -5,6 +5,7 @@ use Rattle.graph_kinds.specs.declared.outcome.Outcome.{Outcome}
 use Rattle.graph_kinds.specs.declared.outcome.Outcome.TheVariants.{Overtaken, Full, Again}
 use Rattle.graph_kinds.specs.declared.entry.Class.{Class}
 use Rattle.graph_kinds.specs.declared.entry.Class.TheVariants.{Silent, Late, Own}
+use Rattle.core_journal.specs.Event.{counted}
 use Rattle.core_journal.specs.declared.event.Event.{Event}
 use Rattle.graph_kinds.specs.declared.entry.Entry.{Entry}
 use Rattle.core_journal.specs.declared.book.Book.{Book}
@@ -15,7 +16,6 @@ use Rattle.graph_kinds.specs.History.{Every}
 use Rattle.core_journal.specs.GraphOf.{graph_of, call_of, edge_of, changes, RegularFrom, IsRegular}
 use Rattle.core_journal.specs.Life.{key_of}
 use Rattle.core_journal.specs.Right.{NoneFree, StandsAt, InFrame, is_silent, FramedFrom, IsAnswer, RightSilent, OwnReply, RightAs, Right, IsBookOf}
-use Rattle.core_journal.specs.Foreign.{counted}
 use Rattle.core_journal.proofs.Turns.{stands_at}
 use Rattle.core_journal.proofs.Lists.{every_append, every_map, every_both, take_front, get_front, get_back}
 

@@ -6,14 +6,15 @@ use Rattle.graph_kinds.specs.Answer.{alters, after, change}
 use Rattle.graph_kinds.specs.declared.call.Call.{Call}
 use Rattle.graph_kinds.specs.declared.call.Call.TheVariants.{AddVertex, RemoveVertex, AddEdge, RemoveEdge}
 use Rattle.graph_kinds.proofs.Calls.{after_change}
+use Rattle.packed_link.specs.declared.link.Life.{Life}
 use Rattle.core_journal.specs.declared.event.Kind.{Kind}
 use Rattle.core_journal.specs.declared.event.Event.{Event}
 use Rattle.core_journal.specs.Event.{marks_vertex, marks_edge}
 use Rattle.core_journal.specs.GraphOf.{both, ends_of, present_key, pair_between, present_pair, graph_of, call_by, call_of, same_graph, changes, IsRegularEvent, RegularFrom, IsRegular}
-use Rattle.core_journal.specs.Changes.{is_idle, IsNewVertex, IsRemovedVertex, IsNewEdge, IsRemovedEdge}
-use Rattle.core_journal.proofs.Calls.{same_graph_is, same_graph_self, altered, adds_vertex, removes_there, adds_edge, removes_edge}
+use Rattle.core_journal.specs.Changes.{is_idle, IsNewVertex, IsRemovedVertex, IsNewEdge, IsRemovedEdge, IsReplacing, IsReplacedEdge}
+use Rattle.core_journal.proofs.Calls.{same_graph_is, same_graph_self, altered, adds_vertex, removes_there, adds_edge, changes_edge, removes_edge}
 use Rattle.core_journal.proofs.Snoc.{idle_is, cuts_is}
-use Rattle.core_journal.proofs.GraphRows.{idle_graph, hidden_graph, new_vertex_graph, removed_vertex_graph, new_edge_graph, no_edge_graph, removed_edge_graph}
+use Rattle.core_journal.proofs.GraphRows.{idle_graph, hidden_graph, new_vertex_graph, removed_vertex_graph, new_edge_graph, no_edge_graph, removed_edge_graph, replaced_edge_graph, hidden_replaced_graph}
 use Rattle.core_journal.proofs.LivesOf.{present_is, joined_is, key_of_life, only_pair}
 
 -- an event that leaves the graph does not change it
@@ -77,6 +78,18 @@ removed_edge_regular past e a b r =
     ∙ (λ i. option_map (λ (p : ℕ × ℕ). RemoveEdge p.0 p.1) (both ((present_is past j.link.source a j.source).1 i) ((present_is past j.link.target b j.target).1 i)))))
     (removes_edge (graph_of past) a b r.weight (key_of_life past j.link.source a j.source) (key_of_life past j.link.target b j.target) (only_pair past e.life a b r.weight r.there r.only))
     (removed_edge_graph past e a b r)
+
+-- an edge is replaced that is the only present one of its pair, by one of another weight
+pub replaced_edge_regular : (past : List Event) (e : Event) (a b : ℕ) → (r : IsReplacedEdge past e a b) → ((x : Life) (w : ℕ) → present_pair past x ≡ Some ((a, b), w) → x ≡ e.old) → r.weight ≢ e.weight → IsRegularEvent past e
+replaced_edge_regular past e a b r only ne =
+    regular_call past e (AddEdge a b e.weight)
+    (ap (λ (k : Kind). call_by k past e) r.replaces.kind ∙ (λ i. option_map (λ (p : ℕ × ℕ). AddEdge p.0 p.1 e.weight) (both ((present_is past e.source a r.source).1 i) ((present_is past e.target b r.target).1 i))))
+    (changes_edge (graph_of past) a b r.weight e.weight (key_of_life past e.source a r.source) (key_of_life past e.target b r.target) (only_pair past e.old a b r.weight r.there only) ne)
+    (replaced_edge_graph past e a b r)
+
+-- an edge is replaced whose pair is not there
+pub hidden_replaced_regular : (past : List Event) (e : Event) → IsReplacing past e → present_pair past e.old ≡ None → pair_between past e ≡ None → IsRegularEvent past e
+hidden_replaced_regular past e n hidden none = regular_still past e (hidden_replaced_graph past e n hidden none) (ap marks_vertex n.kind)
 
 -- an edge is marked whose pair is not there
 pub hidden_regular : (past : List Event) (e : Event) → marks_edge e.kind ≡ true → present_pair past e.life ≡ None → IsRegularEvent past e

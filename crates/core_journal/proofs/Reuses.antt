@@ -8,6 +8,7 @@ use Rattle.packed_link.specs.declared.link.Life.{Life}
 use Rattle.core_journal.specs.declared.event.Kind.{Kind}
 use Rattle.core_journal.specs.declared.event.Kind.TheVariants.{PopFree}
 use Rattle.core_journal.specs.declared.event.Event.{Event}
+use Rattle.core_journal.specs.Event.{pops}
 use Rattle.core_journal.specs.Reuse.{IsOver, ReusesSafely}
 use Rattle.core_journal.proofs.Lists.{get_short, get_back, take_front, take_here}
 
@@ -46,28 +47,24 @@ reuse_snoc sizes past e r over = record { each = λ q f at kind k earlier less w
 pub reuse_nil : (sizes : Sizes) → ReusesSafely sizes []
 reuse_nil sizes = record { each = λ q e at kind k earlier less was pop same. absurd (cc) }
 
-abbrev pub takes : Kind → Bool
-takes PopFree = true
-takes _ = false
-
 abbrev pub none_taken : List Event → Bool
-none_taken xs = list_all (λ (e : Event). not (takes e.kind)) xs
+none_taken xs = list_all (λ (e : Event). not (pops e.kind)) xs
 
 -- events that take no node go on safely
 pub quiet_stretch : (sizes : Sizes) (past xs : List Event) → none_taken xs ≡ true → ReusesSafely sizes past → ReusesSafely sizes (past ++ xs)
 quiet_stretch sizes past [] h r = subst (ReusesSafely sizes) (sym (append-nil past)) r
 quiet_stretch sizes past (x ∷ xs) h r =
-    let s = split (takes x.kind) refl h in
+    let s = split (pops x.kind) refl h in
     subst (ReusesSafely sizes) (append_assoc past (x ∷ []) xs)
-    (quiet_stretch sizes (past ++ x ∷ []) xs s.1 (reuse_snoc sizes past x r (λ kind. absurd (true≢false (sym (ap takes kind) ∙ s.0)))))
+    (quiet_stretch sizes (past ++ x ∷ []) xs s.1 (reuse_snoc sizes past x r (λ kind. absurd (true≢false (sym (ap pops kind) ∙ s.0)))))
   where
-    split : (b : Bool) → takes x.kind ≡ b → (not b && none_taken xs) ≡ true → (takes x.kind ≡ false) × (none_taken xs ≡ true)
+    split : (b : Bool) → pops x.kind ≡ b → (not b && none_taken xs) ≡ true → (pops x.kind ≡ false) × (none_taken xs ≡ true)
     split true is h = absurd (cc)
     split false is h = (is, h)
 
 -- the lives for which a node was taken
 abbrev pub taken_by : ℕ → Event → Option Life
-taken_by index e = cond (takes e.kind && (e.life.index == index)) (Some e.life) None
+taken_by index e = cond (pops e.kind && (e.life.index == index)) (Some e.life) None
 
 abbrev pub lives_of : ℕ → List Event → List Life
 lives_of index xs = filter_map (taken_by index) xs
@@ -79,7 +76,7 @@ one_of : (P : Life → Type 0) (index : ℕ) (xs : List Event) → Every P (live
 one_of P index [] h k d at kind same = absurd (cc)
 one_of P index (x ∷ xs) h zero d at kind same =
     let here : x ≡ d = cc in
-    let found : taken_by index x ≡ Some d.life = ap (taken_by index) here ∙ (λ i. cond (takes (kind i) && (same i == index)) (Some d.life) None) ∙ ap (λ b. cond b (Some d.life) None) (equal index) in
+    let found : taken_by index x ≡ Some d.life = ap (taken_by index) here ∙ (λ i. cond (pops (kind i) && (same i == index)) (Some d.life) None) ∙ ap (λ b. cond b (Some d.life) None) (equal index) in
     (subst (λ (o : Option Life). Every P (cons_option o (lives_of index xs))) found h).0
 one_of P index (x ∷ xs) h (suc k) d at kind same = one_of P index xs (rest (taken_by index x) h) k d at kind same
   where

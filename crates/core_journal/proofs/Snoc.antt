@@ -7,9 +7,9 @@ use Rattle.graph_kinds.specs.History.{Every}
 use Rattle.graph_kinds.proofs.Calls.{and_left, and_right}
 use Rattle.packed_link.specs.declared.link.Life.{Life}
 use Rattle.core_journal.specs.declared.event.Kind.{Kind}
-use Rattle.core_journal.specs.declared.event.Kind.TheVariants.{LinkVertex, MarkVertex, LinkEdge, MarkEdge, FreezeEdge}
+use Rattle.core_journal.specs.declared.event.Kind.TheVariants.{LinkVertex, MarkVertex, LinkEdge, MarkEdge, ReplaceEdge, FreezeEdge}
 use Rattle.core_journal.specs.declared.event.Event.{Event}
-use Rattle.core_journal.specs.Event.{same_life, links_vertex, marks_vertex, links_edge, marks_edge}
+use Rattle.core_journal.specs.Event.{same_life, links_vertex, marks_vertex, links_edge, marks_edge, cuts_edge, replaces, cut_life}
 use Rattle.core_journal.specs.Life.{vertex_marked, edge_marked, key_of, link_of}
 use Rattle.core_journal.specs.GraphOf.{both, weighed, present_key, pair_between}
 use Rattle.core_journal.specs.Changes.{is_idle}
@@ -115,7 +115,7 @@ pub record IsIdle (k : Kind) : Type 0 where
   pub links : links_vertex k ≡ false
   pub marks : marks_vertex k ≡ false
   pub joins : links_edge k ≡ false
-  pub cuts : marks_edge k ≡ false
+  pub cuts : cuts_edge k ≡ false
 
 -- what an idle kind does not do
 pub idle_is : (k : Kind) → is_idle k ≡ true → IsIdle k
@@ -124,6 +124,7 @@ idle_is MarkVertex h = absurd (true≢false (sym h))
 idle_is LinkEdge h = absurd (true≢false (sym h))
 idle_is MarkEdge h = absurd (true≢false (sym h))
 idle_is FreezeEdge h = absurd (true≢false (sym h))
+idle_is ReplaceEdge h = absurd (true≢false (sym h))
 idle_is _ h = record { links = refl; marks = refl; joins = refl; cuts = refl }
 
 -- a kind that marks an edge does nothing else
@@ -131,6 +132,15 @@ pub cuts_is : (k : Kind) → marks_edge k ≡ true → (links_vertex k ≡ false
 cuts_is MarkEdge h = (refl, refl, refl)
 cuts_is FreezeEdge h = (refl, refl, refl)
 cuts_is _ h = absurd (true≢false (sym h))
+
+-- it marks its own life, which is no edge that it replaces
+pub cuts_own : (k : Kind) → marks_edge k ≡ true → (cuts_edge k ≡ true) × (replaces k ≡ false)
+cuts_own MarkEdge h = (refl, refl)
+cuts_own FreezeEdge h = (refl, refl)
+cuts_own _ h = absurd (true≢false (sym h))
+
+pub own_cut : (e : Event) → marks_edge e.kind ≡ true → cut_life e ≡ e.life
+own_cut e h = ap (λ b. cond b e.old e.life) (cuts_own e.kind h).1
 
 module _ (past : List Event) (e : Event) where
   -- keys and links of lives, where the event links nothing or is about another life
@@ -160,14 +170,21 @@ module _ (past : List Event) (e : Event) where
   pub marked_here : marks_vertex e.kind ≡ true → vertex_marked (past ++ e ∷ []) e.life ≡ true
   marked_here h = any_last _ past e (ap (λ b. b && same_life e.life e.life) h ∙ same_self e.life)
 
-  pub cut_skip : marks_edge e.kind ≡ false → (x : Life) → edge_marked (past ++ e ∷ []) x ≡ edge_marked past x
-  cut_skip h x = any_skip _ past e (and_no (marks_edge e.kind) (same_life x e.life) h)
+  pub cut_skip : cuts_edge e.kind ≡ false → (x : Life) → edge_marked (past ++ e ∷ []) x ≡ edge_marked past x
+  cut_skip h x = any_skip _ past e (and_no (cuts_edge e.kind) (same_life x (cut_life e)) h)
 
-  pub cut_else : (x : Life) → same_life x e.life ≡ false → edge_marked (past ++ e ∷ []) x ≡ edge_marked past x
-  cut_else x h = any_skip _ past e (no_and (marks_edge e.kind) (same_life x e.life) h)
+  pub cut_else : (x : Life) → same_life x (cut_life e) ≡ false → edge_marked (past ++ e ∷ []) x ≡ edge_marked past x
+  cut_else x h = any_skip _ past e (no_and (cuts_edge e.kind) (same_life x (cut_life e)) h)
 
-  pub cut_here : marks_edge e.kind ≡ true → edge_marked (past ++ e ∷ []) e.life ≡ true
-  cut_here h = any_last _ past e (ap (λ b. b && same_life e.life e.life) h ∙ same_self e.life)
+  pub cut_here : cuts_edge e.kind ≡ true → edge_marked (past ++ e ∷ []) (cut_life e) ≡ true
+  cut_here h = any_last _ past e (ap (λ b. b && same_life (cut_life e) (cut_life e)) h ∙ same_self (cut_life e))
+
+  -- so where the event marks its own life
+  pub own_else : marks_edge e.kind ≡ true → (x : Life) → same_life x e.life ≡ false → edge_marked (past ++ e ∷ []) x ≡ edge_marked past x
+  own_else m x h = cut_else x (ap (same_life x) (own_cut e m) ∙ h)
+
+  pub own_here : marks_edge e.kind ≡ true → edge_marked (past ++ e ∷ []) e.life ≡ true
+  own_here m = sym (ap (edge_marked (past ++ e ∷ [])) (own_cut e m)) ∙ cut_here (cuts_own e.kind m).0
 
   -- the key of a present vertex stays where no vertex is linked or marked
   pub present_skip : links_vertex e.kind ≡ false → marks_vertex e.kind ≡ false → (x : Life) → present_key (past ++ e ∷ []) x ≡ present_key past x

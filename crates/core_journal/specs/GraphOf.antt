@@ -10,7 +10,10 @@ use Rattle.graph_kinds.specs.declared.call.Call.{Call}
 use Rattle.graph_kinds.specs.declared.call.Call.TheVariants.{AddVertex, RemoveVertex, AddEdge, RemoveEdge}
 use Rattle.packed_link.specs.declared.link.Life.{Life}
 use Rattle.core_journal.specs.declared.event.Kind.{Kind}
-use Rattle.core_journal.specs.declared.event.Kind.TheVariants.{LinkVertex, MarkVertex, LinkEdge, MarkEdge}
+use Rattle.core_journal.specs.declared.event.Kind.TheVariants.{DrawNumber, PopFree, StorePrivate, LinkVertex}
+use Rattle.core_journal.specs.declared.event.Kind.TheVariants.{MarkVertex, UnlinkVertex, LinkEdge, Raise, MarkEdge}
+use Rattle.core_journal.specs.declared.event.Kind.TheVariants.{UnlinkEdge, ReplaceEdge, Announce, Withdraw, MoveEpoch}
+use Rattle.core_journal.specs.declared.event.Kind.TheVariants.{FreezeHead, FreezeEdge, StoreFree, PushFree}
 use Rattle.core_journal.specs.declared.event.Event.{Event}
 use Rattle.core_journal.specs.Event.{links_vertex, marks_vertex, links_edge}
 use Rattle.core_journal.specs.Life.{key_of, link_of, vertex_marked, edge_marked}
@@ -60,8 +63,23 @@ ends_of past link = both (key_of past link.source) (key_of past link.target)
 -- the event that linked an edge, by the kind of an event on it
 abbrev pub edge_by : Kind → List Event → Event → Option Event
 edge_by LinkEdge past e = Some e
+edge_by ReplaceEdge past e = Some e
 edge_by MarkEdge past e = link_of past e.life
-edge_by _ past e = None
+edge_by DrawNumber past e = None
+edge_by PopFree past e = None
+edge_by StorePrivate past e = None
+edge_by LinkVertex past e = None
+edge_by MarkVertex past e = None
+edge_by UnlinkVertex past e = None
+edge_by Raise past e = None
+edge_by UnlinkEdge past e = None
+edge_by Announce past e = None
+edge_by Withdraw past e = None
+edge_by MoveEpoch past e = None
+edge_by FreezeHead past e = None
+edge_by FreezeEdge past e = None
+edge_by StoreFree past e = None
+edge_by PushFree past e = None
 
 -- the event that linked the edge which an edge event is about
 abbrev pub edge_of : List Event → Event → Option Event
@@ -72,8 +90,21 @@ abbrev pub call_by : Kind → List Event → Event → Option Call
 call_by LinkVertex past e = Some (AddVertex e.key)
 call_by MarkVertex past e = option_map RemoveVertex (key_of past e.life)
 call_by LinkEdge past e = option_map (λ p. AddEdge p.0 p.1 e.weight) (ends_of past e)
+call_by ReplaceEdge past e = option_map (λ p. AddEdge p.0 p.1 e.weight) (ends_of past e)
 call_by MarkEdge past e = option_map (λ p. RemoveEdge p.0 p.1) (option_and_then (ends_of past) (link_of past e.life))
-call_by _ past e = None
+call_by DrawNumber past e = None
+call_by PopFree past e = None
+call_by StorePrivate past e = None
+call_by UnlinkVertex past e = None
+call_by Raise past e = None
+call_by UnlinkEdge past e = None
+call_by Announce past e = None
+call_by Withdraw past e = None
+call_by MoveEpoch past e = None
+call_by FreezeHead past e = None
+call_by FreezeEdge past e = None
+call_by StoreFree past e = None
+call_by PushFree past e = None
 
 -- the call that an event carries out, with the keys of its lives
 abbrev pub call_of : List Event → Event → Option Call

@@ -3,7 +3,7 @@ use Rattle.std.specs.Prelude.{ℕ, Bool, ◌&&◌, List, Option, find, option_ma
 use Rattle.std.specs.List.{list_any}
 use Rattle.packed_link.specs.declared.link.Life.{Life}
 use Rattle.core_journal.specs.declared.event.Event.{Event}
-use Rattle.core_journal.specs.Event.{same_life, links_vertex, marks_vertex, links_edge, marks_edge, unlinks}
+use Rattle.core_journal.specs.Event.{same_life, links_vertex, marks_vertex, links_edge, cuts_edge, cut_life, unlinks}
 use Rattle.core_journal.specs.Event.{freezes_head}
 
 -- the life was linked as a vertex
@@ -18,9 +18,9 @@ vertex_marked journal x = list_any (λ (e : Event). marks_vertex e.kind && same_
 abbrev pub edge_linked : List Event → Life → Bool
 edge_linked journal x = list_any (λ (e : Event). links_edge e.kind && same_life x e.life) journal
 
--- the life was marked as an edge
+-- the life was marked as an edge, or replaced
 abbrev pub edge_marked : List Event → Life → Bool
-edge_marked journal x = list_any (λ (e : Event). marks_edge e.kind && same_life x e.life) journal
+edge_marked journal x = list_any (λ (e : Event). cuts_edge e.kind && same_life x (cut_life e)) journal
 
 -- the life was taken off its list
 abbrev pub unlinked : List Event → Life → Bool

@@ -5,7 +5,7 @@ use Rattle.packed_link.specs.Layout.{Sizes, epoch_at, announce_at}
 use Rattle.packed_link.specs.declared.link.Life.{Life}
 use Rattle.core_journal.specs.declared.event.Kind.TheVariants.{PopFree}
 use Rattle.core_journal.specs.declared.event.Event.{Event}
-use Rattle.core_journal.specs.Event.{marks_edge, unlinks, freezes_head}
+use Rattle.core_journal.specs.Event.{cuts_edge, cut_life, unlinks, freezes_head}
 use Rattle.core_journal.specs.Life.{link_of, unlinked}
 use Rattle.core_journal.specs.Machine.{word_at}
 use Rattle.core_journal.specs.State.{Pass, state}
@@ -36,8 +36,8 @@ pub record IsHandedAt (journal : List Event) (x : Life) (p : ℕ) : Type 0 where
   pub mark_place : ℕ
   pub mark : Event
   pub mark_at : slice_get journal mark_place ≡ Some mark
-  pub marks : marks_edge mark.kind ≡ true
-  pub mark_life : mark.life ≡ x
+  pub marks : cuts_edge mark.kind ≡ true
+  pub mark_life : cut_life mark ≡ x
   pub head_place : ℕ
   pub head : Event
   pub head_at : slice_get journal head_place ≡ Some head

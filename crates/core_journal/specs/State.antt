@@ -5,10 +5,10 @@ use Rattle.std.specs.List.{range_with_len, list_any}
 use Rattle.packed_link.specs.Layout.{Sizes, bucket_at, link_at, second_at}
 use Rattle.packed_link.specs.declared.link.Life.{Life}
 use Rattle.core_journal.specs.declared.event.Kind.{Kind}
-use Rattle.core_journal.specs.declared.event.Kind.TheVariants.{DrawNumber, PopFree, LinkVertex, MarkVertex}
-use Rattle.core_journal.specs.declared.event.Kind.TheVariants.{UnlinkVertex, LinkEdge, MarkEdge, UnlinkEdge, Announce}
-use Rattle.core_journal.specs.declared.event.Kind.TheVariants.{Withdraw, MoveEpoch, FreezeHead, FreezeEdge, StoreFree}
-use Rattle.core_journal.specs.declared.event.Kind.TheVariants.{PushFree}
+use Rattle.core_journal.specs.declared.event.Kind.TheVariants.{DrawNumber, PopFree, StorePrivate, LinkVertex}
+use Rattle.core_journal.specs.declared.event.Kind.TheVariants.{MarkVertex, UnlinkVertex, LinkEdge, Raise, MarkEdge}
+use Rattle.core_journal.specs.declared.event.Kind.TheVariants.{UnlinkEdge, ReplaceEdge, Announce, Withdraw, MoveEpoch}
+use Rattle.core_journal.specs.declared.event.Kind.TheVariants.{FreezeHead, FreezeEdge, StoreFree, PushFree}
 use Rattle.core_journal.specs.declared.event.Event.{Event}
 use Rattle.core_journal.specs.Event.{no_life}
 
@@ -25,7 +25,7 @@ pub record Pass : Type 0 where
   pub birth : ℕ
   pub since : ℕ
 
--- a node in its last life: what was linked, whether it is marked, and whether its link was stored for the free list;
+-- a node in its last life: what was linked, and by the event of which number where it's an edge, whether it is marked, and whether its link was stored for the free list;
 -- where an earlier or this life last ended, as the length of the journal after that event, and the epoch then
 pub record Node : Type 0 where
   pub mode : Mode
@@ -38,6 +38,7 @@ pub record Node : Type 0 where
   pub source : Life
   pub target : Life
   pub weight : ℕ
+  pub since : ℕ
   pub ended : ℕ
   pub epoch : ℕ
 
@@ -98,6 +99,22 @@ handed x s = record s {
       (s.node y);
 }
 
+-- an edge is linked into the list of its source, at the place of the event
+abbrev pub joined_edge : Sizes → Event → State → State
+joined_edge sizes e s = record s {
+  node =
+      put e.life.index (record (s.node e.life.index) {
+        mode = Linked;
+        vertex = false;
+        key = e.key;
+        source = e.source;
+        target = e.target;
+        weight = e.weight;
+        since = s.count + 1;
+      }) s.node;
+  edges = λ x. linked_in sizes (second_at sizes x) e.place e.life.index (s.edges x);
+}
+
 -- what the state is after one more event, by its kind
 abbrev pub state_by : Kind → Sizes → Event → State → State
 state_by DrawNumber sizes e s = record s { count = s.count + 1; drawn = s.drawn + 1 }
@@ -142,9 +159,15 @@ state_by LinkEdge sizes e s = record s {
         source = e.source;
         target = e.target;
         weight = e.weight;
+        since = s.count + 1;
       }) s.node;
   edges = λ x. linked_in sizes (second_at sizes x) e.place e.life.index (s.edges x);
 }
+state_by ReplaceEdge sizes e s = handed ((joined_edge sizes e s).node e.old.index).source.index (record (joined_edge sizes e s) {
+  count = s.count + 1;
+  node =
+      put e.old.index (record ((joined_edge sizes e s).node e.old.index) { marked = true }) (joined_edge sizes e s).node;
+})
 state_by MarkEdge sizes e s = handed (s.node e.life.index).source.index (record s {
   count = s.count + 1;
   node = put e.life.index (record (s.node e.life.index) { marked = true }) s.node;
@@ -183,7 +206,8 @@ state_by PushFree sizes e s = record s {
   free = e.life.index ∷ s.free;
   node = put e.life.index (record (s.node e.life.index) { mode = Free }) s.node;
 }
-state_by _ sizes e s = record s { count = s.count + 1 }
+state_by StorePrivate sizes e s = record s { count = s.count + 1 }
+state_by Raise sizes e s = record s { count = s.count + 1 }
 
 -- at opening nothing has happened, and all nodes are free
 abbrev pub opening : Sizes → State
@@ -204,6 +228,7 @@ opening sizes = record {
     source = no_life;
     target = no_life;
     weight = 0;
+    since = 0;
     ended = 0;
     epoch = 0;
   };

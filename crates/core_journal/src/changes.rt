@@ -3,7 +3,7 @@
 //! The premises of the rows (`specs/Changes.antt`) speak of lives alone. A key is there by a present vertex
 //! life, a pair by a present edge life; no list is walked.
 
-ghost use Rattle.std.specs.Prelude.{◌≡◌, ℕ, List, [], ◌∷◌, ◌++◌, ◌↔◌, true, false, Some, None};
+ghost use Rattle.std.specs.Prelude.{◌≡◌, ◌≢◌, ℕ, List, [], ◌∷◌, ◌++◌, ◌↔◌, true, false, Some, None};
 ghost use Rattle.graph_kinds.specs.Graph.{has, weight_of};
 ghost use Rattle.graph_kinds.specs.Answer.{change};
 ghost use Rattle.graph_kinds.specs.declared.call.Call.TheVariants.{AddVertex, RemoveVertex, AddEdge, RemoveEdge};
@@ -13,7 +13,7 @@ ghost use Rattle.core_journal.specs.Event.{marks_edge};
 ghost use Rattle.core_journal.specs.GraphOf.{graph_of, present_key, present_pair, pair_between};
 ghost use Rattle.core_journal.specs.GraphOf.{IsRegular, IsRegularEvent};
 ghost use Rattle.core_journal.specs.Changes.{is_idle, IsNewVertex, IsRemovedVertex};
-ghost use Rattle.core_journal.specs.Changes.{IsNewEdge, IsRemovedEdge, IsFrozenEdge};
+ghost use Rattle.core_journal.specs.Changes.{IsNewEdge, IsRemovedEdge, IsReplacing, IsReplacedEdge, IsFrozenEdge};
 
 /// The keys of the graph are those of the present vertex lives. A weight is that of a present edge life of the
 /// pair, each present edge life has its pair, and both ends of a pair are keys.
@@ -49,6 +49,10 @@ pub fn kinds_change_the_graph()
         → graph_of (past ++ e ∷ []) ≡ change (graph_of past) (RemoveEdge a b) }
     ensures mark_none { (past : List Event) (e : Event) → marks_edge e.kind ≡ true
         → present_pair past e.life ≡ None → graph_of (past ++ e ∷ []) ≡ graph_of past }
+    ensures replace_edge { (past : List Event) (e : Event) (a b : ℕ) → IsReplacedEdge past e a b
+        → graph_of (past ++ e ∷ []) ≡ change (graph_of past) (AddEdge a b e.weight) }
+    ensures replace_none { (past : List Event) (e : Event) → IsReplacing past e
+        → present_pair past e.old ≡ None → pair_between past e ≡ None → graph_of (past ++ e ∷ []) ≡ graph_of past }
     ensures freeze_edge { (past : List Event) (e : Event) → IsFrozenEdge past e
         → graph_of (past ++ e ∷ []) ≡ graph_of past }
     ensures others { (past : List Event) (e : Event) → is_idle e.kind ≡ true
@@ -71,6 +75,11 @@ pub fn rows_are_regular()
         → IsRegularEvent past e }
     ensures mark_none { (past : List Event) (e : Event) → marks_edge e.kind ≡ true
         → present_pair past e.life ≡ None → IsRegularEvent past e }
+    ensures replace_edge { (past : List Event) (e : Event) (a b : ℕ) (r : IsReplacedEdge past e a b)
+        → ((x : Life) (w : ℕ) → present_pair past x ≡ Some ((a, b), w) → x ≡ e.old) → r.weight ≢ e.weight
+        → IsRegularEvent past e }
+    ensures replace_none { (past : List Event) (e : Event) → IsReplacing past e
+        → present_pair past e.old ≡ None → pair_between past e ≡ None → IsRegularEvent past e }
     ensures others { (past : List Event) (e : Event) → is_idle e.kind ≡ true → IsRegularEvent past e }
     ensures next { (past : List Event) (e : Event) → IsRegular past → IsRegularEvent past e
         → IsRegular (past ++ e ∷ []) }

@@ -26,6 +26,8 @@ pub enum Kind {
     MarkEdge,
     /// A marked edge is taken off its list.
     UnlinkEdge,
+    /// An edge is marked, and the edge that replaces it is linked behind it.
+    ReplaceEdge,
     /// A caller opens a pass and announces the epoch that it loaded.
     Announce,
     /// A caller closes its pass.
@@ -43,7 +45,8 @@ pub enum Kind {
 }
 
 /// A won step: the number of its caller, the place and the new content of its word, and the life that it is
-/// about. A link event also holds the key, and for an edge its source and target lives and its weight.
+/// about. A link event also holds the key, and for an edge its source and target lives and its weight; where the edge
+/// replaces another, also that one's life.
 pub struct Event {
     pub caller: u32,
     pub kind: Kind,
@@ -54,4 +57,5 @@ pub struct Event {
     pub source: Life,
     pub target: Life,
     pub weight: u32,
+    pub old: Life,
 }

@@ -6,7 +6,7 @@ use Rattle.packed_link.specs.Link.{mark_of, tag_of, mark_bit}
 use Rattle.packed_link.specs.Layout.{Sizes, IsLayout, link_at}
 use Rattle.packed_link.specs.declared.link.Life.{Life}
 use Rattle.core_journal.specs.declared.event.Kind.{Kind}
-use Rattle.core_journal.specs.declared.event.Kind.TheVariants.{LinkVertex, LinkEdge}
+use Rattle.core_journal.specs.declared.event.Kind.TheVariants.{LinkVertex, LinkEdge, ReplaceEdge}
 use Rattle.core_journal.specs.declared.event.Event.{Event}
 use Rattle.core_journal.specs.Event.{links_vertex, links_edge, same_life}
 use Rattle.core_journal.specs.GraphOf.{present_key}
@@ -27,6 +27,7 @@ use Rattle.core_rule.proofs.Present.{present_live}
 linked_there : (sizes : Sizes) (past : List Event) (e : Event) (k : Kind) → (links_vertex k ≡ true) ⊎ (links_edge k ≡ true) → AllowedAs k sizes past e → e.life.index < sizes.nodes
 linked_there sizes past e LinkVertex h ok = ok.there
 linked_there sizes past e LinkEdge h ok = ok.there
+linked_there sizes past e ReplaceEdge h ok = ok.there
 linked_there sizes past e _ h ok = ⊎_elim (λ t. absurd (cc)) (λ t. absurd (cc)) h
 
 pub key_there : (sizes : Sizes) (journal : List Event) → IsKept sizes journal → (x : Life) (key : ℕ) → key_of journal x ≡ Some key → x.index < sizes.nodes

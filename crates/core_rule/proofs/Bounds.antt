@@ -15,11 +15,11 @@ use Rattle.core_epoch.proofs.FreeList.{first_of_pool}
 use Rattle.core_journal.specs.declared.event.Kind.{Kind}
 use Rattle.core_journal.specs.declared.event.Kind.TheVariants.{PopFree, Raise, MoveEpoch}
 use Rattle.core_journal.specs.declared.event.Event.{Event}
-use Rattle.core_journal.specs.Event.{same_life}
+use Rattle.core_journal.specs.Event.{same_life, pops, raises, moves}
 use Rattle.core_journal.specs.Machine.{word_at}
 use Rattle.core_journal.specs.State.{Node, State, behind, state}
 use Rattle.core_journal.proofs.States.{state-snoc}
-use Rattle.core_rule.specs.Counts.{pops, raises, moves, made, about, most_pops, most_raises, most_moves}
+use Rattle.core_rule.specs.Counts.{made, about, most_pops, most_raises, most_moves}
 use Rattle.core_rule.specs.Kept.{Allowed, AllowedAs, IsKept}
 use Rattle.core_rule.specs.Free.{pool_in}
 use Rattle.core_rule.specs.Facts.{Bounds}

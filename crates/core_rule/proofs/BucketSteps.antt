@@ -1,4 +1,5 @@
 -- The chain of each bucket after each kept journal, and what each kind of event does to it.
+use Rattle.core_rule.proofs.Replaced.{old_joined}
 use Rattle.std.proofs.Common.{◌≡◌, ◌≢◌, ℕ, ◌+◌, ◌<◌, ◌%◌, Bool, true, false, ◌&&◌, ◌==◌, List, [], refl, sym, ap, ◌∙◌, subst, arith, ⊎_elim, eq-eqb, eqb-true}
 use Rattle.std.proofs.lemmas.Bool.{and_parts, and_from}
 use Rattle.std.proofs.Math.Nat.{mod-lt}
@@ -18,10 +19,10 @@ use Rattle.core_chain.proofs.Meets.{IsMet-from_Meets, IsChain-from_IsMet}
 use Rattle.core_chain.proofs.Tables.{Inserts-in, SetsMark-in, Unlinks-in}
 use Rattle.core_chain.proofs.Unlinks.{IsChain-unlinked}
 use Rattle.core_journal.specs.declared.event.Kind.{Kind}
-use Rattle.core_journal.specs.declared.event.Kind.TheVariants.{PopFree, StorePrivate, LinkVertex, MarkVertex, UnlinkVertex, LinkEdge, MarkEdge, UnlinkEdge, FreezeHead, FreezeEdge, StoreFree, PushFree}
+use Rattle.core_journal.specs.declared.event.Kind.TheVariants.{PopFree, StorePrivate, LinkVertex, MarkVertex, UnlinkVertex, LinkEdge, MarkEdge, UnlinkEdge, FreezeHead, FreezeEdge, StoreFree, PushFree, ReplaceEdge}
 use Rattle.core_journal.specs.declared.event.Event.{Event}
 use Rattle.core_journal.specs.Machine.{word_at}
-use Rattle.core_journal.specs.State.{Mode, Linked, Spent, Node as Nodes, State, is_linked, put, linked_in, state_by, opening, state}
+use Rattle.core_journal.specs.State.{Mode, Linked, Spent, Node as Nodes, State, is_linked, put, linked_in, state_by, opening, state, joined_edge}
 use Rattle.core_journal.proofs.MachineWords.{word_first}
 use Rattle.core_rule.specs.Kept.{AllowedAs, IsKept}
 use Rattle.core_rule.specs.Nodes.{node_in, IsUsed, IsLinkedVertex}
@@ -30,12 +31,12 @@ use Rattle.core_rule.specs.Chains.{bucket_word, bucket_places, is_of_bucket, buc
 use Rattle.core_rule.proofs.Steps.{IsAfter, Keeps, put_case, put_same, put_other, marked_state, closed_state, holds_all, writes_at}
 use Rattle.core_rule.proofs.LinkWords.{taken}
 use Rattle.core_rule.proofs.Contents.{contents}
-use Rattle.core_rule.proofs.Placed.{on_lists, used_there, marked_lists, handed_bucket}
+use Rattle.core_rule.proofs.Placed.{on_lists, used_there, marked_lists, handed_bucket, joined_lists}
 use Rattle.core_rule.proofs.Meets.{AreLinks, meets_inserted, meets_unlinked, meets_marked, meets_untouched, unlinked_else, linked_else, each_absent, each_such}
 
 -- the chain of a bucket, by a state and the words
 abbrev pub chain_of : Sizes → State → (ℕ → ℕ) → ℕ → Chain
-chain_of sizes s w j = chain_in w (bucket_places sizes j) (is_of_bucket sizes s j)
+chain_of sizes s w j = chain_in w (bucket_places sizes j) (is_of_bucket sizes s j) (λ x. 0)
 
 -- a node on a bucket is a linked vertex with a key of the bucket
 pub record IsVertexIn (sizes : Sizes) (v : Nodes) (j : ℕ) : Type 0 where
@@ -101,6 +102,7 @@ pub untouched : (sizes : Sizes) (past : List Event) (e : Event) (w : ℕ → ℕ
     → ((x : ℕ) → is_of_bucket sizes s' j x ≡ is_of_bucket sizes (state sizes past) j x) → Untouched (bucket_chain sizes past j) (chain_of sizes s' w j)
 untouched sizes past e w s' j a head links same = record {
   nodes = same;
+  since = λ x on. refl;
   key = λ x on. a.else (key_at sizes x) (λ h. (links x (is_in sizes (state sizes past) j x on)).1 (sym h));
   next = λ p on. ap index_of (word p on);
   mark = λ p on. ap mark_of (word p on);
@@ -205,7 +207,7 @@ module _ (sizes : Sizes) (z : IsLayout sizes) (past : List Event) (e : Event) (k
     -- the vertex is inserted into the chain of its bucket
     pub link_inserts : (s : IsSpot sizes past e link_home) → Inserts (bucket_chain sizes past link_home) (chain_of sizes link_state w link_home) s.at e.life.index
     link_inserts s =
-        Inserts-in (word_at sizes past) w (bucket_places sizes link_home) (is_of_bucket sizes (state sizes past) link_home) (is_of_bucket sizes link_state link_home) s.at e.life.index (tag_of (word_at sizes past e.place))
+        Inserts-in (word_at sizes past) w (bucket_places sizes link_home) (is_of_bucket sizes (state sizes past) link_home) (is_of_bucket sizes link_state link_home) (λ x. 0) (λ x. 0) (λ x on. refl) s.at e.life.index (tag_of (word_at sizes past e.place))
         (stands_alone sizes link_home s.at (home_low sizes z past kept e.key)) (omega (arith, ok.there, z.few_nodes)) (link_can s) (writes_at sizes past e w _ _ a s.place link_near ok.word) link_nodes
 
     -- and no word of another is written
@@ -253,7 +255,7 @@ module _ (sizes : Sizes) (z : IsLayout sizes) (past : List Event) (e : Event) (k
     pub mark_sets : Marks (bucket_chain sizes past mark_home) (chain_of sizes mark_state w mark_home) e.life.index
     mark_sets = record {
       present = home_in sizes z past kept e.life.index mark_home ok.linked refl;
-      sets = SetsMark-in (word_at sizes past) w (bucket_places sizes mark_home) (is_of_bucket sizes (state sizes past) mark_home) (is_of_bucket sizes mark_state mark_home) (Node e.life.index)
+      sets = SetsMark-in (word_at sizes past) w (bucket_places sizes mark_home) (is_of_bucket sizes (state sizes past) mark_home) (is_of_bucket sizes mark_state mark_home) (λ x. 0) (λ x. 0) (λ x on. refl) (Node e.life.index)
           (stands_alone sizes mark_home (Node e.life.index) (home_low sizes z past kept (node_in sizes past e.life.index).key))
           (writes_at sizes past e w (link_at sizes e.life.index) (with_mark (word_at sizes past (link_at sizes e.life.index))) a (sym ok.place) (omega (arith, ok.place, ok.there)) (ok.word ∙ ap (λ (p : ℕ). with_mark (word_at sizes past p)) ok.place))
           (mark_same mark_home);
@@ -327,7 +329,7 @@ module _ (sizes : Sizes) (z : IsLayout sizes) (past : List Event) (e : Event) (k
     -- the vertex leaves its chain
     pub cut_unlinks : (s : IsSpot sizes past e cut_home) → Unlinks (bucket_chain sizes past cut_home) (chain_of sizes cut_state w cut_home) s.at e.life.index
     cut_unlinks s =
-        Unlinks-in (word_at sizes past) w (bucket_places sizes cut_home) (is_of_bucket sizes (state sizes past) cut_home) (is_of_bucket sizes cut_state cut_home) s.at e.life.index (tag_of (word_at sizes past e.place))
+        Unlinks-in (word_at sizes past) w (bucket_places sizes cut_home) (is_of_bucket sizes (state sizes past) cut_home) (is_of_bucket sizes cut_state cut_home) (λ x. 0) (λ x. 0) (λ x on. refl) s.at e.life.index (tag_of (word_at sizes past e.place))
         (stands_alone sizes cut_home s.at (home_low sizes z past kept (node_in sizes past e.life.index).key)) (cut_can s) (writes_at sizes past e w _ _ a s.place (omega (arith, ok.place)) ok.word) cut_nodes
 
     pub cut_others : (j : ℕ) → j < sizes.buckets → j ≢ cut_home → Untouched (bucket_chain sizes past j) (chain_of sizes cut_state w j)
@@ -404,6 +406,17 @@ module _ (sizes : Sizes) (z : IsLayout sizes) (past : List Event) (e : Event) (k
       untouched sizes past e w (state_by MarkEdge sizes e (state sizes past)) j a (λ h. omega (arith, ok.place, h, low))
       (λ x v. ((λ h. let same : x ≡ e.life.index = omega (arith, ok.place, h) in off (subst (λ (y : ℕ). IsVertexIn sizes (node_in sizes past y) j) same v)), (λ h. omega (arith, ok.place, h))))
       (λ x. handed_bucket sizes (marked_state (state sizes past) e.life.index) (node_in sizes past e.life.index).source.index j x (marked_lists (state sizes past) e.life.index (on_lists sizes past kept)) ∙ marked_off x off)
+  idle_bucket ReplaceEdge o ok =
+      let s : State = state sizes past in
+      let t : State = joined_edge sizes e s in
+      let v : Nodes = record (node_in sizes past e.life.index) { mode = Linked; vertex = false; key = e.key; source = e.source; target = e.target; weight = e.weight; since = s.count + 1 } in
+      let off : IsVertexIn sizes (node_in sizes past e.old.index) j → ⊥ = λ v. let u = v.vertex in let t = ok.linked.edge in absurd (cc) in
+      let off_then : IsVertexIn sizes (t.node e.old.index) j → ⊥ = λ v. off (subst (λ (n : Nodes). IsVertexIn sizes n j) (old_joined sizes past e ok) v) in
+      untouched sizes past e w (state_by ReplaceEdge sizes e s) j a (λ h. omega (arith, ok.place, h, low))
+      (λ x v. ((λ h. let same : x ≡ e.old.index = omega (arith, ok.place, h) in off (subst (λ (y : ℕ). IsVertexIn sizes (node_in sizes past y) j) same v)), (λ h. omega (arith, ok.place, h))))
+      (λ x. handed_bucket sizes (marked_state t e.old.index) (t.node e.old.index).source.index j x (marked_lists t e.old.index (joined_lists sizes past e (on_lists sizes past kept)))
+      ∙ (put_off sizes t e.old.index (record (t.node e.old.index) { marked = true }) j x off_then (λ v. off_then record { linked = v.linked; vertex = v.vertex; of_bucket = v.of_bucket })
+      ∙ put_off sizes s e.life.index v j x (λ v. let m = v.linked in let f = ok.fresh.fresh in absurd (cc)) (λ v. let t = v.vertex in absurd (cc))))
   idle_bucket FreezeEdge o ok =
       let off : IsVertexIn sizes (node_in sizes past e.life.index) j → ⊥ = λ v. let u = v.vertex in let t = ok.linked.edge in absurd (cc) in
       untouched sizes past e w (state_by FreezeEdge sizes e (state sizes past)) j a (λ h. omega (arith, ok.place, h, low))
@@ -429,6 +442,7 @@ buckets_first sizes j low =
       chain = IsChain-from_IsMet (chain_of sizes (opening sizes) (word_at sizes []) j) [] record {
         met = none;
         rising = tt;
+        unmarked = tt;
         once = λ i k d low high. absurd (omega arith);
         exactly = λ x. ((λ on. absurd (let f : false ≡ true = on in cc)), (λ c. absurd (omega (arith, c.1))));
       };

@@ -2,6 +2,7 @@
 use Rattle.std.proofs.Common.{◌≡◌, ◌≢◌, ◌⊎◌, ℕ, zero, suc, ◌+◌, ◌<◌, ◌≤◌, Bool, true, false, cond, ◌&&◌, eqb, List, [], ◌∷◌, ◌++◌, length, Some, refl, sym, ap, ◌∙◌, subst, arith, inl, inr, ⊎_elim, length-append, append_assoc, append-nil, ne_eqb, eq-eqb}
 use Rattle.std.specs.Prelude.{slice_get}
 use Rattle.packed_link.specs.Layout.{Sizes}
+use Rattle.core_journal.specs.Event.{draws}
 use Rattle.core_journal.specs.declared.event.Kind.{Kind}
 use Rattle.core_journal.specs.declared.event.Kind.TheVariants.{DrawNumber}
 use Rattle.core_journal.specs.declared.event.Event.{Event}
@@ -9,7 +10,7 @@ use Rattle.core_journal.specs.Prefix.{IsPrefix}
 use Rattle.core_journal.specs.State.{State, state_by, state}
 use Rattle.core_journal.proofs.Lists.{get_short, get_front, get_here}
 use Rattle.core_journal.proofs.States.{state-snoc}
-use Rattle.core_rule.specs.Counts.{draws, made}
+use Rattle.core_rule.specs.Counts.{made}
 use Rattle.core_rule.specs.Kept.{AllowedAs, IsKept, IsQuiet}
 use Rattle.core_rule.proofs.Induction.{kept_all}
 use Rattle.core_rule.proofs.Lives.{count_snoc}

@@ -1,5 +1,5 @@
 -- A list is one still after it's frozen to its end, while no edge of its vertex's life is stored for the free list.
-use Rattle.std.proofs.Common.{◌≡◌, ◌≢◌, ◌⊎◌, ◌↔◌, ℕ, ◌<◌, Bool, true, false, List, [], ◌∷◌, ◌++◌, Some, None, refl, sym, ap, ◌∙◌, subst, ⊎_elim, inl, inr}
+use Rattle.std.proofs.Common.{◌≡◌, ◌≢◌, ◌⊎◌, ◌↔◌, ℕ, ◌<◌, Bool, true, false, List, [], ◌∷◌, ◌++◌, Some, None, refl, sym, ap, ◌∙◌, subst, arith, ⊎_elim, inl, inr}
 use mathlib.Core.Logic.{dite}
 use native.Mathlib.Decide.{ℕ_discrete}
 use Rattle.packed_link.specs.Link.{nowhere, index_of, mark_of}
@@ -8,12 +8,12 @@ use Rattle.packed_link.specs.declared.link.Life.{Life}
 use Rattle.core_chain.specs.Met.{IsMet}
 use Rattle.core_chain.proofs.Meets.{IsMet-from_Meets}
 use Rattle.core_journal.specs.declared.event.Kind.{Kind}
-use Rattle.core_journal.specs.declared.event.Kind.TheVariants.{PopFree, LinkVertex, MarkVertex, UnlinkVertex, LinkEdge, MarkEdge, UnlinkEdge, FreezeHead, FreezeEdge, StoreFree, PushFree}
+use Rattle.core_journal.specs.declared.event.Kind.TheVariants.{PopFree, LinkVertex, MarkVertex, UnlinkVertex, LinkEdge, MarkEdge, UnlinkEdge, FreezeHead, FreezeEdge, StoreFree, PushFree, ReplaceEdge}
 use Rattle.core_journal.specs.declared.event.Event.{Event}
 use Rattle.core_journal.specs.Event.{same_life, links_edge, unlinks}
 use Rattle.core_journal.specs.Life.{link_of, unlinked}
 use Rattle.core_journal.specs.Machine.{word_at}
-use Rattle.core_journal.specs.State.{Free, Fresh, Linked, Spent, Node, State, put, handed, state_by, state}
+use Rattle.core_journal.specs.State.{Free, Fresh, Linked, Spent, Node, State, put, handed, joined_edge, state_by, state}
 use Rattle.core_journal.proofs.KeptLives.{link_more}
 use Rattle.core_journal.proofs.Snoc.{same_is, same_self}
 use Rattle.core_rule.specs.Kept.{AllowedAs, IsKept}
@@ -27,13 +27,14 @@ use Rattle.core_rule.proofs.Lives.{same_tag}
 use Rattle.core_rule.proofs.MarkedWords.{stored_before}
 use Rattle.core_rule.proofs.Named.{life_is, named, link_first}
 use Rattle.core_rule.proofs.Ends.{new_edge}
+use Rattle.core_rule.proofs.ReplaceCases.{new_edge_node, replaced_case}
 use Rattle.core_rule.proofs.Living.{unlinked_skip, unlinked_other, life_of}
 use Rattle.core_rule.proofs.Placed.{used_there}
 use Rattle.core_rule.proofs.Meets.{stands}
-use Rattle.core_rule.proofs.ListParts.{unlinked_was, linked_was, yes_no}
+use Rattle.core_rule.proofs.ListParts.{IsWordOf, unlinked_was, linked_was, linked_none, yes_no}
 use Rattle.core_rule.proofs.Listed.{IsFinished, open_mode}
-use Rattle.core_rule.proofs.ListSteps.{listing, link_only, link_joins, joins_unfinished, popped_was, not_closed, IsOpenIn, has_open}
-use Rattle.core_rule.proofs.EdgeChains.{IsList, lists, list_after, untouched, stays, idle_stays, off_link, same_link, off_unlink, same_unlink, off_mark, off_close}
+use Rattle.core_rule.proofs.ListSteps.{listing, link_only, link_joins, replace_joins, joins_unfinished, popped_was, not_closed, IsOpenIn, has_open}
+use Rattle.core_rule.proofs.EdgeChains.{IsList, IsOff, IsLinkedStill, since_still, lists, list_after, untouched, stays, idle_stays, off_link, same_link, off_unlink, same_unlink, off_mark, off_close}
 use Rattle.core_rule.proofs.EdgeLives.{still_life, not_cut, of_edge, StandsAll, stands_after, all_edges}
 use Rattle.core_rule.proofs.FrozenLists.{frozen_end}
 use Rattle.core_rule.proofs.ClosedStays.{finished_or}
@@ -65,6 +66,21 @@ of_lists_step sizes z past e kept c PopFree is ok w a = record {
       let r = popped_was sizes s.node s.edges s.frozen (listing sizes z past kept) e.life.index v (taken sizes z past e kept ok).free refl x y h in
       subst (λ (n : Node). IsLinkedTo (past ++ e ∷ []) (life_of x n) (life_of y (put e.life.index v s.node y))) (sym (put_other e.life.index v s.node x r.0))
       (subst (λ (n : Node). IsLinkedTo (past ++ e ∷ []) (life_of x (s.node x)) (life_of y n)) (sym (put_other e.life.index v s.node y r.2)) (of_more past e _ _ (c.on x y r.1)));
+}
+of_lists_step sizes z past e kept c ReplaceEdge is ok w a = record {
+  on = λ x y h.
+      let s : State = state sizes past in
+      let s' : State = state_by ReplaceEdge sizes e s in
+      let j = replace_joins sizes z past e kept (listing sizes z past kept) ok in
+      subst (λ (l : Life). IsLinkedTo (past ++ e ∷ []) l (life_of y (s'.node y))) (sym (still_life ReplaceEdge tt sizes e s x)) (subst (IsLinkedTo (past ++ e ∷ []) (life_of x (s.node x))) (sym (still_life ReplaceEdge tt sizes e s y)) (⊎_elim
+      (λ (t : stands y (s.edges x) ≡ true). of_more past e _ _ (c.on x y t))
+      (λ (t : (y ≡ e.life.index) × IsWordOf sizes (second_at sizes x) e.place (s.edges x)).
+      let home : x ≡ e.source.index = j.only x t.1 in
+      let this : life_of y (s.node y) ≡ e.life = sym (life_is e.life y (s.node y).tag (sym t.0) (ok.life ∙ ap (λ (i : ℕ). (s.node i).tag) (sym t.0))) in
+      let source : e.source ≡ life_of x (s.node x) = life_is e.source x (s.node x).tag (sym home) (j.life ∙ ap (λ (i : ℕ). (s.node i).tag) (sym home)) in
+      let new : link_of past e.life ≡ None = ap (link_of past) (life_is e.life e.life.index (s.node e.life.index).tag refl ok.life) ∙ (((named sizes z past kept).each e.life.index ok.there).new ok.fresh.fresh).link in
+      record { link = e; is = ap (link_of (past ++ e ∷ [])) this ∙ link_first past e e.life new (ap links_edge is) (same_self e.life); from = source })
+      (linked_was sizes (second_at sizes x) e.place e.life.index y (s.edges x) h)));
 }
 of_lists_step sizes z past e kept c LinkEdge is ok w a = record {
   on = λ x y h.
@@ -105,6 +121,7 @@ handed_used s v x = handed_case (λ (n : Node). IsUsed n.mode → IsUsed (s.node
 abbrev IsNoLink : Kind → Type 0
 IsNoLink LinkVertex = ⊥
 IsNoLink LinkEdge = ⊥
+IsNoLink ReplaceEdge = ⊥
 IsNoLink _ = Unit {0}
 
 put_still : (s : State) (i : ℕ) (v : Node) (x : ℕ) → (IsUsed v.mode → IsUsed (s.node i).mode × (v.vertex ≡ (s.node i).vertex)) → IsUsed (put i v s.node x).mode → IsUsed (s.node x).mode × ((put i v s.node x).vertex ≡ (s.node x).vertex)
@@ -120,6 +137,7 @@ mark_still s i v x u =
 used_same : (sizes : Sizes) (past : List Event) (e : Event) (k : Kind) → IsNoLink k → AllowedAs k sizes past e → (x : ℕ) → IsUsed ((state_by k sizes e (state sizes past)).node x).mode → IsUsed (node_in sizes past x).mode × (((state_by k sizes e (state sizes past)).node x).vertex ≡ (node_in sizes past x).vertex)
 used_same sizes past e LinkVertex n ok x = absurd n
 used_same sizes past e LinkEdge n ok x = absurd n
+used_same sizes past e ReplaceEdge n ok x = absurd n
 used_same sizes past e PopFree n ok x = put_still (state sizes past) e.life.index _ x (λ u. absurd u)
 used_same sizes past e MarkVertex n ok x = put_still (state sizes past) e.life.index _ x (λ u. (u, refl))
 used_same sizes past e UnlinkVertex n ok x = put_still (state sizes past) e.life.index _ x (λ _. (subst IsUsed (sym ok.linked.linked) tt, refl))
@@ -134,6 +152,12 @@ used_same sizes past e _ n ok x = λ u. (u, refl)
 used_before : (sizes : Sizes) (past : List Event) (e : Event) (k : Kind) → AllowedAs k sizes past e → (x : ℕ) → IsUsed ((state_by k sizes e (state sizes past)).node x).mode → IsUsed (node_in sizes past x).mode ⊎ ((node_in sizes past x).mode ≡ Fresh)
 used_before sizes past e LinkVertex ok x = put_case (λ (n : Node). IsUsed n.mode → IsUsed (node_in sizes past x).mode ⊎ ((node_in sizes past x).mode ≡ Fresh)) e.life.index _ (state sizes past).node x (λ same _. inr (ap (λ (j : ℕ). (node_in sizes past j).mode) same ∙ ok.fresh.fresh)) (λ _ u. inl u)
 used_before sizes past e LinkEdge ok x = put_case (λ (n : Node). IsUsed n.mode → IsUsed (node_in sizes past x).mode ⊎ ((node_in sizes past x).mode ≡ Fresh)) e.life.index _ (state sizes past).node x (λ same _. inr (ap (λ (j : ℕ). (node_in sizes past j).mode) same ∙ ok.fresh.fresh)) (λ _ u. inl u)
+used_before sizes past e ReplaceEdge ok x = λ u.
+    let s : State = state sizes past in
+    let j : State = joined_edge sizes e s in
+    put_case (λ (n : Node). IsUsed n.mode → IsUsed (s.node x).mode ⊎ ((s.node x).mode ≡ Fresh)) e.life.index (new_edge_node (s.node e.life.index) e s.count) s.node x
+    (λ same _. inr (ap (λ (i : ℕ). (s.node i).mode) same ∙ ok.fresh.fresh)) (λ _ v. inl v)
+    (mark_still j e.old.index (j.node e.old.index).source.index x u).0
 used_before sizes past e k ok x = λ u. inl (used_same sizes past e k tt ok x u).0
 
 -- an edge life that is held after an event was held before it
@@ -194,6 +218,10 @@ unbroken_before sizes z past e kept k is ok x b used vertex = record {
     by l link h from stays true u = held l stays u
     by l link h from stays false u = held_before sizes z past e kept k ok l link h (b.each l link (link_more past (e ∷ []) l link h) (from ∙ sym (life_before sizes past e k ok x b.used)) u)
 
+-- a mark leaves by which event a node was linked
+mark_since : (s : State) (i y : ℕ) → ((marked_state s i).node y).since ≡ (s.node y).since
+mark_since s i y = put_case (λ (n : Node). n.since ≡ (s.node y).since) i (record (s.node i) { marked = true }) s.node y (λ same. ap (λ (j : ℕ). (s.node j).since) (sym same)) (λ _. refl)
+
 -- a list that is frozen to its end and of which no edge was stored is one still, and has all edges of its vertex's life
 record ClosedLists (sizes : Sizes) (journal : List Event) (s : State) (w : ℕ → ℕ) : Type 0 where
   pub each : (x : ℕ) → IsUnbroken sizes journal s x → IsFinished s.node s.edges s.frozen x → IsList sizes s w x × StandsAll journal s x
@@ -210,27 +238,50 @@ module _ (sizes : Sizes) (z : IsLayout sizes) (past : List Event) (e : Event) (k
   not_home : (y : ℕ) → y < sizes.nodes → (node_in sizes past y).mode ≡ Linked → (node_in sizes past y).vertex ≡ false → x ≢ (node_in sizes past y).source.index
   not_home y t l edge same = ((listing sizes z past kept).source y t l edge).list.unfinished (subst (IsFinished (state sizes past).node (state sizes past).edges (state sizes past).frozen) same f)
 
+  -- no edge of its list is fresh
+  unfresh : (y : ℕ) → stands y ((state sizes past).edges x) ≡ true → y ≡ e.life.index → (node_in sizes past e.life.index).mode ≢ Fresh
+  unfresh y on same m = ((listing sizes z past kept).on x y on).unfresh (ap (λ (i : ℕ). (node_in sizes past i).mode) same ∙ m)
+
   closed_after : (k : Kind) → (k ≡ StoreFree → stands e.life.index ((state sizes past).edges x) ≡ true → ⊥) → AllowedAs k sizes past e → (w : ℕ → ℕ) → IsAfter sizes past e w → IsList sizes (state sizes past) (word_at sizes past) x → IsList sizes (state_by k sizes e (state sizes past)) w x
   closed_after LinkEdge u ok w a old =
       let s : State = state sizes past in
       let ne : x ≢ e.source.index = λ same. joins_unfinished sizes s.node s.edges s.frozen (listing sizes z past kept) e.life.index e.place _ (link_joins sizes z past e kept (listing sizes z past kept) ok) (subst (IsFinished s.node s.edges s.frozen) same f) in
       let same = same_link sizes z past e kept x ok ne in
-      stays sizes s (state_by LinkEdge sizes e s) (word_at sizes past) w x same (untouched sizes past e w (state_by LinkEdge sizes e s) x a (off_link sizes z past e kept x ok ne) same) old
+      let since : IsLinkedStill sizes past (state_by LinkEdge sizes e s) x = λ y on. put_case (λ (n : Node). n.since ≡ (s.node y).since) e.life.index (new_edge_node (s.node e.life.index) e s.count) s.node y
+      (λ at. absurd (unfresh y on at ok.fresh.fresh)) (λ _. refl) in
+      stays sizes s (state_by LinkEdge sizes e s) (word_at sizes past) w x same (untouched sizes past e w (state_by LinkEdge sizes e s) x a (off_link sizes z past e kept x ok ne) since same) old
   closed_after UnlinkEdge u ok w a old =
       let s : State = state sizes past in
       let ne = not_home e.life.index ok.there ok.linked.linked ok.linked.edge in
       let same = same_unlink sizes z past e kept x ne in
-      stays sizes s (state_by UnlinkEdge sizes e s) (word_at sizes past) w x same (untouched sizes past e w (state_by UnlinkEdge sizes e s) x a (off_unlink sizes z past e kept x ok ne) same) old
+      stays sizes s (state_by UnlinkEdge sizes e s) (word_at sizes past) w x same (untouched sizes past e w (state_by UnlinkEdge sizes e s) x a (off_unlink sizes z past e kept x ok ne) (λ y on. since_still UnlinkEdge tt sizes e s y) same) old
+  closed_after ReplaceEdge u ok w a old =
+      let s : State = state sizes past in
+      let c = listing sizes z past kept in
+      let j = replace_joins sizes z past e kept c ok in
+      let ne : x ≢ e.source.index = λ same. joins_unfinished sizes s.node s.edges s.frozen c e.life.index e.place _ j (subst (IsFinished s.node s.edges s.frozen) same f) in
+      let home : (s.node e.old.index).source.index ≡ e.source.index = ap (λ (l : Life). l.index) (sym ok.source) in
+      let same = linked_none sizes (second_at sizes x) e.place e.life.index (s.edges x) (λ at. ne (j.only x at)) in
+      let off : IsOff sizes past e x = record {
+        head = λ h. omega (arith, ok.place, h);
+        links = λ y t h. let at : e.old.index ≡ y = omega (arith, ok.place, h) in ne (sym (c.on x y t).index ∙ (ap (λ (i : ℕ). (s.node i).source.index) (sym at) ∙ home));
+        keys = λ y _ h. omega (arith, ok.place, h);
+      } in
+      let since : IsLinkedStill sizes past (state_by ReplaceEdge sizes e s) x = λ y on. replaced_case sizes z past e kept ok (λ (n : Node). n.since ≡ (s.node y).since) y
+      (λ at. absurd (unfresh y on at ok.fresh.fresh))
+      (λ _. mark_since s e.old.index y)
+      (λ _ _ _ _. mark_since s e.old.index y) in
+      stays sizes s (state_by ReplaceEdge sizes e s) (word_at sizes past) w x same (untouched sizes past e w (state_by ReplaceEdge sizes e s) x a off since same) old
   closed_after MarkEdge u ok w a old = stays sizes (state sizes past) (state_by MarkEdge sizes e (state sizes past)) (word_at sizes past) w x refl
-      (untouched sizes past e w (state_by MarkEdge sizes e (state sizes past)) x a (off_mark sizes z past e kept x ok.place (not_home e.life.index ok.there ok.linked.linked ok.linked.edge)) refl) old
+      (untouched sizes past e w (state_by MarkEdge sizes e (state sizes past)) x a (off_mark sizes z past e kept x ok.place (not_home e.life.index ok.there ok.linked.linked ok.linked.edge)) (λ y on. since_still MarkEdge tt sizes e (state sizes past) y) refl) old
   closed_after FreezeEdge u ok w a old = stays sizes (state sizes past) (state_by FreezeEdge sizes e (state sizes past)) (word_at sizes past) w x refl
-      (untouched sizes past e w (state_by FreezeEdge sizes e (state sizes past)) x a (off_mark sizes z past e kept x ok.place (not_home e.life.index ok.there ok.linked.linked ok.linked.edge)) refl) old
+      (untouched sizes past e w (state_by FreezeEdge sizes e (state sizes past)) x a (off_mark sizes z past e kept x ok.place (not_home e.life.index ok.there ok.linked.linked ok.linked.edge)) (λ y on. since_still FreezeEdge tt sizes e (state sizes past) y) refl) old
   closed_after FreezeHead u ok w a old =
       let ne : x ≢ e.life.index = λ same.
       let open_head = not_closed sizes z past e kept (listing sizes z past kept) e.life.index ok.there (subst IsUsed (sym ok.spent.spent) tt) ok.spent.vertex (subst (λ (p : ℕ). mark_of (word_at sizes past p) ≡ 0) ok.place ok.unmarked) in
       let h = ap (state sizes past).frozen (sym same) ∙ f.head in absurd (cc) in
       stays sizes (state sizes past) (state_by FreezeHead sizes e (state sizes past)) (word_at sizes past) w x refl
-      (untouched sizes past e w (state_by FreezeHead sizes e (state sizes past)) x a (off_close sizes z past e kept x ok.place ne) refl) old
+      (untouched sizes past e w (state_by FreezeHead sizes e (state sizes past)) x a (off_close sizes z past e kept x ok.place ne) (λ y on. since_still FreezeHead tt sizes e (state sizes past) y) refl) old
   closed_after k u ok w a old = idle_stays sizes z past e kept x b.used closed_unfree k u tt ok w a old
 
 -- by cases on whether it was frozen to its end before
@@ -274,9 +325,21 @@ closed_step sizes z past e kept c LinkVertex is ok w a = record {
       let at = put_other e.life.index (record (node_in sizes past e.life.index) { mode = Linked; vertex = true; key = e.key }) (state sizes past).node x ne in
       closed_case sizes z past e kept LinkVertex is ok w a c x b (subst (λ (n : Node). IsUsed n.mode) at b.used, ap (λ (n : Node). n.vertex) at));
 }
+closed_step sizes z past e kept c ReplaceEdge is ok w a = record {
+  each = λ x b f.
+      let s : State = state sizes past in
+      let j : State = joined_edge sizes e s in
+      let v : Node = new_edge_node (s.node e.life.index) e s.count in
+      let h = mark_still j e.old.index (j.node e.old.index).source.index x b.used in
+      dite (ℕ_discrete x e.life.index)
+      (λ same. let t = b.vertex in let u = h.1 ∙ (ap (λ (i : ℕ). (put e.life.index v s.node i).vertex) same ∙ ap (λ (n : Node). n.vertex) (put_same e.life.index v s.node)) in absurd (cc))
+      (λ ne.
+      let at = put_other e.life.index v s.node x ne in
+      closed_case sizes z past e kept ReplaceEdge is ok w a c x b (subst (λ (n : Node). IsUsed n.mode) at h.0, h.1 ∙ ap (λ (n : Node). n.vertex) at));
+}
 closed_step sizes z past e kept c LinkEdge is ok w a = record {
   each = λ x b f.
-      let v : Node = record (node_in sizes past e.life.index) { mode = Linked; vertex = false; key = e.key; source = e.source; target = e.target; weight = e.weight } in
+      let v : Node = new_edge_node (node_in sizes past e.life.index) e (state sizes past).count in
       dite (ℕ_discrete x e.life.index)
       (λ same. let t = b.vertex in let u = ap (λ (j : ℕ). (put e.life.index v (state sizes past).node j).vertex) same ∙ ap (λ (n : Node). n.vertex) (put_same e.life.index v (state sizes past).node) in absurd (cc))
       (λ ne.

@@ -5,10 +5,10 @@ use mathlib.Core.Logic.{dite}
 use native.Mathlib.Decide.{ℕ_discrete}
 use Rattle.packed_link.specs.Layout.{Sizes, IsLayout, second_at}
 use Rattle.core_journal.specs.declared.event.Kind.{Kind}
-use Rattle.core_journal.specs.declared.event.Kind.TheVariants.{PopFree, LinkVertex, MarkVertex, UnlinkVertex, LinkEdge, MarkEdge, UnlinkEdge, FreezeHead, FreezeEdge, StoreFree, PushFree}
+use Rattle.core_journal.specs.declared.event.Kind.TheVariants.{PopFree, LinkVertex, MarkVertex, UnlinkVertex, LinkEdge, MarkEdge, UnlinkEdge, FreezeHead, FreezeEdge, StoreFree, PushFree, ReplaceEdge}
 use Rattle.core_journal.specs.declared.event.Event.{Event}
 use Rattle.core_journal.specs.Prefix.{IsPrefix}
-use Rattle.core_journal.specs.State.{Mode, Free, Fresh, Linked, Spent, Node, State, put, unlinked_from, handed, frozen_part, state_by, state}
+use Rattle.core_journal.specs.State.{Mode, Free, Fresh, Linked, Spent, Node, State, put, unlinked_from, handed, frozen_part, joined_edge, state_by, state}
 use Rattle.core_rule.specs.Kept.{AllowedAs, IsKept}
 use Rattle.core_rule.specs.Nodes.{node_in, IsUsed, IsFrozenToEnd, is_listed, is_frozen}
 use Rattle.core_rule.proofs.Steps.{Keeps, put_case, put_other, handed_case, marked_state, closed_state, holds_all, holds_onward}
@@ -21,6 +21,7 @@ use Rattle.core_rule.proofs.Meets.{stands}
 use Rattle.core_rule.proofs.ListParts.{stands_case, stands_here, stands_later, unlinked_was, unlinked_keeps, linked_was, linked_keeps, part_all, yes_no}
 use Rattle.core_rule.proofs.Listed.{IsFinished, part_listed}
 use Rattle.core_rule.proofs.ListSteps.{listing, popped_was, finished_after}
+use Rattle.core_rule.proofs.ReplaceCases.{new_edge_node, replaced_case}
 
 -- what holds while two nodes are in their lives
 record IsWhile (x y tag_x tag_y : ℕ) (P : State → Type 0) (s : State) : Type 0 where
@@ -143,6 +144,14 @@ closed_used_step sizes z past e kept c PushFree by ok w a = record {
       (finished_or (state sizes past).node (state sizes past).edges (state sizes past).frozen e.life.index))
       (c.each x h);
 }
+closed_used_step sizes z past e kept c ReplaceEdge by ok w a = record {
+  each = λ x h. ⊎_elim (λ (f : IsFinished (state sizes past).node (state sizes past).edges (state sizes past).frozen x). inl (finished_after sizes z past e kept ReplaceEdge ok x (λ is. absurd (cc)) f))
+      (λ (u : IsUsed (node_in sizes past x).mode × ((node_in sizes past x).vertex ≡ true)). inr (replaced_case sizes z past e kept ok (λ (n : Node). IsUsed n.mode × (n.vertex ≡ true)) x
+      (λ same. absurd (subst IsUsed (ap (λ (i : ℕ). (node_in sizes past i).mode) same ∙ ok.fresh.fresh) u.0))
+      (λ _. mark_used (state sizes past) e.old.index x u)
+      (λ _ _ _ _. (tt, (mark_used (state sizes past) e.old.index x u).1))))
+      (c.each x h);
+}
 closed_used_step sizes z past e kept c MarkEdge by ok w a = record {
   each = λ x h. ⊎_elim (λ (f : IsFinished (state sizes past).node (state sizes past).edges (state sizes past).frozen x). inl (finished_after sizes z past e kept MarkEdge ok x (λ is. absurd (cc)) f))
       (λ (u : IsUsed (node_in sizes past x).mode × ((node_in sizes past x).vertex ≡ true)). inr (handed_case (λ (n : Node). IsUsed n.mode × (n.vertex ≡ true)) (marked_state (state sizes past) e.life.index) (node_in sizes past e.life.index).source.index x (mark_used (state sizes past) e.life.index x u) (λ _ _ _. (tt, (mark_used (state sizes past) e.life.index x u).1))))
@@ -197,6 +206,13 @@ part_step sizes z x y past e kept UnlinkEdge ok ne c =
     part_put x y e.life.index (state sizes past) (state_by UnlinkEdge sizes e (state sizes past)) _ (unlinked_keeps e.life.index y ((state sizes past).edges x) c.on apart) refl (λ _ _. refl) c
 part_step sizes z x y past e kept StoreFree ok ne c = part_put x y e.life.index (state sizes past) (state_by StoreFree sizes e (state sizes past)) _ c.on refl (λ _ _. ok.ripe.stamped.spent.spent) c
 part_step sizes z x y past e kept PushFree ok ne c = part_put x y e.life.index (state sizes past) (state_by PushFree sizes e (state sizes past)) _ c.on refl (λ _ u. absurd u) c
+part_step sizes z x y past e kept ReplaceEdge ok ne c =
+    let s : State = state sizes past in
+    let j : State = joined_edge sizes e s in
+    let cj : IsPartEdge x y j = part_put x y e.life.index s j (new_edge_node (s.node e.life.index) e s.count) (linked_keeps sizes (second_at sizes x) e.place e.life.index y (s.edges x) c.on) refl
+    (λ same. absurd (((listing sizes z past kept).on x y c.on).unfresh (ap (λ (i : ℕ). (s.node i).mode) same ∙ ok.fresh.fresh))) c in
+    part_handed x y (j.node e.old.index).source.index (marked_state j e.old.index)
+    (part_put x y e.old.index j (marked_state j e.old.index) (record (j.node e.old.index) { marked = true }) cj.on refl (λ same u. ap (λ (i : ℕ). (j.node i).mode) (sym same) ∙ cj.spent (subst (λ (i : ℕ). IsUsed (j.node i).mode) (sym same) u)) cj)
 part_step sizes z x y past e kept MarkEdge ok ne c = part_handed x y (node_in sizes past e.life.index).source.index (marked_state (state sizes past) e.life.index)
     (part_put x y e.life.index (state sizes past) (marked_state (state sizes past) e.life.index) _ c.on refl (λ same u. ap (λ (i : ℕ). (node_in sizes past i).mode) (sym same) ∙ c.spent (subst (λ (i : ℕ). IsUsed (node_in sizes past i).mode) (sym same) u)) c)
 part_step sizes z x y past e kept FreezeEdge ok ne c = part_handed x y (node_in sizes past e.life.index).source.index (marked_state (state sizes past) e.life.index)
@@ -279,6 +295,16 @@ old_step sizes z front y past e kept LinkEdge ok ne c =
     old_put front y e.life.index s (state_by LinkEdge sizes e s) _ refl (λ m. absurd (cc))
     (λ x h. ⊎_elim (λ (t : stands y (s.edges x) ≡ true). t) (λ (t : (y ≡ e.life.index) × _). absurd (c.fresh (ap (λ (i : ℕ). (s.node i).mode) t.0 ∙ ok.fresh.fresh))) (linked_was sizes (second_at sizes x) e.place e.life.index y (s.edges x) h))
     (same_tag LinkEdge tt sizes e s) c
+old_step sizes z front y past e kept ReplaceEdge ok ne c =
+    let s : State = state sizes past in
+    record {
+      fresh = replaced_case sizes z past e kept ok (λ (n : Node). n.mode ≢ Fresh) y (λ _ m. absurd (cc))
+          (λ _. put_case (λ (n : Node). n.mode ≢ Fresh) e.old.index (record (s.node e.old.index) { marked = true }) s.node y (λ same. subst (λ (i : ℕ). (s.node i).mode ≢ Fresh) same c.fresh) (λ _. c.fresh))
+          (λ _ _ _ _ m. absurd (cc));
+      was = λ x h.
+          let r = c.was x (⊎_elim (λ (t : stands y (s.edges x) ≡ true). t) (λ (t : (y ≡ e.life.index) × _). absurd (c.fresh (ap (λ (i : ℕ). (s.node i).mode) t.0 ∙ ok.fresh.fresh))) (linked_was sizes (second_at sizes x) e.place e.life.index y (s.edges x) h)) in
+          (r.0, same_tag ReplaceEdge tt sizes e s x ∙ r.1);
+    }
 old_step sizes z front y past e kept UnlinkEdge ok ne c = old_put front y e.life.index (state sizes past) (state_by UnlinkEdge sizes e (state sizes past)) _ refl (λ m. absurd (cc)) (λ x h. (unlinked_was e.life.index y ((state sizes past).edges x) h).0) (same_tag UnlinkEdge tt sizes e (state sizes past)) c
 old_step sizes z front y past e kept k ok ne c = record {
   fresh = λ f. c.fresh (fresh_before k tt sizes e (state sizes past) y f);

@@ -5,10 +5,10 @@ use native.Mathlib.Decide.{ℕ_discrete}
 use Rattle.packed_link.specs.Link.{pack, mark_of, tag_of, mark_bit}
 use Rattle.packed_link.specs.Layout.{Sizes, IsLayout, word_count, key_at, second_at, third_at}
 use Rattle.packed_link.specs.declared.link.Life.{Life}
-use Rattle.core_journal.specs.declared.event.Kind.TheVariants.{PopFree, StorePrivate, LinkVertex, MarkVertex, UnlinkVertex, LinkEdge, Raise, MarkEdge, UnlinkEdge, FreezeHead, FreezeEdge, StoreFree, PushFree}
+use Rattle.core_journal.specs.declared.event.Kind.TheVariants.{PopFree, StorePrivate, LinkVertex, MarkVertex, UnlinkVertex, LinkEdge, Raise, MarkEdge, UnlinkEdge, FreezeHead, FreezeEdge, StoreFree, PushFree, ReplaceEdge}
 use Rattle.core_journal.specs.declared.event.Event.{Event}
 use Rattle.core_journal.specs.Machine.{word_at}
-use Rattle.core_journal.specs.State.{Free, Fresh, Linked, Spent, Node, State, put, handed, state}
+use Rattle.core_journal.specs.State.{Free, Fresh, Linked, Spent, Node, State, put, handed, state, joined_edge}
 use Rattle.core_rule.specs.Kept.{IsKept}
 use Rattle.core_rule.specs.Nodes.{node_in, IsUsed}
 use Rattle.core_rule.specs.Facts.{IsContent, Contents}
@@ -189,6 +189,23 @@ contents_step sizes z past e kept c UnlinkVertex by ok w a = record {
 contents_step sizes z past e kept c MarkEdge by ok w a = handed_contents sizes (marked_state (state sizes past) e.life.index) (node_in sizes past e.life.index).source.index w record {
   each = put_contents sizes (state sizes past) (word_at sizes past) w e.life.index _ c (marked_node (node_in sizes past e.life.index)) (λ x t. same_words sizes past e w x a (λ h. omega (arith, ok.place, h)) (λ h. omega (arith, ok.place, h)) (λ h. omega (arith, ok.place, h)));
 }
+contents_step sizes z past e kept c ReplaceEdge by ok w a =
+    let s : State = state sizes past in
+    let j : State = joined_edge sizes e s in
+    let still : (x : ℕ) → IsSameWords sizes x (word_at sizes past) w = λ x. same_words sizes past e w x a (λ h. omega (arith, ok.place, h)) (λ h. omega (arith, ok.place, h)) (λ h. omega (arith, ok.place, h)) in
+    let words = still e.life.index in
+    let joined : Contents sizes j w = record {
+      each = put_linked sizes s e.life.index _ w
+          (λ x t. content_same sizes (node_in sizes past x) (node_in sizes past x) _ x (word_at sizes past) w (same_node (node_in sizes past x)) (still x) (c.each x t))
+          (λ t. record {
+            vertex = λ _ h. absurd (cc);
+            edge = λ _ _. record { key_word = words.key ∙ ok.filled.key_word; key_fits = ok.filled.key_fits; target_word = words.second ∙ ok.filled.second_word; weight_word = words.third ∙ ok.filled.third_word; some = ok.filled.some; weight_fits = ok.filled.weight_fits };
+            fresh = λ h. absurd (cc);
+          });
+    } in
+    handed_contents sizes (marked_state j e.old.index) (j.node e.old.index).source.index w record {
+      each = put_contents sizes j w w e.old.index _ joined (marked_node (j.node e.old.index)) (λ x t. record { key = refl; second = refl; third = refl });
+    }
 contents_step sizes z past e kept c FreezeEdge by ok w a = handed_contents sizes (marked_state (state sizes past) e.life.index) (node_in sizes past e.life.index).source.index w record {
   each = put_contents sizes (state sizes past) (word_at sizes past) w e.life.index _ c (marked_node (node_in sizes past e.life.index)) (λ x t. same_words sizes past e w x a (λ h. omega (arith, ok.place, h)) (λ h. omega (arith, ok.place, h)) (λ h. omega (arith, ok.place, h)));
 }

@@ -8,9 +8,9 @@ use native.Mathlib.Decide.{ℕ_discrete}
 use Rattle.packed_link.specs.Layout.{Sizes, IsLayout, third_at}
 use Rattle.packed_link.specs.declared.link.Life.{Life}
 use Rattle.core_journal.specs.declared.event.Kind.{Kind}
-use Rattle.core_journal.specs.declared.event.Kind.TheVariants.{PopFree, StorePrivate, LinkEdge, Raise, MarkEdge, FreezeEdge}
+use Rattle.core_journal.specs.declared.event.Kind.TheVariants.{PopFree, StorePrivate, LinkEdge, Raise, MarkEdge, FreezeEdge, ReplaceEdge}
 use Rattle.core_journal.specs.declared.event.Event.{Event}
-use Rattle.core_journal.specs.Event.{same_life, links_edge, marks_edge}
+use Rattle.core_journal.specs.Event.{same_life, links_edge, cuts_edge, replaces, cut_life, raises}
 use Rattle.core_journal.specs.Life.{key_of, link_of, edge_linked, vertex_marked}
 use Rattle.core_journal.specs.GraphOf.{present_key}
 use Rattle.core_journal.specs.Machine.{word_at}
@@ -19,8 +19,8 @@ use Rattle.core_journal.specs.State.{Mode, Free, Fresh, Linked, Spent, Node, Sta
 use Rattle.core_journal.proofs.KeptLives.{link_more, linked-link}
 use Rattle.core_journal.proofs.Lists.{prefix_take}
 use Rattle.core_journal.proofs.Snoc.{same_self}
-use Rattle.core_rule.specs.Counts.{raises, raised}
-use Rattle.core_rule.specs.Edges.{IsLinkEdge, IsRaisedFor}
+use Rattle.core_rule.specs.Counts.{raised}
+use Rattle.core_rule.specs.Edges.{IsRaisedFor}
 use Rattle.core_rule.specs.Kept.{AllowedAs, IsKept}
 use Rattle.core_rule.specs.Nodes.{node_in, IsUsed, IsVertex, IsLinkedEdge}
 use Rattle.core_rule.specs.Facts.{HasMet}
@@ -117,10 +117,13 @@ raised_since sizes past caller x link is r =
     let more = one_more test past r.number r.raise r.at hits in
     record { place = f.0; at = at.0 ∙ ap Some same; links = ap (λ (e : Event). links_edge e.kind) (sym same) ∙ f.2; raises = omega arith }
 
--- the event that links an edge is allowed as such
-linking : (sizes : Sizes) (past : List Event) (e : Event) (k : Kind) → links_edge k ≡ true → AllowedAs k sizes past e → IsLinkEdge sizes past e
-linking sizes past e LinkEdge h ok = ok
-linking sizes past e _ h ok = absurd (cc)
+-- the source of an edge that is linked, in the place of another or not, is a vertex
+linked_from : (sizes : Sizes) → IsLayout sizes → (past : List Event) → IsKept sizes past → (e : Event) (k : Kind) → links_edge k ≡ true → AllowedAs k sizes past e → IsVertex sizes past e.source
+linked_from sizes z past kept e LinkEdge h ok = ok.source
+linked_from sizes z past kept e ReplaceEdge h ok =
+    let at = (sources sizes z past kept).each e.old.index ok.old_there ok.linked in
+    subst (IsVertex sizes past) (sym ok.source) record { there = at.list.there; life = at.life; used = at.list.used; vertex = at.list.vertex }
+linked_from sizes z past kept e _ h ok = absurd (cc)
 
 -- the third word of a vertex counts the raises of its life
 counter_word : (sizes : Sizes) → IsLayout sizes → (past : List Event) → IsKept sizes past → (x : Life) → IsVertex sizes past x → word_at sizes past (third_at sizes x.index) ≡ raised x past
@@ -137,8 +140,9 @@ lower_at sizes z journal kept p caller x link is r v =
     let at = taken_at journal p s.place link s.at in
     let early : take s.place past ≡ take s.place journal = take_twice journal s.place p (omega (arith, at.1)) in
     let less : raised link.source (take s.place journal) < raised link.source past = subst (λ (l : List Event). raised link.source l < raised link.source past) early s.raises in
-    let ok = linking sizes (take s.place journal) link link.kind s.links (allowed_at sizes journal s.place link kept at.0).as_kind in
-    let then_word = counter_word sizes z (take s.place journal) (kept_front sizes (take s.place journal) journal (prefix_take journal s.place) kept) link.source ok.source in
+    let kept_then = kept_front sizes (take s.place journal) journal (prefix_take journal s.place) kept in
+    let from = linked_from sizes z (take s.place journal) kept_then link link.kind s.links (allowed_at sizes journal s.place link kept at.0).as_kind in
+    let then_word = counter_word sizes z (take s.place journal) kept_then link.source from in
     let now_word = counter_word sizes z past kept_past link.source v in
     record { place = s.place; before = at.1; at = at.0; raises = less; word = omega (arith, less, then_word, now_word) }
 
@@ -155,24 +159,34 @@ source_there sizes z past kept x link is live =
       vertex = v.vertex;
     }
 
--- an edge that is marked, of which the source isn't, was linked while the counter was lower
-pub marked_lower : (sizes : Sizes) → IsLayout sizes → (journal : List Event) → IsKept sizes journal → (p : ℕ) (e link : Event) → slice_get journal p ≡ Some e → marks_edge e.kind ≡ true
-    → link_of (take p journal) e.life ≡ Some link → vertex_marked (take p journal) link.source ≡ false → IsLinkedLower sizes journal p link
-marked_lower sizes z journal kept p e link at marks is live = by e.kind refl marks (allowed_at sizes journal p e kept at).as_kind
+-- a linked edge for which its source's counter was raised, of which the source isn't marked, was linked while the counter was lower
+raised_edge : (sizes : Sizes) → IsLayout sizes → (journal : List Event) → IsKept sizes journal → (p caller : ℕ) (x : Life) (link : Event) → x.index < sizes.nodes → x.tag ≡ (node_in sizes (take p journal) x.index).tag → IsLinkedEdge sizes (take p journal) x.index
+    → IsRaisedFor sizes (take p journal) caller x (node_in sizes (take p journal) x.index).source → link_of (take p journal) x ≡ Some link → vertex_marked (take p journal) link.source ≡ false → IsLinkedLower sizes journal p link
+raised_edge sizes z journal kept p caller x link there life linked raise is live =
+    let past : List Event = take p journal in
+    let kept_past = kept_front sizes past journal (prefix_take journal p) kept in
+    let v = node_in sizes past x.index in
+    let d = ((named sizes z past kept_past).each x.index there).edge_link (subst IsUsed (sym linked.linked) tt) linked.edge in
+    let one : link_of past x ≡ Some d.link = ap (link_of past) (life_is x x.index v.tag refl life) ∙ d.is in
+    let same : d.link ≡ link = cc in
+    let from : v.source ≡ link.source = sym d.from ∙ ap (λ (y : Event). y.source) same in
+    lower_at sizes z journal kept p caller x link is (subst (IsRaisedFor sizes past caller x) from raise) (source_there sizes z past kept_past x link is live)
+
+-- an edge that is marked or replaced, of which the source isn't marked, was linked while the counter was lower
+pub marked_lower : (sizes : Sizes) → IsLayout sizes → (journal : List Event) → IsKept sizes journal → (p : ℕ) (e link : Event) → slice_get journal p ≡ Some e → cuts_edge e.kind ≡ true
+    → link_of (take p journal) (cut_life e) ≡ Some link → vertex_marked (take p journal) link.source ≡ false → IsLinkedLower sizes journal p link
+marked_lower sizes z journal kept p e link at cuts is live = by e.kind refl cuts (allowed_at sizes journal p e kept at).as_kind
   where
-    by : (k : Kind) → e.kind ≡ k → marks_edge k ≡ true → AllowedAs k sizes (take p journal) e → IsLinkedLower sizes journal p link
-    by MarkEdge i m ok =
-        let past : List Event = take p journal in
-        let kept_past = kept_front sizes past journal (prefix_take journal p) kept in
-        let v = node_in sizes past e.life.index in
-        let d = ((named sizes z past kept_past).each e.life.index ok.there).edge_link (subst IsUsed (sym ok.linked.linked) tt) ok.linked.edge in
-        let one : link_of past e.life ≡ Some d.link = ap (link_of past) (life_is e.life e.life.index v.tag refl ok.life) ∙ d.is in
-        let same : d.link ≡ link = cc in
-        let from : v.source ≡ link.source = sym d.from ∙ ap (λ (y : Event). y.source) same in
-        lower_at sizes z journal kept p e.caller e.life link is (subst (IsRaisedFor sizes past e.caller e.life) from ok.raised) (source_there sizes z past kept_past e.life link is live)
+    -- the life that is marked
+    cut : (k : Kind) → e.kind ≡ k → cond (replaces k) e.old e.life ≡ cut_life e
+    cut k i = ap (λ (c : Kind). cond (replaces c) e.old e.life) (sym i)
+
+    by : (k : Kind) → e.kind ≡ k → cuts_edge k ≡ true → AllowedAs k sizes (take p journal) e → IsLinkedLower sizes journal p link
+    by MarkEdge i m ok = raised_edge sizes z journal kept p e.caller e.life link ok.there ok.life ok.linked ok.raised (ap (link_of (take p journal)) (cut MarkEdge i) ∙ is) live
+    by ReplaceEdge i m ok = raised_edge sizes z journal kept p e.caller e.old link ok.old_there ok.old_life ok.linked ok.raised (ap (link_of (take p journal)) (cut ReplaceEdge i) ∙ is) live
     by FreezeEdge i m ok =
         let kept_past = kept_front sizes (take p journal) journal (prefix_take journal p) kept in
-        let t = (frozen_edge sizes z (take p journal) e kept_past i ok).gone link is in absurd (cc)
+        let t = (frozen_edge sizes z (take p journal) e kept_past i ok).gone link (ap (link_of (take p journal)) (cut FreezeEdge i) ∙ is) in absurd (cc)
     by _ i m ok = absurd (cc)
 
 -- the third word of a node is no less than it was, while the node is in this life

@@ -1,5 +1,7 @@
 -- The list of each vertex after each kept journal as a chain, and what each kind of event does to it.
-use Rattle.std.proofs.Common.{◌≡◌, ◌≢◌, ℕ, ◌<◌, true, false, List, [], refl, sym, ap, ◌∙◌, subst, arith, ⊎_elim, inl, inr}
+use Rattle.core_rule.proofs.Contents.{contents}
+use Rattle.core_journal.proofs.States.{counted_by}
+use Rattle.std.proofs.Common.{◌≡◌, ◌≢◌, ℕ, ◌<◌, true, false, List, [], refl, sym, ap, ◌∙◌, subst, arith, ⊎_elim, inl, inr, ◌≤◌, ◌+◌}
 use mathlib.Core.Logic.{dite}
 use native.Mathlib.Decide.{ℕ_discrete}
 use Rattle.packed_link.specs.Link.{nowhere, index_of, mark_of, tag_of, with_mark}
@@ -8,34 +10,35 @@ use Rattle.packed_link.specs.declared.link.Life.{Life}
 use Rattle.packed_link.proofs.Links.{index_of-pack, index_of-bound}
 use Rattle.core_chain.specs.Chain.{Chain, Position, Head, Node, IsOn, IsChain}
 use Rattle.core_chain.specs.Met.{Meets, IsMet}
-use Rattle.core_chain.specs.Steps.{CanInsert, CanUnlink, Inserts, Joins, Unlinks, SetsMark, Untouched}
+use Rattle.core_chain.specs.Steps.{CanInsert, CanUnlink, Inserts, Joins, Unlinks, SetsMark, Untouched, CanReplace, Replaces}
 use Rattle.core_chain.specs.Table.{StandsAlone, chain_in}
 use Rattle.core_chain.specs.Walk.{IsBelow}
-use Rattle.core_chain.proofs.Inserts.{IsChain-inserted}
+use Rattle.core_chain.proofs.Inserts.{IsChain-inserted, IsChain-replaced}
 use Rattle.core_chain.proofs.Marks.{IsChain-marked, IsChain-untouched}
 use Rattle.core_chain.proofs.Meets.{IsMet-from_Meets, IsChain-from_IsMet}
-use Rattle.core_chain.proofs.Tables.{Inserts-in, SetsMark-in, Unlinks-in}
+use Rattle.core_chain.proofs.Tables.{Inserts-in, SetsMark-in, Unlinks-in, Replaces-in}
 use Rattle.core_chain.proofs.Unlinks.{IsChain-unlinked}
 use Rattle.core_journal.specs.declared.event.Kind.{Kind}
-use Rattle.core_journal.specs.declared.event.Kind.TheVariants.{PopFree, StorePrivate, LinkVertex, MarkVertex, UnlinkVertex, LinkEdge, MarkEdge, UnlinkEdge, FreezeHead, FreezeEdge, StoreFree, PushFree}
+use Rattle.core_journal.specs.declared.event.Kind.TheVariants.{PopFree, StorePrivate, LinkVertex, MarkVertex, UnlinkVertex, LinkEdge, MarkEdge, UnlinkEdge, ReplaceEdge, FreezeHead, FreezeEdge, StoreFree, PushFree}
 use Rattle.core_journal.specs.declared.event.Event.{Event}
 use Rattle.core_journal.specs.Machine.{word_at}
-use Rattle.core_journal.specs.State.{Free, Fresh, Linked, Spent, State, linked_in, unlinked_from, state_by, state}
+use Rattle.core_journal.specs.State.{Free, Fresh, Linked, Spent, State, put, handed, linked_in, unlinked_from, state_by, state, joined_edge}
+use Rattle.core_journal.specs.State.{Node as Nodes}
 use Rattle.core_rule.specs.Kept.{AllowedAs, IsKept}
 use Rattle.core_rule.specs.Nodes.{node_in, IsUsed, is_listed}
-use Rattle.core_rule.specs.Edges.{IsLinkEdge, IsUnlinkEdge}
+use Rattle.core_rule.specs.Edges.{IsLinkEdge, IsUnlinkEdge, IsReplaceEdge}
 use Rattle.core_rule.specs.Vertices.{IsLinkVertex}
 use Rattle.core_rule.specs.Chains.{list_word, list_places, edge_chain, EdgeLists}
-use Rattle.core_rule.proofs.Steps.{IsAfter, Keeps, put_other, holds_all, writes_at}
+use Rattle.core_rule.proofs.Steps.{IsAfter, Keeps, put_other, put_case, handed_case, marked_state, closed_state, holds_all, writes_at, put_same}
 use Rattle.core_rule.proofs.LinkWords.{taken}
-use Rattle.core_rule.proofs.Meets.{AreLinks, stands, meets_inserted, meets_unlinked, meets_marked, meets_untouched, joins_linked, leaves_unlinked}
+use Rattle.core_rule.proofs.Meets.{AreLinks, stands, meets_inserted, meets_unlinked, meets_marked, meets_untouched, joins_linked, leaves_unlinked, meets_replaced}
 use Rattle.core_rule.proofs.ListParts.{linked_none, unlinked_none, yes_no}
 use Rattle.core_rule.proofs.Listed.{ListingOf, open_mode}
-use Rattle.core_rule.proofs.ListSteps.{listing, link_only, IsOpenIn, open_before, open_linked, has_open}
+use Rattle.core_rule.proofs.ListSteps.{listing, link_only, IsOpenIn, open_before, open_linked, has_open, replace_joins}
 
 -- the list of a vertex, by a state and the words
 abbrev pub list_chain : Sizes → State → (ℕ → ℕ) → ℕ → Chain
-list_chain sizes s w x = chain_in w (list_places sizes x) (is_listed s x)
+list_chain sizes s w x = chain_in w (list_places sizes x) (is_listed s x) (λ y. (s.node y).since)
 
 -- a chain along which one meets the state's list
 pub record IsList (sizes : Sizes) (s : State) (w : ℕ → ℕ) (x : ℕ) : Type 0 where
@@ -82,9 +85,14 @@ pub record IsOff (sizes : Sizes) (past : List Event) (e : Event) (x : ℕ) : Typ
   pub links : (y : ℕ) → stands y ((state sizes past).edges x) ≡ true → e.place ≢ link_at sizes y
   pub keys : (y : ℕ) → stands y ((state sizes past).edges x) ≡ true → e.place ≢ key_at sizes y
 
+-- the edges of a list stay linked by the same events
+abbrev pub IsLinkedStill : Sizes → List Event → State → ℕ → Type 0
+IsLinkedStill sizes past s' x = (y : ℕ) → stands y ((state sizes past).edges x) ≡ true → (s'.node y).since ≡ (node_in sizes past y).since
+
 -- an event that writes no word of a list leaves it as it is, where the list stays
-pub untouched : (sizes : Sizes) (past : List Event) (e : Event) (w : ℕ → ℕ) (s' : State) (x : ℕ) → IsAfter sizes past e w → IsOff sizes past e x → s'.edges x ≡ (state sizes past).edges x → Untouched (edge_chain sizes past x) (list_chain sizes s' w x)
-untouched sizes past e w s' x a off same = record {
+pub untouched : (sizes : Sizes) (past : List Event) (e : Event) (w : ℕ → ℕ) (s' : State) (x : ℕ) → IsAfter sizes past e w → IsOff sizes past e x → IsLinkedStill sizes past s' x → s'.edges x ≡ (state sizes past).edges x → Untouched (edge_chain sizes past x) (list_chain sizes s' w x)
+untouched sizes past e w s' x a off still same = record {
+  since = λ y on. still y on;
   nodes = λ y. ap (λ (l : List ℕ). stands y l) same;
   key = λ y on. a.else (key_at sizes y) (λ h. off.keys y on (sym h));
   next = λ p on. ap index_of (word p on);
@@ -95,6 +103,53 @@ untouched sizes past e w s' x a off same = record {
     word Head on = a.else (second_at sizes x) (λ h. off.head (sym h))
     word (Node y) on = a.else (link_at sizes y) (λ h. off.links y on (sym h))
 
+-- the kinds that link no edge
+abbrev pub IsNoJoin : Kind → Type 0
+IsNoJoin LinkEdge = ⊥
+IsNoJoin ReplaceEdge = ⊥
+IsNoJoin _ = Unit {0}
+
+put_since : (s : State) (i : ℕ) (v : Nodes) → v.since ≡ (s.node i).since → (y : ℕ) → (put i v s.node y).since ≡ (s.node y).since
+put_since s i v h y = put_case (λ (n : Nodes). n.since ≡ (s.node y).since) i v s.node y (λ same. h ∙ ap (λ (j : ℕ). (s.node j).since) (sym same)) (λ _. refl)
+
+handed_since : (x : ℕ) (s : State) (y : ℕ) → ((handed x s).node y).since ≡ (s.node y).since
+handed_since x s y = handed_case (λ (n : Nodes). n.since ≡ (s.node y).since) s x y refl (λ _ _ _. refl)
+
+-- such an event leaves by which event a node was linked
+pub since_still : (k : Kind) → IsNoJoin k → (sizes : Sizes) (e : Event) (s : State) (y : ℕ) → ((state_by k sizes e s).node y).since ≡ (s.node y).since
+since_still LinkEdge n sizes e s y = absurd n
+since_still ReplaceEdge n sizes e s y = absurd n
+since_still PopFree n sizes e s y = put_since s e.life.index _ refl y
+since_still LinkVertex n sizes e s y = put_since s e.life.index _ refl y
+since_still MarkVertex n sizes e s y = put_since s e.life.index _ refl y
+since_still UnlinkVertex n sizes e s y = put_since s e.life.index _ refl y
+since_still UnlinkEdge n sizes e s y = put_since s e.life.index _ refl y
+since_still StoreFree n sizes e s y = put_since s e.life.index _ refl y
+since_still PushFree n sizes e s y = put_since s e.life.index _ refl y
+since_still MarkEdge n sizes e s y = handed_since (s.node e.life.index).source.index (marked_state s e.life.index) y ∙ put_since s e.life.index (record (s.node e.life.index) { marked = true }) refl y
+since_still FreezeEdge n sizes e s y = handed_since (s.node e.life.index).source.index (marked_state s e.life.index) y ∙ put_since s e.life.index (record (s.node e.life.index) { marked = true }) refl y
+since_still FreezeHead n sizes e s y = handed_since e.life.index (closed_state s e.life.index) y
+since_still _ n sizes e s y = refl
+
+-- each node was linked by an event before
+pub record Sinces (s : State) : Type 0 where
+  pub each : (x : ℕ) → (s.node x).since ≤ s.count
+
+sinces_step : (sizes : Sizes) → Keeps sizes (λ (s : State) (w : ℕ → ℕ). Sinces s)
+sinces_step sizes past e kept c LinkEdge by ok w a = record { each = λ x. put_case (λ (v : Nodes). v.since ≤ (state sizes past).count + 1) e.life.index (record (node_in sizes past e.life.index) { mode = Linked; vertex = false; key = e.key; source = e.source; target = e.target; weight = e.weight; since = (state sizes past).count + 1 }) (state sizes past).node x (λ _. omega arith) (λ _. omega (arith, c.each x)) }
+sinces_step sizes past e kept c ReplaceEdge by ok w a = record {
+  each = λ x.
+      let s : State = state sizes past in
+      let j : State = joined_edge sizes e s in
+      let h = handed_since (j.node e.old.index).source.index (marked_state j e.old.index) x in
+      let p = put_since j e.old.index (record (j.node e.old.index) { marked = true }) refl x in
+      let q = put_case (λ (v : Nodes). v.since ≤ s.count + 1) e.life.index (record (s.node e.life.index) { mode = Linked; vertex = false; key = e.key; source = e.source; target = e.target; weight = e.weight; since = s.count + 1 }) s.node x (λ _. omega arith) (λ _. omega (arith, c.each x)) in omega (arith, h, p, q);
+}
+sinces_step sizes past e kept c k by ok w a = record { each = λ x. omega (arith, since_still k tt sizes e (state sizes past) x, counted_by k sizes e (state sizes past), c.each x) }
+
+sinces : (sizes : Sizes) (journal : List Event) → IsKept sizes journal → Sinces (state sizes journal)
+sinces sizes journal kept = holds_all sizes (λ (s : State) (w : ℕ → ℕ). Sinces s) (sinces_step sizes) (record { each = λ x. omega arith }) journal kept
+
 -- the kinds that change no list of edges
 abbrev pub IsOffLists : Kind → Type 0
 IsOffLists LinkEdge = ⊥
@@ -102,6 +157,7 @@ IsOffLists MarkEdge = ⊥
 IsOffLists UnlinkEdge = ⊥
 IsOffLists FreezeHead = ⊥
 IsOffLists FreezeEdge = ⊥
+IsOffLists ReplaceEdge = ⊥
 IsOffLists _ = Unit {0}
 
 module _ (sizes : Sizes) (z : IsLayout sizes) (past : List Event) (e : Event) (kept : IsKept sizes past) (x : ℕ) (used : IsUsed (node_in sizes past x).mode)
@@ -109,10 +165,16 @@ module _ (sizes : Sizes) (z : IsLayout sizes) (past : List Event) (e : Event) (k
   here : ListingOf sizes (state sizes past)
   here = listing sizes z past kept
 
+  idle_joins : (k : Kind) → IsOffLists k → IsNoJoin k
+  idle_joins LinkEdge n = absurd n
+  idle_joins ReplaceEdge n = absurd n
+  idle_joins _ n = tt
+
   -- such a kind writes no word of a list
   off_idle : (k : Kind) → (k ≡ StoreFree → stands e.life.index ((state sizes past).edges x) ≡ true → ⊥) → IsOffLists k → AllowedAs k sizes past e → IsOff sizes past e x
   off_idle LinkEdge u n ok = absurd n
   off_idle MarkEdge u n ok = absurd n
+  off_idle ReplaceEdge u n ok = absurd n
   off_idle UnlinkEdge u n ok = absurd n
   off_idle FreezeHead u n ok = absurd n
   off_idle FreezeEdge u n ok = absurd n
@@ -152,6 +214,7 @@ module _ (sizes : Sizes) (z : IsLayout sizes) (past : List Event) (e : Event) (k
   same_idle : (k : Kind) → IsOffLists k → AllowedAs k sizes past e → (state_by k sizes e (state sizes past)).edges x ≡ (state sizes past).edges x
   same_idle LinkEdge n ok = absurd n
   same_idle MarkEdge n ok = absurd n
+  same_idle ReplaceEdge n ok = absurd n
   same_idle UnlinkEdge n ok = absurd n
   same_idle FreezeHead n ok = absurd n
   same_idle FreezeEdge n ok = absurd n
@@ -163,7 +226,7 @@ module _ (sizes : Sizes) (z : IsLayout sizes) (past : List Event) (e : Event) (k
 
   -- so it leaves the list untouched
   pub idle_any : (k : Kind) → (k ≡ StoreFree → stands e.life.index ((state sizes past).edges x) ≡ true → ⊥) → IsOffLists k → AllowedAs k sizes past e → (w : ℕ → ℕ) → IsAfter sizes past e w → Untouched (edge_chain sizes past x) (list_chain sizes (state_by k sizes e (state sizes past)) w x)
-  idle_any k u n ok w a = untouched sizes past e w (state_by k sizes e (state sizes past)) x a (off_idle k u n ok) (same_idle k n ok)
+  idle_any k u n ok w a = untouched sizes past e w (state_by k sizes e (state sizes past)) x a (off_idle k u n ok) (λ y on. since_still k (idle_joins k n) sizes e (state sizes past) y) (same_idle k n ok)
 
   pub idle_stays : (k : Kind) → (k ≡ StoreFree → stands e.life.index ((state sizes past).edges x) ≡ true → ⊥) → IsOffLists k → AllowedAs k sizes past e → (w : ℕ → ℕ) → IsAfter sizes past e w → IsList sizes (state sizes past) (word_at sizes past) x → IsList sizes (state_by k sizes e (state sizes past)) w x
   idle_stays k u n ok w a b = stays sizes (state sizes past) (state_by k sizes e (state sizes past)) (word_at sizes past) w x (same_idle k n ok) (idle_any k u n ok w a) b
@@ -273,6 +336,10 @@ module _ (sizes : Sizes) (z : IsLayout sizes) (past : List Event) (e : Event) (k
       above Head at = tt
       above (Node y) at = let k = ok.filled.key_word in let g = ok.gap.below y (sym at) in omega arith
 
+  link_still : (x : ℕ) → IsLinkedStill sizes past link_state x
+  link_still x y on = put_case (λ (v : Nodes). v.since ≡ (node_in sizes past y).since) e.life.index (record (node_in sizes past e.life.index) { mode = Linked; vertex = false; key = e.key; source = e.source; target = e.target; weight = e.weight; since = (state sizes past).count + 1 }) (state sizes past).node y
+      (λ same. absurd (((listing sizes z past kept).on x y on).unfresh (ap (λ (i : ℕ). (node_in sizes past i).mode) same ∙ ok.fresh.fresh))) (λ _. refl)
+
   link_near : e.place < word_count sizes
   link_near = omega (arith, ok.place)
 
@@ -283,11 +350,11 @@ module _ (sizes : Sizes) (z : IsLayout sizes) (past : List Event) (e : Event) (k
   module _ (w : ℕ → ℕ) (a : IsAfter sizes past e w) where
     pub link_inserts : (s : IsSpot sizes past e link_home) → Inserts (edge_chain sizes past link_home) (list_chain sizes link_state w link_home) s.at e.life.index
     link_inserts s =
-        Inserts-in (word_at sizes past) w (list_places sizes link_home) (is_listed (state sizes past) link_home) (is_listed link_state link_home) s.at e.life.index (tag_of (word_at sizes past e.place))
+        Inserts-in (word_at sizes past) w (list_places sizes link_home) (is_listed (state sizes past) link_home) (is_listed link_state link_home) (λ y. (node_in sizes past y).since) (λ y. (link_state.node y).since) (link_still link_home) s.at e.life.index (tag_of (word_at sizes past e.place))
         (alone sizes link_home s.at) (omega (arith, ok.there, z.few_nodes)) (link_can s) (writes_at sizes past e w _ _ a s.place link_near ok.word) (link_nodes s)
 
     pub link_others : (x : ℕ) → IsOpenIn sizes (state sizes past) x → x ≢ link_home → Untouched (edge_chain sizes past x) (list_chain sizes link_state w x)
-    link_others x o ne = untouched sizes past e w link_state x a (off_link sizes z past e kept x ok ne) (same_link sizes z past e kept x ok ne)
+    link_others x o ne = untouched sizes past e w link_state x a (off_link sizes z past e kept x ok ne) (link_still x) (same_link sizes z past e kept x ok ne)
 
     link_list : (x : ℕ) → IsOpenIn sizes (state sizes past) x → IsList sizes (state sizes past) (word_at sizes past) x → IsList sizes link_state w x
     link_list x o b = dite (ℕ_discrete x link_home)
@@ -301,6 +368,84 @@ module _ (sizes : Sizes) (z : IsLayout sizes) (past : List Event) (e : Event) (k
               (meets_inserted sizes (list_places sizes link_home) (list_links sizes link_home) (edge_chain sizes past link_home) (list_chain sizes link_state w link_home) s.at e.life.index ((state sizes past).edges link_home) old.chain step old.met);
         })
         (λ ne. stays sizes (state sizes past) link_state (word_at sizes past) w x (same_link sizes z past e kept x ok ne) (link_others x o ne) b)
+
+-- an edge is replaced: the new one is put behind it on the list of its source
+module _ (sizes : Sizes) (z : IsLayout sizes) (past : List Event) (e : Event) (kept : IsKept sizes past) (ok : IsReplaceEdge sizes past e)
+  where
+    abbrev new_home : ℕ
+    new_home = e.source.index
+
+    abbrev new_state : State
+    new_state = state_by ReplaceEdge sizes e (state sizes past)
+
+    new_on : stands e.old.index ((state sizes past).edges new_home) ≡ true
+    new_on =
+        let d = (listing sizes z past kept).source e.old.index ok.old_there ok.linked.linked ok.linked.edge in
+        subst (λ (l : Life). stands e.old.index ((state sizes past).edges l.index) ≡ true) (sym ok.source) d.on
+
+    new_can : CanReplace (edge_chain sizes past new_home) e.old.index e.life.index
+    new_can =
+        let word : word_at sizes past (link_at sizes e.old.index) ≡ word_at sizes past e.place = ap (word_at sizes past) (sym ok.place) in
+        record {
+          present = new_on;
+          unmarked = ap mark_of word ∙ ok.unmarked;
+          named = λ none. omega (arith, ok.there, z.few_nodes, none);
+          absent = λ on. ((listing sizes z past kept).on new_home e.life.index on).unfresh ok.fresh.fresh;
+          key = ok.filled.key_word ∙ (ok.key ∙ sym (((contents sizes z past kept).each e.old.index ok.old_there).edge (subst IsUsed (sym ok.linked.linked) tt) ok.linked.edge).key_word);
+          filled = ap index_of ok.filled.link_word ∙ (index_of-pack (index_of (word_at sizes past e.place)) 0 (node_in sizes past e.life.index).tag (index_of-bound (word_at sizes past e.place)) ∙ ap index_of (sym word));
+        }
+
+    new_nodes : Joins (is_listed (state sizes past) new_home) (is_listed new_state new_home) e.life.index
+    new_nodes = subst (λ (p : ℕ). Joins (is_listed (state sizes past) new_home) (λ y. stands y (linked_in sizes (second_at sizes new_home) p e.life.index ((state sizes past).edges new_home))) e.life.index) (sym ok.place)
+        (joins_linked sizes (list_places sizes new_home) (list_links sizes new_home) (Node e.old.index) e.life.index ((state sizes past).edges new_home) (λ y at. let q : e.old.index ≡ y = cc in subst (λ (v : ℕ). stands v ((state sizes past).edges new_home) ≡ true) q new_on))
+
+    -- every other node stays linked by the same event
+    new_else : (y : ℕ) → y ≢ e.life.index → (new_state.node y).since ≡ (node_in sizes past y).since
+    new_else y ne =
+        let j : State = joined_edge sizes e (state sizes past) in
+        handed_since (j.node e.old.index).source.index (marked_state j e.old.index) y
+        ∙ (put_since j e.old.index (record (j.node e.old.index) { marked = true }) refl y ∙ ap (λ (v : Nodes). v.since) (put_other e.life.index (record (node_in sizes past e.life.index) { mode = Linked; vertex = false; key = e.key; source = e.source; target = e.target; weight = e.weight; since = (state sizes past).count + 1 }) (state sizes past).node y ne))
+
+    new_still : (x : ℕ) → IsLinkedStill sizes past new_state x
+    new_still x y on = new_else y (λ same. absurd (((listing sizes z past kept).on x y on).unfresh (ap (λ (i : ℕ). (node_in sizes past i).mode) same ∙ ok.fresh.fresh)))
+
+    -- what is replaced on another list
+    off_replace : (x : ℕ) → x ≢ new_home → IsOff sizes past e x
+    off_replace x ne =
+        let home : (node_in sizes past e.old.index).source.index ≡ new_home = ap (λ (l : Life). l.index) (sym ok.source) in
+        let on = of_source sizes z past e kept x in
+        record {
+          head = λ h. omega (arith, ok.place, h);
+          links = λ y t h. let same : e.old.index ≡ y = omega (arith, ok.place, h) in ne (sym (on y t) ∙ (ap (λ (i : ℕ). (node_in sizes past i).source.index) (sym same) ∙ home));
+          keys = λ y _ h. omega (arith, ok.place, h);
+        }
+
+    same_replace : (x : ℕ) → x ≢ new_home → linked_in sizes (second_at sizes x) e.place e.life.index ((state sizes past).edges x) ≡ (state sizes past).edges x
+    same_replace x ne = linked_none sizes (second_at sizes x) e.place e.life.index ((state sizes past).edges x) (λ at. ne ((replace_joins sizes z past e kept (listing sizes z past kept) ok).only x at))
+
+    -- the new one is linked by this event, later than the old one
+    new_since : (new_state.node e.life.index).since ≡ (state sizes past).count + 1
+    new_since =
+        let j : State = joined_edge sizes e (state sizes past) in
+        handed_since (j.node e.old.index).source.index (marked_state j e.old.index) e.life.index
+        ∙ (put_since j e.old.index (record (j.node e.old.index) { marked = true }) refl e.life.index ∙ ap (λ (v : Nodes). v.since) (put_same e.life.index (record (node_in sizes past e.life.index) { mode = Linked; vertex = false; key = e.key; source = e.source; target = e.target; weight = e.weight; since = (state sizes past).count + 1 }) (state sizes past).node))
+
+    module _ (w : ℕ → ℕ) (a : IsAfter sizes past e w) where
+      pub new_replaces : Replaces (edge_chain sizes past new_home) (list_chain sizes new_state w new_home) e.old.index e.life.index
+      new_replaces =
+          let low = (sinces sizes past kept).each e.old.index in
+          Replaces-in (word_at sizes past) w (list_places sizes new_home) (is_listed (state sizes past) new_home) (is_listed new_state new_home) (λ y. (node_in sizes past y).since) (λ y. (new_state.node y).since) (new_still new_home) e.old.index e.life.index (tag_of (word_at sizes past e.place))
+          (alone sizes new_home (Node e.old.index)) (omega (arith, ok.there, z.few_nodes)) new_can (omega (arith, new_since, low)) (writes_at sizes past e w _ _ a (sym ok.place) (omega (arith, ok.place, ok.old_there)) ok.word) new_nodes
+
+      pub new_others : (x : ℕ) → x ≢ new_home → Untouched (edge_chain sizes past x) (list_chain sizes new_state w x)
+      new_others x ne = untouched sizes past e w new_state x a (off_replace x ne) (new_still x) (same_replace x ne)
+
+      new_list_met : IsList sizes (state sizes past) (word_at sizes past) new_home → IsList sizes new_state w new_home
+      new_list_met old = record {
+        chain = IsChain-replaced (edge_chain sizes past new_home) (list_chain sizes new_state w new_home) e.old.index e.life.index old.chain new_replaces;
+        met = subst (λ (p : ℕ). Meets (list_chain sizes new_state w new_home) Head (linked_in sizes (second_at sizes new_home) p e.life.index ((state sizes past).edges new_home))) (sym ok.place)
+            (meets_replaced sizes (list_places sizes new_home) (list_links sizes new_home) (edge_chain sizes past new_home) (list_chain sizes new_state w new_home) e.old.index e.life.index ((state sizes past).edges new_home) old.chain new_replaces old.met);
+      }
 
 -- a marked edge is unlinked from the list of its source
 module _ (sizes : Sizes) (z : IsLayout sizes) (past : List Event) (e : Event) (kept : IsKept sizes past) (ok : IsUnlinkEdge sizes past e) where
@@ -331,11 +476,11 @@ module _ (sizes : Sizes) (z : IsLayout sizes) (past : List Event) (e : Event) (k
   module _ (w : ℕ → ℕ) (a : IsAfter sizes past e w) where
     pub cut_unlinks : (s : IsSpot sizes past e cut_home) → Unlinks (edge_chain sizes past cut_home) (list_chain sizes cut_state w cut_home) s.at e.life.index
     cut_unlinks s =
-        Unlinks-in (word_at sizes past) w (list_places sizes cut_home) (is_listed (state sizes past) cut_home) (is_listed cut_state cut_home) s.at e.life.index (tag_of (word_at sizes past e.place))
+        Unlinks-in (word_at sizes past) w (list_places sizes cut_home) (is_listed (state sizes past) cut_home) (is_listed cut_state cut_home) (λ y. (node_in sizes past y).since) (λ y. (cut_state.node y).since) (λ y on. since_still UnlinkEdge tt sizes e (state sizes past) y) s.at e.life.index (tag_of (word_at sizes past e.place))
         (alone sizes cut_home s.at) (cut_can s) (writes_at sizes past e w _ _ a s.place (omega (arith, ok.place)) ok.word) (leaves_unlinked e.life.index ((state sizes past).edges cut_home))
 
     pub cut_others : (x : ℕ) → IsOpenIn sizes (state sizes past) x → x ≢ cut_home → Untouched (edge_chain sizes past x) (list_chain sizes cut_state w x)
-    cut_others x o ne = untouched sizes past e w cut_state x a (off_unlink sizes z past e kept x ok ne) (same_unlink sizes z past e kept x ne)
+    cut_others x o ne = untouched sizes past e w cut_state x a (off_unlink sizes z past e kept x ok ne) (λ y on. since_still UnlinkEdge tt sizes e (state sizes past) y) (same_unlink sizes z past e kept x ne)
 
     cut_list : (x : ℕ) → IsOpenIn sizes (state sizes past) x → IsList sizes (state sizes past) (word_at sizes past) x → IsList sizes cut_state w x
     cut_list x o b = dite (ℕ_discrete x cut_home)
@@ -350,17 +495,17 @@ module _ (sizes : Sizes) (z : IsLayout sizes) (past : List Event) (e : Event) (k
         (λ ne. stays sizes (state sizes past) cut_state (word_at sizes past) w x (same_unlink sizes z past e kept x ne) (cut_others x o ne) b)
 
 -- a word of a list gets its mark, and the list stays
-module _ (sizes : Sizes) (past : List Event) (e : Event) (s' : State) (same : (x : ℕ) → s'.edges x ≡ (state sizes past).edges x) (home : ℕ) (at : Position) (place : list_word sizes home at ≡ e.place) (near : e.place < word_count sizes)
+module _ (sizes : Sizes) (past : List Event) (e : Event) (s' : State) (same : (x : ℕ) → s'.edges x ≡ (state sizes past).edges x) (still : (y : ℕ) → (s'.node y).since ≡ (node_in sizes past y).since) (home : ℕ) (at : Position) (place : list_word sizes home at ≡ e.place) (near : e.place < word_count sizes)
     (word : e.word ≡ with_mark (word_at sizes past e.place)) (w : ℕ → ℕ) (a : IsAfter sizes past e w) where
   pub mark_sets : SetsMark (edge_chain sizes past home) (list_chain sizes s' w home) at
-  mark_sets = SetsMark-in (word_at sizes past) w (list_places sizes home) (is_listed (state sizes past) home) (is_listed s' home) at (alone sizes home at)
+  mark_sets = SetsMark-in (word_at sizes past) w (list_places sizes home) (is_listed (state sizes past) home) (is_listed s' home) (λ y. (node_in sizes past y).since) (λ y. (s'.node y).since) (λ y on. still y) at (alone sizes home at)
       (writes_at sizes past e w _ _ a place near (word ∙ ap (λ (i : ℕ). with_mark (word_at sizes past i)) (sym place)))
       (λ y. ap (λ (l : List ℕ). stands y l) (same home))
 
   mark_list : (x : ℕ) → (x ≢ home → IsOff sizes past e x) → IsList sizes (state sizes past) (word_at sizes past) x → IsList sizes s' w x
   mark_list x off b = dite (ℕ_discrete x home)
       (λ is. subst (IsList sizes s' w) (sym is) (marks sizes (state sizes past) s' (word_at sizes past) w home at (same home) mark_sets (subst (IsList sizes (state sizes past) (word_at sizes past)) is b)))
-      (λ ne. stays sizes (state sizes past) s' (word_at sizes past) w x (same x) (untouched sizes past e w s' x a (off ne) (same x)) b)
+      (λ ne. stays sizes (state sizes past) s' (word_at sizes past) w x (same x) (untouched sizes past e w s' x a (off ne) (λ y on. still y) (same x)) b)
 
 -- a vertex that is linked has an empty list
 new_list : (sizes : Sizes) → IsLayout sizes → (past : List Event) (e : Event) → IsKept sizes past → IsLinkVertex sizes past e → (w : ℕ → ℕ) → IsAfter sizes past e w → IsList sizes (state_by LinkVertex sizes e (state sizes past)) w e.life.index
@@ -373,6 +518,7 @@ new_list sizes z past e kept ok w a =
       chain = IsChain-from_IsMet (list_chain sizes s' w i) [] record {
         met = none;
         rising = tt;
+        unmarked = tt;
         once = λ j k d low high. absurd (omega arith);
         exactly = λ y. ((λ on. absurd (let f : false ≡ true = subst (λ (l : List ℕ). stands y l ≡ true) empty on in cc)), (λ c. absurd (omega (arith, c.1))));
       };
@@ -382,10 +528,13 @@ new_list sizes z past e kept ok w a =
 -- a list that isn't frozen to its end, after each kind of event
 pub list_after : (sizes : Sizes) → IsLayout sizes → (past : List Event) (e : Event) → IsKept sizes past → (k : Kind) → AllowedAs k sizes past e → (w : ℕ → ℕ) → IsAfter sizes past e w → (x : ℕ) → IsOpenIn sizes (state sizes past) x → IsList sizes (state sizes past) (word_at sizes past) x → IsList sizes (state_by k sizes e (state sizes past)) w x
 list_after sizes z past e kept LinkEdge ok w a x o b = link_list sizes z past e kept ok w a x o b
+list_after sizes z past e kept ReplaceEdge ok w a x o b = dite (ℕ_discrete x e.source.index)
+    (λ same. subst (IsList sizes (state_by ReplaceEdge sizes e (state sizes past)) w) (sym same) (new_list_met sizes z past e kept ok w a (subst (IsList sizes (state sizes past) (word_at sizes past)) same b)))
+    (λ ne. stays sizes (state sizes past) (state_by ReplaceEdge sizes e (state sizes past)) (word_at sizes past) w x (same_replace sizes z past e kept ok x ne) (new_others sizes z past e kept ok w a x ne) b)
 list_after sizes z past e kept UnlinkEdge ok w a x o b = cut_list sizes z past e kept ok w a x o b
-list_after sizes z past e kept MarkEdge ok w a x o b = mark_list sizes past e (state_by MarkEdge sizes e (state sizes past)) (λ _. refl) (node_in sizes past e.life.index).source.index (Node e.life.index) (sym ok.place) (omega (arith, ok.place, ok.there)) ok.word w a x (off_mark sizes z past e kept x ok.place) b
-list_after sizes z past e kept FreezeEdge ok w a x o b = mark_list sizes past e (state_by FreezeEdge sizes e (state sizes past)) (λ _. refl) (node_in sizes past e.life.index).source.index (Node e.life.index) (sym ok.place) (omega (arith, ok.place, ok.there)) ok.word w a x (off_mark sizes z past e kept x ok.place) b
-list_after sizes z past e kept FreezeHead ok w a x o b = mark_list sizes past e (state_by FreezeHead sizes e (state sizes past)) (λ _. refl) e.life.index Head (sym ok.place) (omega (arith, ok.place, ok.there)) ok.word w a x (off_close sizes z past e kept x ok.place) b
+list_after sizes z past e kept MarkEdge ok w a x o b = mark_list sizes past e (state_by MarkEdge sizes e (state sizes past)) (λ _. refl) (λ y. since_still MarkEdge tt sizes e (state sizes past) y) (node_in sizes past e.life.index).source.index (Node e.life.index) (sym ok.place) (omega (arith, ok.place, ok.there)) ok.word w a x (off_mark sizes z past e kept x ok.place) b
+list_after sizes z past e kept FreezeEdge ok w a x o b = mark_list sizes past e (state_by FreezeEdge sizes e (state sizes past)) (λ _. refl) (λ y. since_still FreezeEdge tt sizes e (state sizes past) y) (node_in sizes past e.life.index).source.index (Node e.life.index) (sym ok.place) (omega (arith, ok.place, ok.there)) ok.word w a x (off_mark sizes z past e kept x ok.place) b
+list_after sizes z past e kept FreezeHead ok w a x o b = mark_list sizes past e (state_by FreezeHead sizes e (state sizes past)) (λ _. refl) (λ y. since_still FreezeHead tt sizes e (state sizes past) y) e.life.index Head (sym ok.place) (omega (arith, ok.place, ok.there)) ok.word w a x (off_close sizes z past e kept x ok.place) b
 list_after sizes z past e kept k ok w a x o b = list_idle sizes z past e kept x o k tt ok w a b
 
 lists_step : (sizes : Sizes) → IsLayout sizes → Keeps sizes (Lists sizes)

@@ -5,19 +5,22 @@ use Rattle.packed_link.specs.Link.{pack, index_of, mark_of, tag_of, nowhere}
 use Rattle.packed_link.specs.Layout.{IsLayout, key_at, link_at, second_at}
 use Rattle.packed_link.specs.declared.link.Life.{Life}
 use Rattle.core_journal.specs.declared.event.Event.{Event}
-use Rattle.core_journal.specs.Life.{key_of, edge_linked}
+use Rattle.core_journal.specs.Life.{key_of, link_of, edge_linked}
 use Rattle.core_journal.specs.Machine.{word_at}
 use Rattle.core_journal.specs.Reuse.{pass_in}
 use Rattle.core_journal.specs.State.{Node, Pass}
 use Rattle.core_journal.proofs.Lists.{get_short, get_front, take_front}
 use Rattle.core_rule.specs.Nodes.{node_in, IsVertex}
-use Rattle.core_rule.specs.Edges.{IsFilledEdge, IsEdgeFrom, IsLinkEdge, IsRaisedFor, IsMarkEdge}
+use Rattle.core_rule.specs.Edges.{IsFilledEdge, IsEdgeFrom, IsLinkEdge, IsRaisedFor, IsMarkEdge, IsReplaceEdge}
 use Rattle.core_rule.specs.Freezing.{IsFreezeHead}
-use Rattle.core_rule.specs.Fronts.{MetEdge, IsEdgeBelow, MayLinkEdge, MayMarkEdge, MayFreezeHead, key_in}
-use Rattle.core_rule.specs.OwnEvents.{link_edge_event, mark_edge_event, freeze_head_event}
+use Rattle.core_rule.specs.Fronts.{MetEdge, IsEdgeBelow, MayLinkEdge, MayMarkEdge, MayReplaceEdge, MayFreezeHead, key_in}
+use Rattle.core_rule.specs.OwnEvents.{link_edge_event, mark_edge_event, replace_event, freeze_head_event}
 use Rattle.core_rule.specs.Owes.{Reaches}
 use Rattle.core_rule.specs.declared.view.View.{View}
 use Rattle.core_rule.proofs.Ends.{vertex_key}
+use Rattle.core_rule.proofs.Induction.{kept_front}
+use Rattle.core_rule.proofs.MetWords.{met_used}
+use Rattle.core_rule.proofs.Named.{life_is, named}
 use Rattle.core_rule.proofs.OwnLifts.{own_fresh, own_spent, still_fresh}
 use Rattle.core_rule.proofs.OwnMet.{IsMetStill, met_still, met_linked, key_word_is}
 use Rattle.core_rule.proofs.VertexLifts.{vertex_still, vertex_now, vertex_key_now}
@@ -141,6 +144,49 @@ module _ (v : View) (z : IsLayout v.sizes) (journal : List Event) (r : Reaches v
         raised = subst (λ (y : Life). IsRaisedFor v.sizes journal v.number x y) (sym now.from) (raised_still v journal r x source (ap (λ (q : Pass). q.since) s.pass) m.raised);
         pass = s.met.pass;
       }
+
+  -- an edge is replaced
+  pub lift_replace_edge : (seen key : ℕ) (source target : Life) (weight : ℕ) (old x : Life) → MayReplaceEdge v seen key source target weight old x → word_at v.sizes journal (link_at v.sizes old.index) ≡ seen
+      → IsReplaceEdge v.sizes journal (replace_event v seen key source target weight old x)
+  lift_replace_edge seen key source target weight old x m is =
+      let h = own_fresh v z journal r x.index m.life.there m.fresh in
+      let tag : (node_in v.sizes journal x.index).tag ≡ (node_in v.sizes v.front x.index).tag = ap (λ (u : Node). u.tag) h.node in
+      let to : index_of (word_at v.sizes journal (link_at v.sizes old.index)) ≡ index_of seen = ap index_of is in
+      let live : mark_of (word_at v.sizes journal (link_at v.sizes old.index)) ≡ 0 = ap mark_of is ∙ m.unmarked in
+      let s = edge_still source old m.edge in
+      let now = edge_linked_now source old m.edge live in
+      let kept = kept_front v.sizes v.front journal r.front r.kept in
+      let d = ((named v.sizes z v.front kept).each old.index m.edge.life.there).edge_link (met_used v.sizes v.front v.number old.index m.edge.met) m.edge.edge in
+      let one : d.link ≡ m.link = value d.link m.link (sym d.is ∙ (ap (link_of v.front) (sym (life_is old old.index (node_in v.sizes v.front old.index).tag refl m.edge.life.tag)) ∙ m.link_is)) in
+      record {
+        life = m.life.tag ∙ sym tag;
+        there = m.life.there;
+        old_life = m.edge.life.tag ∙ sym s.same.tag;
+        old_there = m.edge.life.there;
+        place = refl;
+        linked = now.linked;
+        unmarked = live;
+        word = ap (λ (w : ℕ). pack x.index 1 (tag_of w)) (sym is);
+        fresh = still_fresh v journal x.index h m.fresh;
+        filled = record {
+          key_word = h.key ∙ m.filled.key_word;
+          key_fits = m.filled.key_fits;
+          link_word = h.link ∙ (m.filled.link_word ∙ (λ i. pack (sym to i) 0 (sym tag i)));
+          second_word = h.second ∙ m.filled.second_word;
+          third_word = h.third ∙ m.filled.third_word;
+          some = m.filled.some;
+          weight_fits = m.filled.weight_fits;
+        };
+        key = sym m.same_key ∙ (ap (λ (e : Event). e.key) (sym one) ∙ (d.of_key ∙ sym s.same.key));
+        source = sym now.from;
+        target = sym m.same_target ∙ (ap (λ (e : Event). e.target) (sym one) ∙ (d.to ∙ sym s.same.target));
+        other = λ same. m.other_weight (ap (λ (e : Event). e.weight) (sym one) ∙ (d.of_weight ∙ (sym s.same.weight ∙ sym same)));
+        raised = subst (λ (y : Life). IsRaisedFor v.sizes journal v.number old y) (sym now.from) (raised_still v journal r old source (ap (λ (q : Pass). q.since) s.pass) m.raised);
+        pass = s.met.pass;
+      }
+    where
+      value : (a b : Event) → Some a ≡ Some b → a ≡ b
+      value a b p = cc
 
   -- a list is closed at its head
   pub lift_freeze_head : (x : Life) → MayFreezeHead v x → mark_of (word_at v.sizes journal (second_at v.sizes x.index)) ≡ 0 → IsFreezeHead v.sizes journal (freeze_head_event v x (word_at v.sizes journal (second_at v.sizes x.index)))

@@ -1,31 +1,34 @@
 -- The lives on the list of a vertex are those that were linked as edges of its life and not unlinked.
-use Rattle.std.proofs.Common.{◌≡◌, ◌≢◌, ℕ, ◌<◌, Bool, true, false, List, [], ◌∷◌, ◌++◌, Some, None, refl, sym, ap, ◌∙◌, subst, ⊎_elim}
-use Rattle.packed_link.specs.Layout.{Sizes, IsLayout, second_at}
+use Rattle.std.proofs.Common.{◌≡◌, ◌≢◌, ℕ, ◌<◌, ◌⊎◌, Bool, true, false, List, [], ◌∷◌, ◌++◌, Some, None, refl, sym, ap, ◌∙◌, subst, arith, ⊎_elim, inl, inr}
+use Rattle.packed_link.specs.Layout.{Sizes, IsLayout, link_at, second_at}
+use Rattle.packed_link.specs.Link.{mark_of, mark_bit}
 use Rattle.packed_link.specs.declared.link.Life.{Life}
-use Rattle.core_chain.proofs.Walks.{one_of_key}
+use Rattle.core_chain.specs.Chain.{Node as At, Precedes, rank_of}
+use Rattle.core_chain.proofs.Orders.{by_order, rises_behind}
 use Rattle.core_journal.specs.declared.event.Kind.{Kind}
-use Rattle.core_journal.specs.declared.event.Kind.TheVariants.{PopFree, LinkVertex, UnlinkVertex, LinkEdge, UnlinkEdge}
+use Rattle.core_journal.specs.declared.event.Kind.TheVariants.{PopFree, LinkVertex, UnlinkVertex, LinkEdge, UnlinkEdge, ReplaceEdge}
 use Rattle.core_journal.specs.declared.event.Event.{Event}
 use Rattle.core_journal.specs.Event.{same_life, links_edge, unlinks}
+use Rattle.core_journal.specs.Machine.{word_at}
 use Rattle.core_journal.specs.Life.{link_of, unlinked, edge_marked}
 use Rattle.core_journal.specs.State.{Fresh, Linked, Spent, Node, State, unlinked_from, state, state_by}
 use Rattle.core_journal.proofs.Snoc.{same_is, link_skip, link_else}
 use Rattle.core_rule.specs.Kept.{AllowedAs, IsKept}
 use Rattle.core_rule.specs.Nodes.{node_in, IsUsed, IsLinkedEdge}
-use Rattle.core_rule.specs.Chains.{edge_chain, life_in, HasList, IsEdgeOf, IsInList, IsAtSource}
+use Rattle.core_rule.specs.Chains.{edge_chain, life_in, HasList, IsEdgeOf, IsInList, IsAtSource, IsOlder}
 use Rattle.core_rule.proofs.Steps.{KeepsIn, put_other, all_in}
-use Rattle.core_rule.proofs.LinkWords.{taken}
+use Rattle.core_rule.proofs.LinkWords.{taken, used_link}
 use Rattle.core_rule.proofs.Contents.{contents}
 use Rattle.core_rule.proofs.Lives.{IsWithin, same_tag, other_index, this_life}
 use Rattle.core_rule.proofs.Named.{life_is, named, link_first}
-use Rattle.core_rule.proofs.Ends.{new_vertex, new_edge}
+use Rattle.core_rule.proofs.Ends.{new_vertex, new_edge, new_replacing}
 use Rattle.core_rule.proofs.Living.{unlinked_skip, unlinked_other, IsStanding, life_of, standing, linked_stays, not_this}
 use Rattle.core_rule.proofs.LivingEdges.{live_edges}
 use Rattle.core_rule.proofs.Placed.{used_there}
 use Rattle.core_rule.proofs.Meets.{stands}
-use Rattle.core_rule.proofs.ListParts.{unlinked_was, unlinked_keeps, linked_was, linked_keeps, linked_joins}
+use Rattle.core_rule.proofs.ListParts.{yes_no, unlinked_was, unlinked_keeps, linked_was, linked_keeps, linked_joins}
 use Rattle.core_rule.proofs.Listed.{open_mode}
-use Rattle.core_rule.proofs.ListSteps.{listing, link_joins, popped_was, popped_not, IsOpenIn, open_before, open_linked, has_open, sources}
+use Rattle.core_rule.proofs.ListSteps.{listing, link_joins, replace_joins, popped_was, popped_not, IsOpenIn, open_before, open_linked, has_open, sources}
 use Rattle.core_rule.proofs.EdgeChains.{lists}
 
 -- no life on a list was unlinked
@@ -44,6 +47,14 @@ not_cut_step sizes z past e kept c PopFree is ok w a =
           let r = popped_was sizes s.node s.edges s.frozen (listing sizes z past kept) e.life.index v (taken sizes z past e kept ok).free refl x y h in
           ap (λ (n : Node). unlinked (past ++ e ∷ []) (life_of y n)) (put_other e.life.index v s.node y r.2) ∙ (unlinked_skip past e (ap unlinks is) (life_of y (s.node y)) ∙ c.on x y r.1);
     }
+not_cut_step sizes z past e kept c ReplaceEdge is ok w a = record {
+  on = λ x y h.
+      let s : State = state sizes past in
+      ap (unlinked (past ++ e ∷ [])) (still_life ReplaceEdge tt sizes e s y) ∙ (unlinked_skip past e (ap unlinks is) (life_of y (s.node y)) ∙ ⊎_elim
+      (λ (t : stands y (s.edges x) ≡ true). c.on x y t)
+      (λ (t : (y ≡ e.life.index) × _). (standing sizes z past kept).each y (subst (λ (i : ℕ). IsStanding (s.node i).mode) (sym t.0) (subst IsStanding (sym ok.fresh.fresh) tt)))
+      (linked_was sizes (second_at sizes x) e.place e.life.index y (s.edges x) h));
+}
 not_cut_step sizes z past e kept c LinkEdge is ok w a = record {
   on = λ x y h.
       let s : State = state sizes past in
@@ -117,6 +128,31 @@ module _ (sizes : Sizes) (z : IsLayout sizes) (past : List Event) (e : Event) (k
           let old = c l link (sym (link_else past e l same) ∙ h) (from ∙ still_life LinkEdge tt sizes e s x) (sym (unlinked_skip past e (ap unlinks is) l) ∙ stays) in
           record { life = old.life ∙ sym (same_tag LinkEdge tt sizes e s l.index); on = linked_keeps sizes (second_at sizes x) e.place e.life.index l.index (s.edges x) old.on }
 
+  -- so does an edge that replaces another
+  replace_stands : e.kind ≡ ReplaceEdge → AllowedAs ReplaceEdge sizes past e → StandsAll (past ++ e ∷ []) (state_by ReplaceEdge sizes e (state sizes past)) x
+  replace_stands is ok l link h from stays = by (same_life l e.life) refl
+    where
+      s : State
+      s = state sizes past
+
+      s' : State
+      s' = state_by ReplaceEdge sizes e s
+
+      by : (b : Bool) → same_life l e.life ≡ b → IsStandingOn s' x l
+      by true same =
+          let one = same_is l e.life same in
+          let new : link_of past l ≡ None = ap (link_of past) one ∙ (new_replacing sizes z past e kept is ok).new in
+          let which : e ≡ link = some_is e link (sym (link_first past e l new (ap links_edge is) same) ∙ h) in
+          let home : e.source.index ≡ x = ap (λ (d : Event). d.source.index) which ∙ ap (λ (y : Life). y.index) from in
+          record {
+            life = ap (λ (y : Life). y.tag) one ∙ (ok.life ∙ (sym (same_tag ReplaceEdge tt sizes e s e.life.index) ∙ ap (λ (y : Life). (s'.node y.index).tag) (sym one)));
+            on = subst (λ (i : ℕ). stands i (s'.edges x) ≡ true) (ap (λ (y : Life). y.index) (sym one)) (subst (λ (y : ℕ). stands e.life.index (s'.edges y) ≡ true) home
+                (linked_joins sizes (second_at sizes e.source.index) e.place e.life.index (s.edges e.source.index) (replace_joins sizes z past e kept (listing sizes z past kept) ok).word));
+          }
+      by false same =
+          let old = c l link (sym (link_else past e l same) ∙ h) (from ∙ still_life ReplaceEdge tt sizes e s x) (sym (unlinked_skip past e (ap unlinks is) l) ∙ stays) in
+          record { life = old.life ∙ sym (same_tag ReplaceEdge tt sizes e s l.index); on = linked_keeps sizes (second_at sizes x) e.place e.life.index l.index (s.edges x) old.on }
+
   -- an edge that wasn't unlinked with the event stands on the list still
   cut_stands : e.kind ≡ UnlinkEdge → AllowedAs UnlinkEdge sizes past e → StandsAll (past ++ e ∷ []) (state_by UnlinkEdge sizes e (state sizes past)) x
   cut_stands is ok l link h from stays =
@@ -150,6 +186,7 @@ module _ (sizes : Sizes) (z : IsLayout sizes) (past : List Event) (e : Event) (k
   -- by the kind
   pub stands_after : (k : Kind) → e.kind ≡ k → AllowedAs k sizes past e → (k ≡ PopFree → (x ≢ e.life.index) × (stands e.life.index ((state sizes past).edges x) ≡ true → ⊥)) → StandsAll (past ++ e ∷ []) (state_by k sizes e (state sizes past)) x
   stands_after PopFree is ok apart l link h from stays = pop_stands is ok (apart refl).0 (apart refl).1 l link h from stays
+  stands_after ReplaceEdge is ok apart l link h from stays = replace_stands is ok l link h from stays
   stands_after LinkEdge is ok apart l link h from stays = link_stands is ok l link h from stays
   stands_after UnlinkEdge is ok apart l link h from stays = cut_stands is ok l link h from stays
   stands_after UnlinkVertex is ok apart l link h from stays = unlink_stands is ok l link h from stays
@@ -220,14 +257,42 @@ list_key sizes z journal kept x has l f =
     let which : n.link ≡ f.link = some_is n.link f.link (sym n.is ∙ (ap (link_of journal) (sym this) ∙ f.is)) in
     (((contents sizes z journal kept).each l.index i.there).edge used d.edge).key_word ∙ (sym n.of_key ∙ ap (λ (e : Event). e.key) which)
 
--- two edges of one source and one key, on a list that isn't frozen to its end, are one
-pub one_listed : (sizes : Sizes) → IsLayout sizes → (journal : List Event) → IsKept sizes journal → (x : ℕ) → HasList sizes journal x → (k l : Life) (a : IsEdgeOf journal (life_in sizes journal x) k) (b : IsEdgeOf journal (life_in sizes journal x) l) → a.link.key ≡ b.link.key → k ≡ l
+same_node : (x y : ℕ) → At x ≡ At y → x ≡ y
+same_node x y e = cc
+
+-- the mark of an edge on a list is that of its node
+list_mark : (sizes : Sizes) → IsLayout sizes → (journal : List Event) → IsKept sizes journal → (x : ℕ) → HasList sizes journal x → (l : Life) → IsInList sizes journal x l → edge_marked journal l ≡ false → mark_of (word_at sizes journal (link_at sizes l.index)) ≡ 0
+list_mark sizes z journal kept x has l i live =
+    let c = listing sizes z journal kept in
+    let d = c.on x l.index i.on in
+    let used : IsUsed (node_in sizes journal l.index).mode = ⊎_elim (λ (m : (node_in sizes journal l.index).mode ≡ Linked). subst IsUsed (sym m) tt) (λ (m : (node_in sizes journal l.index).mode ≡ Spent). subst IsUsed (sym m) tt)
+    (open_mode sizes (state sizes journal).node (state sizes journal).edges (state sizes journal).frozen x l.index c (has_open sizes journal x has) i.on) in
+    let this : l ≡ life_of l.index (node_in sizes journal l.index) = life_is l l.index (node_in sizes journal l.index).tag refl i.life in
+    (used_link sizes z journal kept l.index i.there used).1
+    ∙ ap mark_bit (sym (((named sizes z journal kept).each l.index i.there).edge_mark used d.edge) ∙ (ap (edge_marked journal) (sym this) ∙ live))
+
+-- of two edges of one key on a list that isn't frozen to its end, one that stands before the other is marked and older
+list_older : (sizes : Sizes) → IsLayout sizes → (journal : List Event) → IsKept sizes journal → (x : ℕ) → HasList sizes journal x → (k l : Life) → IsInList sizes journal x k → IsInList sizes journal x l → (edge_chain sizes journal x).key k.index ≡ (edge_chain sizes journal x).key l.index
+    → Precedes (edge_chain sizes journal x) (At k.index) (At l.index) → IsOlder sizes journal k l
+list_older sizes z journal kept x has k l i j keys low = record {
+  marked = yes_no (edge_marked journal k ≡ true) (edge_marked journal k) (λ t. t)
+      (λ f.
+      let rises = rises_behind (edge_chain sizes journal x) (At k.index) (At l.index) ((lists sizes z journal kept).each x (has_open sizes journal x has)).chain i.on j.on (list_mark sizes z journal kept x has k i f) low in
+      absurd (omega (arith, rises, keys)));
+  before = ⊎_elim {A = rank_of (edge_chain sizes journal x) (At k.index) < rank_of (edge_chain sizes journal x) (At l.index)} (λ less. absurd (omega (arith, less, keys))) (λ same. same.1) low;
+}
+
+-- of two edges of one source and one key, on a list that isn't frozen to its end, one is marked and older
+pub one_listed : (sizes : Sizes) → IsLayout sizes → (journal : List Event) → IsKept sizes journal → (x : ℕ) → HasList sizes journal x → (k l : Life) (a : IsEdgeOf journal (life_in sizes journal x) k) (b : IsEdgeOf journal (life_in sizes journal x) l) → a.link.key ≡ b.link.key
+    → (k ≡ l) ⊎ IsOlder sizes journal k l ⊎ IsOlder sizes journal l k
 one_listed sizes z journal kept x has k l a b same =
     let i = of_edge sizes z journal kept x has k a in
     let j = of_edge sizes z journal kept x has l b in
     let keys : (edge_chain sizes journal x).key k.index ≡ (edge_chain sizes journal x).key l.index = list_key sizes z journal kept x has k a ∙ (same ∙ sym (list_key sizes z journal kept x has l b)) in
-    let at : k.index ≡ l.index = one_of_key (edge_chain sizes journal x) k.index l.index ((lists sizes z journal kept).each x (has_open sizes journal x has)).chain i.on j.on keys in
-    λ n. record { index = at n; tag = (i.life ∙ (ap (λ (y : ℕ). (node_in sizes journal y).tag) at ∙ sym j.life)) n }
+    by_order (edge_chain sizes journal x) (At k.index) (At l.index) ((lists sizes z journal kept).each x (has_open sizes journal x has)).chain i.on j.on
+    (λ e. let at : k.index ≡ l.index = same_node k.index l.index e in inl (λ n. record { index = at n; tag = (i.life ∙ (ap (λ (y : ℕ). (node_in sizes journal y).tag) at ∙ sym j.life)) n }))
+    (λ low. inr (inl (list_older sizes z journal kept x has k l i j keys low)))
+    (λ high. inr (inr (list_older sizes z journal kept x has l k j i (sym keys) high)))
 
 -- a present edge is its node's life, linked, and on the list of its source
 pub record IsPresentEdge (sizes : Sizes) (journal : List Event) (l : Life) : Type 0 where
@@ -257,13 +322,16 @@ present_source sizes z journal kept l link is unmarked =
     let same : v.source ≡ link.source = sym n.from ∙ ap (λ (e : Event). e.source) which in
     subst (IsSourceOf sizes journal) same record { list = p.at.list; life = life_is v.source v.source.index (node_in sizes journal v.source.index).tag refl p.at.life }
 
--- two edges of one source and one key of which one isn't marked are one
-pub one_unmarked : (sizes : Sizes) → IsLayout sizes → (journal : List Event) → IsKept sizes journal → (source k l : Life) (a : IsEdgeOf journal source k) (b : IsEdgeOf journal source l) → a.link.key ≡ b.link.key → edge_marked journal k ≡ false → k ≡ l
+-- of two edges of one source and one key of which one isn't marked, the other is marked and older
+pub one_unmarked : (sizes : Sizes) → IsLayout sizes → (journal : List Event) → IsKept sizes journal → (source k l : Life) (a : IsEdgeOf journal source k) (b : IsEdgeOf journal source l) → a.link.key ≡ b.link.key → edge_marked journal k ≡ false
+    → (k ≡ l) ⊎ IsOlder sizes journal l k
 one_unmarked sizes z journal kept source k l a b same unmarked =
     let s : IsSourceOf sizes journal source = subst (IsSourceOf sizes journal) a.from (present_source sizes z journal kept k a.link a.is unmarked) in
-    one_listed sizes z journal kept source.index s.list k l
+    ⊎_elim (λ (e : k ≡ l). inl e)
+    (λ (o : IsOlder sizes journal k l ⊎ IsOlder sizes journal l k). ⊎_elim (λ (h : IsOlder sizes journal k l). let m = h.marked in absurd (cc)) (λ (h : IsOlder sizes journal l k). inr h) o)
+    (one_listed sizes z journal kept source.index s.list k l
     record { link = a.link; is = a.is; from = a.from ∙ s.life; stays = a.stays }
-    record { link = b.link; is = b.is; from = b.from ∙ s.life; stays = b.stays } same
+    record { link = b.link; is = b.is; from = b.from ∙ s.life; stays = b.stays } same)
 
 -- a present edge wasn't unlinked
 pub edge_present : (sizes : Sizes) → IsLayout sizes → (journal : List Event) → IsKept sizes journal → (l : Life) (link : Event) → link_of journal l ≡ Some link → edge_marked journal l ≡ false → IsEdgeOf journal link.source l
@@ -276,4 +344,5 @@ pub one_present_edge : (sizes : Sizes) → IsLayout sizes → (journal : List Ev
 one_present_edge sizes z journal kept k l a b is_a is_b from same u v =
     let e = edge_present sizes z journal kept k a is_a u in
     let f = edge_present sizes z journal kept l b is_b v in
-    one_unmarked sizes z journal kept a.source k l record { link = a; is = is_a; from = refl; stays = e.stays } record { link = b; is = is_b; from = sym from; stays = f.stays } same u
+    ⊎_elim (λ (e : k ≡ l). e) (λ (o : IsOlder sizes journal l k). let m = o.marked in absurd (cc))
+    (one_unmarked sizes z journal kept a.source k l record { link = a; is = is_a; from = refl; stays = e.stays } record { link = b; is = is_b; from = sym from; stays = f.stays } same u)

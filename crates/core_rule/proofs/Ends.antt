@@ -3,16 +3,16 @@ use Rattle.std.proofs.Common.{◌≡◌, ◌≢◌, ◌<◌, Bool, true, false, 
 use Rattle.packed_link.specs.Layout.{Sizes, IsLayout}
 use Rattle.packed_link.specs.declared.link.Life.{Life}
 use Rattle.core_journal.specs.declared.event.Kind.{Kind}
-use Rattle.core_journal.specs.declared.event.Kind.TheVariants.{LinkVertex, LinkEdge, FreezeEdge}
+use Rattle.core_journal.specs.declared.event.Kind.TheVariants.{LinkVertex, LinkEdge, FreezeEdge, ReplaceEdge}
 use Rattle.core_journal.specs.declared.event.Event.{Event}
 use Rattle.core_journal.specs.Event.{same_life, links_edge}
-use Rattle.core_journal.specs.Changes.{IsNewVertex, IsNewEdge, IsFrozenEdge}
+use Rattle.core_journal.specs.Changes.{IsNewVertex, IsNewEdge, IsReplacing, IsFrozenEdge}
 use Rattle.core_journal.specs.Life.{key_of, link_of, vertex_marked}
 use Rattle.core_journal.proofs.KeptLives.{key_more, link_more}
 use Rattle.core_journal.proofs.Snoc.{find_last, find_skip}
 use Rattle.core_rule.specs.Kept.{AllowedAs, IsKept}
 use Rattle.core_rule.specs.Vertices.{IsLinkVertex}
-use Rattle.core_rule.specs.Edges.{IsLinkEdge}
+use Rattle.core_rule.specs.Edges.{IsLinkEdge, IsReplaceEdge}
 use Rattle.core_rule.specs.Freezing.{IsFreezeEdge}
 use Rattle.core_journal.specs.State.{Mode, Fresh, Linked}
 use Rattle.core_rule.specs.Nodes.{node_in, IsUsed, IsVertex}
@@ -20,6 +20,7 @@ use Rattle.core_rule.specs.Facts.{IsNewLife, Ends}
 use Rattle.core_rule.proofs.Induction.{kept_all}
 use Rattle.core_rule.proofs.LinkWords.{link_words}
 use Rattle.core_rule.proofs.Named.{life_is, named}
+use Rattle.core_rule.proofs.Replaced.{old_apart}
 
 some_none : {A : Type 0} (o : Option A) (x : A) → o ≡ Some x → o ≢ None
 some_none o x h n = absurd (cc)
@@ -29,9 +30,15 @@ pub vertex_key : (sizes : Sizes) → IsLayout sizes → (past : List Event) → 
 vertex_key sizes z past kept x v = ap (key_of past) (life_is x x.index (node_in sizes past x.index).tag refl v.life) ∙ ((named sizes z past kept).each x.index v.there).vertex_key v.used v.vertex
 
 -- the two ends of an edge that is linked next
-pub end_keys : (sizes : Sizes) → IsLayout sizes → (past : List Event) (e : Event) → IsKept sizes past → (k : Kind) → links_edge k ≡ true → AllowedAs k sizes past e → (key_of past e.source ≢ None) × (key_of past e.target ≡ Some e.key)
-end_keys sizes z past e kept LinkEdge is ok = (some_none _ _ (vertex_key sizes z past kept e.source ok.source), ok.target_key)
-end_keys sizes z past e kept _ is ok = absurd (cc)
+pub end_keys : (sizes : Sizes) → IsLayout sizes → (past : List Event) (e : Event) → IsKept sizes past → Ends past → (k : Kind) → links_edge k ≡ true → AllowedAs k sizes past e → (key_of past e.source ≢ None) × (key_of past e.target ≡ Some e.key)
+end_keys sizes z past e kept c ReplaceEdge is ok =
+    let x : Life = record { index = e.old.index; tag = (node_in sizes past e.old.index).tag } in
+    let d = ((named sizes z past kept).each e.old.index ok.old_there).edge_link (subst IsUsed (sym ok.linked.linked) tt) ok.linked.edge in (
+      (λ none. c.source x d.link d.is (ap (key_of past) (d.from ∙ sym ok.source) ∙ none)),
+      ap (key_of past) (ok.target ∙ sym d.to) ∙ (c.target x d.link d.is ∙ ap Some (d.of_key ∙ sym ok.key)),
+    )
+end_keys sizes z past e kept c LinkEdge is ok = (some_none _ _ (vertex_key sizes z past kept e.source ok.source), ok.target_key)
+end_keys sizes z past e kept c _ is ok = absurd (cc)
 
 pub not_none : {A : Type 0} (o : Option A) → o ≢ None → (x : A) × (o ≡ Some x)
 not_none None h = absurd (h refl)
@@ -68,15 +75,15 @@ ends_linked sizes z journal kept = kept_all sizes Ends
     (λ past e k c ok. record {
       source = λ x link h. link_split past e x link h (λ (d : Event). key_of (past ++ e ∷ []) d.source ≢ None)
           (λ d i. more_some past e d.source (c.source x d i))
-          (λ i. more_some past e e.source (end_keys sizes z past e k e.kind i ok.as_kind).0);
+          (λ i. more_some past e e.source (end_keys sizes z past e k c e.kind i ok.as_kind).0);
       target = λ x link h. link_split past e x link h (λ (d : Event). key_of (past ++ e ∷ []) d.target ≡ Some d.key)
           (λ d i. key_more past (e ∷ []) d.target d.key (c.target x d i))
-          (λ i. key_more past (e ∷ []) e.target e.key (end_keys sizes z past e k e.kind i ok.as_kind).1);
+          (λ i. key_more past (e ∷ []) e.target e.key (end_keys sizes z past e k c e.kind i ok.as_kind).1);
     })
     none_yet journal kept
 
 -- the life of a fresh node is new
-new_here : (sizes : Sizes) → IsLayout sizes → (past : List Event) (e : Event) → IsKept sizes past → e.life.index < sizes.nodes → e.life.tag ≡ (node_in sizes past e.life.index).tag → (node_in sizes past e.life.index).mode ≡ Fresh → IsNewLife past e.life
+pub new_here : (sizes : Sizes) → IsLayout sizes → (past : List Event) (e : Event) → IsKept sizes past → e.life.index < sizes.nodes → e.life.tag ≡ (node_in sizes past e.life.index).tag → (node_in sizes past e.life.index).mode ≡ Fresh → IsNewLife past e.life
 new_here sizes z past e kept there life m = subst (λ (y : Life). IsNewLife past y) (sym (life_is e.life e.life.index (node_in sizes past e.life.index).tag refl life)) (((named sizes z past kept).each e.life.index there).new m)
 
 -- a vertex that is linked next is new, and no edge names it
@@ -96,6 +103,12 @@ new_vertex sizes z past e kept is ok =
 -- an edge that is linked next is new
 pub new_edge : (sizes : Sizes) → IsLayout sizes → (past : List Event) (e : Event) → IsKept sizes past → e.kind ≡ LinkEdge → IsLinkEdge sizes past e → IsNewEdge past e
 new_edge sizes z past e kept is ok = let d = new_here sizes z past e kept ok.there ok.life ok.fresh.fresh in record { kind = is; new = d.link; unmarked = d.edge }
+
+-- so is one that replaces another
+pub new_replacing : (sizes : Sizes) → IsLayout sizes → (past : List Event) (e : Event) → IsKept sizes past → e.kind ≡ ReplaceEdge → IsReplaceEdge sizes past e → IsReplacing past e
+new_replacing sizes z past e kept is ok =
+    let d = new_here sizes z past e kept ok.there ok.life ok.fresh.fresh in
+    record { kind = is; new = d.link; unmarked = d.edge; apart = λ same. old_apart sizes past e ok (ap (λ (y : Life). y.index) (sym same)) }
 
 -- an edge that is frozen next has a marked source
 pub frozen_edge : (sizes : Sizes) → IsLayout sizes → (past : List Event) (e : Event) → IsKept sizes past → e.kind ≡ FreezeEdge → IsFreezeEdge sizes past e → IsFrozenEdge past e

@@ -6,18 +6,17 @@ use Rattle.graph_kinds.proofs.Calls.{and_left, and_right}
 use Rattle.packed_link.specs.Layout.{Sizes, IsLayout}
 use Rattle.packed_link.specs.declared.link.Life.{Life}
 use Rattle.core_journal.specs.declared.event.Kind.{Kind}
-use Rattle.core_journal.specs.declared.event.Kind.TheVariants.{PopFree, LinkVertex, MarkVertex, UnlinkVertex, LinkEdge, MarkEdge, UnlinkEdge, FreezeHead, FreezeEdge, StoreFree, PushFree}
+use Rattle.core_journal.specs.declared.event.Kind.TheVariants.{PopFree, LinkVertex, MarkVertex, UnlinkVertex, LinkEdge, MarkEdge, UnlinkEdge, FreezeHead, FreezeEdge, StoreFree, PushFree, ReplaceEdge}
 use Rattle.core_journal.specs.declared.event.Event.{Event}
-use Rattle.core_journal.specs.Event.{same_life, marks_edge, unlinks, freezes_head}
+use Rattle.core_journal.specs.Event.{same_life, unlinks, freezes_head, cuts_edge, cut_life, draws}
 use Rattle.core_journal.specs.Life.{link_of, edge_marked, head_frozen, unlinked}
 use Rattle.core_journal.specs.Machine.{word_at}
 use Rattle.core_journal.specs.Reuse.{IsUnlinkedAt, IsHandedAt, EndsAt}
-use Rattle.core_journal.specs.State.{Mode, Free, Fresh, Linked, Spent, Node, State, put, handed, frozen_part, state_by, state}
+use Rattle.core_journal.specs.State.{Mode, Free, Fresh, Linked, Spent, Node, State, put, handed, frozen_part, joined_edge, state_by, state}
 use Rattle.core_journal.proofs.Lists.{get_here, get_front, get_short}
 use Rattle.core_journal.proofs.KeptLives.{link_more}
 use Rattle.core_journal.proofs.Snoc.{any_skip, same_is}
 use Rattle.core_journal.proofs.States.{state-snoc, count-length}
-use Rattle.core_rule.specs.Counts.{draws}
 use Rattle.core_rule.specs.Kept.{Allowed, AllowedAs, IsKept}
 use Rattle.core_rule.specs.Nodes.{node_in, IsUsed}
 use Rattle.core_rule.specs.Facts.{IsLinkOf, IsNamed, Named}
@@ -26,6 +25,10 @@ use Rattle.core_rule.proofs.Steps.{put_case, put_same, handed_case, part_marked,
 use Rattle.core_rule.proofs.LinkWords.{taken}
 use Rattle.core_rule.proofs.Lives.{lives, other_index}
 use Rattle.core_rule.proofs.Named.{named, life_is, none_any}
+use Rattle.core_rule.proofs.ListParts.{linked_was}
+use Rattle.core_rule.proofs.ReplaceCases.{new_edge_node, else_marked, replaced_case}
+use Rattle.core_rule.specs.Edges.{IsReplaceEdge}
+use Rattle.packed_link.specs.Layout.{second_at}
 use Rattle.core_rule.proofs.OnLists.{On, Closed, part_on, listed, closed}
 use Rattle.core_rule.proofs.Ripe.{end_by, ended, IsOver, over_step}
 
@@ -53,13 +56,13 @@ abbrev pub Fate : List Event → Life → Node → Type 0
 Fate journal x v = IsGone journal x v ⊎ IsPresent journal x v
 
 -- an event that passes a test
-record IsFound (test : Event → Bool) (journal : List Event) : Type 0 where
+pub record IsFound (test : Event → Bool) (journal : List Event) : Type 0 where
   pub number : ℕ
   pub event : Event
   pub at : slice_get journal number ≡ Some event
   pub passes : test event ≡ true
 
-any_at : (test : Event → Bool) (journal : List Event) → list_any test journal ≡ true → IsFound test journal
+pub any_at : (test : Event → Bool) (journal : List Event) → list_any test journal ≡ true → IsFound test journal
 any_at test [] h = absurd (cc)
 any_at test (e ∷ es) h = by (any_at test es) (test e) refl h
   where
@@ -114,7 +117,7 @@ handed_same s v y m = handed_case (λ (u : Node). IsSameLife (s.node y) u) s v y
 -- an edge that is never unlinked has ended where it's marked and the list of its source is closed
 handed_at : (journal : List Event) (x : Life) (link : Event) → unlinked journal x ≡ false → link_of journal x ≡ Some link → edge_marked journal x ≡ true → head_frozen journal link.source ≡ true → HasEnd journal x (length journal)
 handed_at journal x link stays edge marked head =
-    let a = any_at (λ (d : Event). marks_edge d.kind && same_life x d.life) journal marked in
+    let a = any_at (λ (d : Event). cuts_edge d.kind && same_life x (cut_life d)) journal marked in
     let b = any_at (λ (d : Event). freezes_head d.kind && same_life link.source d.life) journal head in
     record {
       end = max a.number b.number;
@@ -125,8 +128,8 @@ handed_at journal x link stays edge marked head =
         mark_place = a.number;
         mark = a.event;
         mark_at = a.at;
-        marks = and_left (marks_edge a.event.kind) (same_life x a.event.life) a.passes;
-        mark_life = sym (same_is x a.event.life (and_right (marks_edge a.event.kind) (same_life x a.event.life) a.passes));
+        marks = and_left (cuts_edge a.event.kind) (same_life x (cut_life a.event)) a.passes;
+        mark_life = sym (same_is x (cut_life a.event) (and_right (cuts_edge a.event.kind) (same_life x (cut_life a.event)) a.passes));
         head_place = b.number;
         head = b.event;
         head_at = b.at;
@@ -143,14 +146,14 @@ head_of journal s v source c frozen index tag = subst (λ (y : Life). head_froze
 
 module _ (sizes : Sizes) (z : IsLayout sizes) (past : List Event) (e : Event) (kept : IsKept sizes past) (ok : Allowed sizes past e) where
   -- a linked edge of the frozen part of a list ends as it's handed over
-  handed_end : (s : State) (v : ℕ) (x : Life) → x.index < sizes.nodes → state sizes (past ++ e ∷ []) ≡ handed v s → s.edges ≡ (state sizes past).edges → (s.node v).tag ≡ (node_in sizes past v).tag
+  handed_end : (s : State) (v : ℕ) (x : Life) → x.index < sizes.nodes → state sizes (past ++ e ∷ []) ≡ handed v s → (On (s.edges v) x.index → On ((state sizes past).edges v) x.index) → (s.node v).tag ≡ (node_in sizes past v).tag
       → (s.node x.index).source ≡ (node_in sizes past x.index).source → (s.node x.index).vertex ≡ (node_in sizes past x.index).vertex → (node_in sizes past x.index).mode ≡ Linked
       → unlinked (past ++ e ∷ []) x ≡ false → (s.node x.index).tag ≡ x.tag → (s.node x.index).mode ≡ Linked → On (frozen_part s v) x.index → HasEnd (past ++ e ∷ []) x (length (past ++ e ∷ []))
   handed_end s v x there is edges tag source vertex was stays life m part =
       let journal : List Event = past ++ e ∷ [] in
       let keeps : IsKept sizes journal = kept_snoc sizes past e kept ok in
       let on : On (s.edges v) x.index × (s.frozen v ≡ true) = part_on s v x.index part in
-      let l = (listed sizes z past kept).each v x.index (subst (λ (edges : ℕ → List ℕ). On (edges v) x.index) edges on.0) in
+      let l = (listed sizes z past kept).each v x.index (edges on.0) in
       let n : Node = (handed v s).node x.index in
       let same : IsSameLife (s.node x.index) n = handed_same s v x.index m in
       let named_now : Named sizes journal (handed v s) = subst (Named sizes journal) is (named sizes z journal keeps) in
@@ -253,8 +256,37 @@ module _ (sizes : Sizes) (z : IsLayout sizes) (past : List Event) (e : Event) (k
       let t = marked_same e.life.index x.index in
       handed_case (λ (u : Node). Fate (past ++ e ∷ []) x u) s v x.index (present_mark x c not)
       (λ m _ part. inl record {
-        life = longer s.count long (handed_end s v x there is refl (marked_same e.life.index v).0 t.1 t.2 (sym t.3 ∙ m) (any_skip (λ (d : Event). unlinks d.kind && same_life x d.life) past e not ∙ c.stays) (t.0 ∙ c.tag) m part);
+        life = longer s.count long (handed_end s v x there is (λ h. h) (marked_same e.life.index v).0 t.1 t.2 (sym t.3 ∙ m) (any_skip (λ (d : Event). unlinks d.kind && same_life x d.life) past e not ∙ c.stays) (t.0 ∙ c.tag) m part);
         low = omega (arith, t.0, c.tag);
+        fresh = λ _ h. absurd (cc);
+        linked = λ _ h. absurd (cc);
+      })
+
+  -- an edge is replaced, and the frozen part of its list handed over
+  present_replaced : (r : IsReplaceEdge sizes past e) → (x : Life) → x.index < sizes.nodes → state sizes (past ++ e ∷ []) ≡ state_by ReplaceEdge sizes e (state sizes past) → (unlinks e.kind && same_life x e.life) ≡ false → IsPresent past x (node_in sizes past x.index)
+      → Fate (past ++ e ∷ []) x ((state_by ReplaceEdge sizes e (state sizes past)).node x.index)
+  present_replaced r x there is not c =
+      let s : State = state sizes past in
+      let j : State = joined_edge sizes e s in
+      let t : State = marked_state j e.old.index in
+      let home : ℕ = (j.node e.old.index).source.index in
+      let m = marked_same e.old.index x.index in
+      let joined_tag : (y : ℕ) → (j.node y).tag ≡ (node_in sizes past y).tag = λ y. put_case (λ (u : Node). u.tag ≡ (node_in sizes past y).tag) e.life.index (new_edge_node (s.node e.life.index) e s.count) s.node y
+      (λ same. ap (λ (i : ℕ). (node_in sizes past i).tag) (sym same)) (λ _. refl) in
+      let home_tag : (t.node home).tag ≡ (node_in sizes past home).tag = put_case (λ (u : Node). u.tag ≡ (node_in sizes past home).tag) e.old.index (record (j.node e.old.index) { marked = true }) j.node home
+      (λ same. ap (λ (i : ℕ). (j.node i).tag) (sym same) ∙ joined_tag home) (λ _. joined_tag home) in
+      replaced_case sizes z past e kept r (λ (u : Node). Fate (past ++ e ∷ []) x u) x.index
+      (λ same. present_same x (node_in sizes past x.index) _ not c (ap (λ (y : ℕ). (node_in sizes past y).tag) (sym same)) (λ h. absurd (cc)) (λ h. absurd (cc)))
+      (λ _. present_same x (node_in sizes past x.index) _ not c m.0 (λ h. c.free (sym m.3 ∙ h)) (λ h. c.spent (sym m.3 ∙ h)))
+      (λ ne linked _ part.
+      let at = else_marked sizes z past e kept r x.index ne in
+      inl record {
+        life = longer t.count long (handed_end t home x there is
+            (λ h. ⊎_elim (λ (g : On (s.edges home) x.index). g) (λ (g : (x.index ≡ e.life.index) × _). absurd (ne g.0)) (linked_was sizes (second_at sizes home) e.place e.life.index x.index (s.edges home) h))
+            home_tag (ap (λ (v : Node). v.source) at ∙ m.1) (ap (λ (v : Node). v.vertex) at ∙ m.2) (sym m.3 ∙ linked)
+            (any_skip (λ (d : Event). unlinks d.kind && same_life x d.life) past e not ∙ c.stays)
+            (ap (λ (v : Node). v.tag) at ∙ (m.0 ∙ c.tag)) (ap (λ (v : Node). v.mode) at ∙ linked) part);
+        low = omega (arith, m.0, c.tag);
         fresh = λ _ h. absurd (cc);
         linked = λ _ h. absurd (cc);
       })
@@ -266,7 +298,7 @@ module _ (sizes : Sizes) (z : IsLayout sizes) (past : List Event) (e : Event) (k
       let s : State = closed_state (state sizes past) e.life.index in
       handed_case (λ (u : Node). Fate (past ++ e ∷ []) x u) s e.life.index x.index (present_same x (node_in sizes past x.index) _ not c refl c.free c.spent)
       (λ m _ part. inl record {
-        life = longer s.count long (handed_end s e.life.index x there is refl refl refl refl m (any_skip (λ (d : Event). unlinks d.kind && same_life x d.life) past e not ∙ c.stays) c.tag m part);
+        life = longer s.count long (handed_end s e.life.index x there is (λ h. h) refl refl refl m (any_skip (λ (d : Event). unlinks d.kind && same_life x d.life) past e not ∙ c.stays) c.tag m part);
         low = omega (arith, c.tag);
         fresh = λ _ h. absurd (cc);
         linked = λ _ h. absurd (cc);
@@ -289,6 +321,7 @@ module _ (sizes : Sizes) (z : IsLayout sizes) (past : List Event) (e : Event) (k
   present_step UnlinkEdge is allowed to x there c = present_put x _ c (λ same. unlinked_end UnlinkEdge is refl x c same allowed.life _ refl refl refl)
   present_step StoreFree is allowed to x there c = present_put x _ c (λ same. absurd (c.spent (mode_at x Spent same allowed.ripe.stamped.spent.spent)))
   present_step PushFree is allowed to x there c = present_put x _ c (λ same. absurd (c.spent (mode_at x Spent same allowed.ripe.stamped.spent.spent)))
+  present_step ReplaceEdge is allowed to x there c = present_replaced allowed x there to (skips ReplaceEdge is refl x) c
   present_step MarkEdge is allowed to x there c = present_marked x there (node_in sizes past e.life.index).source.index to (skips MarkEdge is refl x) c
   present_step FreezeEdge is allowed to x there c = present_marked x there (node_in sizes past e.life.index).source.index to (skips FreezeEdge is refl x) c
   present_step FreezeHead is allowed to x there c = present_closed x there to (skips FreezeHead is refl x) c

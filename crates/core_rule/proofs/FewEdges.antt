@@ -7,21 +7,22 @@ use Rattle.graph_kinds.specs.History.{Every}
 use Rattle.packed_link.specs.Layout.{Sizes, IsLayout}
 use Rattle.packed_link.specs.declared.link.Life.{Life}
 use Rattle.core_journal.specs.declared.event.Kind.{Kind}
-use Rattle.core_journal.specs.declared.event.Kind.TheVariants.{PopFree, LinkEdge}
+use Rattle.core_journal.specs.declared.event.Kind.TheVariants.{PopFree, LinkEdge, ReplaceEdge}
 use Rattle.core_journal.specs.declared.event.Event.{Event}
-use Rattle.core_journal.specs.Event.{links_edge, same_life}
+use Rattle.core_journal.specs.Event.{links_edge, same_life, pops}
 use Rattle.core_journal.specs.Life.{edge_linked}
-use Rattle.core_journal.specs.State.{Fresh, Linked, Node, State, put, state_by, state}
+use Rattle.core_journal.specs.State.{Fresh, Linked, Node, State, put, joined_edge, state_by, state}
 use Rattle.core_journal.proofs.Lists.{every_filter, every_map}
 use Rattle.core_journal.proofs.Snoc.{same_is}
-use Rattle.core_rule.specs.Counts.{pops, made, most_pops}
+use Rattle.core_rule.specs.Counts.{made, most_pops}
 use Rattle.core_rule.specs.Kept.{IsKept}
 use Rattle.core_rule.specs.Nodes.{IsFreshWith}
 use Rattle.core_rule.proofs.Bounds.{all_made, all_few, made_most, pop_limit}
 use Rattle.core_rule.proofs.Called.{made_none, made_one, made_other}
 use Rattle.core_rule.proofs.OwnFacts.{fresh_was}
 use Rattle.core_rule.proofs.OwnSteps.{one_fresh}
-use Rattle.core_rule.proofs.Steps.{KeepsIn, put_case, put_same, all_in}
+use Rattle.core_rule.proofs.ReplaceCases.{new_edge_node}
+use Rattle.core_rule.proofs.Steps.{KeepsIn, put_case, put_same, handed_case, marked_state, all_in}
 
 -- a caller took a node for each edge that it linked, and one more while it holds a fresh one
 record IsPaid (caller : ℕ) (journal : List Event) (s : State) : Type 0 where
@@ -41,6 +42,17 @@ paid_other sizes caller past e k is other l p c =
           omega (arith, links, taken, h);
     }
 
+-- the node of an edge that replaces another is fresh no more
+unfresh_new : (sizes : Sizes) (e : Event) (s : State) → ((state_by ReplaceEdge sizes e s).node e.life.index).mode ≢ Fresh
+unfresh_new sizes e s =
+    let j : State = joined_edge sizes e s in
+    let v : Node = new_edge_node (s.node e.life.index) e s.count in
+    let linked : (j.node e.life.index).mode ≡ Linked = ap (λ (n : Node). n.mode) (put_same e.life.index v s.node) in
+    handed_case (λ (n : Node). n.mode ≢ Fresh) (marked_state j e.old.index) (j.node e.old.index).source.index e.life.index
+    (put_case (λ (n : Node). n.mode ≢ Fresh) e.old.index (record (j.node e.old.index) { marked = true }) j.node e.life.index
+    (λ same m. let t = ap (λ (i : ℕ). (j.node i).mode) same ∙ m in absurd (cc)) (λ _ m. absurd (cc)))
+    (λ _ _ _ m. absurd (cc))
+
 paid_step : (sizes : Sizes) (caller : ℕ) → KeepsIn sizes (λ (j : List Event) (s : State) (w : ℕ → ℕ). IsPaid caller j s)
 paid_step sizes caller past e kept c PopFree is ok w a =
     let links = made_none links_edge caller past e (ap links_edge is) in
@@ -56,9 +68,33 @@ paid_step sizes caller past e kept c PopFree is ok w a =
       fresh = λ x. put_case (λ (v : Node). v.mode ≡ Fresh → v.who ≡ caller → made links_edge caller (past ++ e ∷ []) + 1 ≤ made pops caller (past ++ e ∷ [])) e.life.index _ (state sizes past).node x
           (λ _ _ w. absurd (theirs w)) (λ _ m w. let h = c.fresh x m w in omega (arith, links, taken, h));
     })
+paid_step sizes caller past e kept c ReplaceEdge is ok w a =
+    let s : State = state sizes past in
+    let taken = made_none pops caller past e (ap pops is) in
+    dite (ℕ_discrete e.caller caller)
+    (λ mine.
+    let links : made links_edge caller (past ++ e ∷ []) ≡ made links_edge caller past + 1 = subst (λ (n : ℕ). made links_edge n (past ++ e ∷ []) ≡ made links_edge n past + 1) mine (made_one links_edge past e (ap links_edge is)) in
+    let held : IsFreshWith sizes past caller e.life.index = record { fresh = ok.fresh.fresh; mine = ok.fresh.mine ∙ mine } in
+    let h = c.fresh e.life.index held.fresh held.mine in
+    record {
+      linked = omega (arith, links, taken, h);
+      fresh = λ x m q.
+          let was = fresh_was ReplaceEdge sizes e s caller x (λ g. absurd (cc)) m q in
+          let same : x ≡ e.life.index = one_fresh sizes past kept caller x e.life.index (record { fresh = was.0; mine = was.1 }) held in
+          absurd (unfresh_new sizes e s (subst (λ (y : ℕ). ((state_by ReplaceEdge sizes e s).node y).mode ≡ Fresh) same m));
+    })
+    (λ theirs.
+    let links = made_other links_edge caller past e theirs in
+    record {
+      linked = let h = c.linked in omega (arith, links, taken, h);
+      fresh = λ x m q.
+          let was = fresh_was ReplaceEdge sizes e s caller x (λ g. absurd (cc)) m q in
+          let h = c.fresh x was.0 was.1 in
+          omega (arith, links, taken, h);
+    })
 paid_step sizes caller past e kept c LinkEdge is ok w a =
     let s : State = state sizes past in
-    let v : Node = record (s.node e.life.index) { mode = Linked; vertex = false; key = e.key; source = e.source; target = e.target; weight = e.weight } in
+    let v : Node = record (s.node e.life.index) { mode = Linked; vertex = false; key = e.key; source = e.source; target = e.target; weight = e.weight; since = s.count + 1 } in
     let taken = made_none pops caller past e (ap pops is) in
     dite (ℕ_discrete e.caller caller)
     (λ mine.

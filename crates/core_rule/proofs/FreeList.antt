@@ -1,5 +1,6 @@
 -- The free list: each event is a change of core_epoch's pool, so the list holds exactly the free nodes, each once, and its
 -- word's tag counts its changes.
+use Rattle.core_rule.proofs.Replaced.{old_joined}
 use Rattle.std.proofs.Common.{◌≡◌, ◌≢◌, ◌⊎◌, ℕ, ◌+◌, ◌<◌, ◌≤◌, Bool, true, false, cond, List, [], ◌∷◌, refl, sym, ap, ◌∙◌, subst, arith, inl, inr, eq-eqb, ne_eqb}
 use Rattle.std.specs.Prelude.{drop}
 use Rattle.packed_link.specs.Link.{pack, nowhere, index_of, tag_of}
@@ -8,11 +9,11 @@ use Rattle.core_epoch.specs.Free.{FreeList, Leads, KeepsOthers, Takes, GivesBack
 use Rattle.core_epoch.proofs.FreeList.{free_new, free_kept, unchanged_kept}
 use Rattle.core_epoch.proofs.FreeList.{first_is_free as first_of_pool_is_free}
 use Rattle.core_journal.specs.declared.event.Kind.{Kind}
-use Rattle.core_journal.specs.declared.event.Kind.TheVariants.{PopFree, StorePrivate, LinkVertex, MarkVertex, UnlinkVertex, LinkEdge, MarkEdge, UnlinkEdge, FreezeHead, FreezeEdge, StoreFree, PushFree}
+use Rattle.core_journal.specs.declared.event.Kind.TheVariants.{PopFree, StorePrivate, LinkVertex, MarkVertex, UnlinkVertex, LinkEdge, MarkEdge, UnlinkEdge, FreezeHead, FreezeEdge, StoreFree, PushFree, ReplaceEdge}
 use Rattle.core_journal.specs.declared.event.Event.{Event}
 use Rattle.core_journal.specs.Prefix.{IsPrefix}
 use Rattle.core_journal.specs.Machine.{word_at}
-use Rattle.core_journal.specs.State.{Mode, Free, Fresh, Linked, Spent, Node, State, put, behind, handed, state_by, opening, state}
+use Rattle.core_journal.specs.State.{Mode, Free, Fresh, Linked, Spent, Node, State, put, behind, handed, state_by, opening, state, joined_edge}
 use Rattle.core_journal.proofs.MachineWords.{word_first}
 use Rattle.core_rule.specs.Kept.{AllowedAs, IsKept}
 use Rattle.core_rule.specs.FreeNodes.{IsPopFree, IsPushFree}
@@ -133,6 +134,16 @@ other_kinds sizes past e MarkEdge ok w a _ = let t = ok.linked.linked in elsewhe
     (λ x h m. let u = same_place sizes past e.life.index x e.place Linked h ok.place t in absurd (cc))
     (λ x m. handed_stays (marked_state (state sizes past) e.life.index) (node_in sizes past e.life.index).source.index x (put_stays (state sizes past) e.life.index _ (λ (m : (node_in sizes past e.life.index).mode ≡ Free). absurd (cc)) x m))
     (λ x m. put_was (state sizes past) e.life.index (record (node_in sizes past e.life.index) { marked = true }) (λ (m : (node_in sizes past e.life.index).mode ≡ Free). absurd (cc)) x (handed_was (marked_state (state sizes past) e.life.index) (node_in sizes past e.life.index).source.index x m)) refl refl
+other_kinds sizes past e ReplaceEdge ok w a _ =
+    let s : State = state sizes past in
+    let j : State = joined_edge sizes e s in
+    let t = ok.linked.linked in
+    let f = ok.fresh.fresh in
+    let l : (j.node e.old.index).mode ≡ Linked = ap (λ (v : Node). v.mode) (old_joined sizes past e ok) ∙ t in
+    elsewhere sizes past e (state_by ReplaceEdge sizes e s) w a (omega (arith, ok.place))
+    (λ x h m. let u = same_place sizes past e.old.index x e.place Linked h ok.place t in absurd (cc))
+    (λ x m. handed_stays (marked_state j e.old.index) (j.node e.old.index).source.index x (put_stays j e.old.index _ (λ (m : (j.node e.old.index).mode ≡ Free). absurd (cc)) x (put_stays s e.life.index _ (λ (m : (node_in sizes past e.life.index).mode ≡ Free). absurd (cc)) x m)))
+    (λ x m. put_was s e.life.index _ (λ m. absurd (cc)) x (put_was j e.old.index (record (j.node e.old.index) { marked = true }) (λ (m : (j.node e.old.index).mode ≡ Free). absurd (cc)) x (handed_was (marked_state j e.old.index) (j.node e.old.index).source.index x m))) refl refl
 other_kinds sizes past e FreezeEdge ok w a _ = let t = ok.linked.linked in elsewhere sizes past e (state_by FreezeEdge sizes e (state sizes past)) w a (omega (arith, ok.place))
     (λ x h m. let u = same_place sizes past e.life.index x e.place Linked h ok.place t in absurd (cc))
     (λ x m. handed_stays (marked_state (state sizes past) e.life.index) (node_in sizes past e.life.index).source.index x (put_stays (state sizes past) e.life.index _ (λ (m : (node_in sizes past e.life.index).mode ≡ Free). absurd (cc)) x m))

@@ -7,11 +7,11 @@ use Rattle.packed_link.specs.declared.link.Life.{Life}
 use Rattle.core_chain.specs.Chain.{Position, Head, Node, IsOn}
 use Rattle.core_chain.proofs.Orders.{one_leads}
 use Rattle.core_journal.specs.declared.event.Kind.{Kind}
-use Rattle.core_journal.specs.declared.event.Kind.TheVariants.{PopFree, LinkVertex, MarkVertex, UnlinkVertex, LinkEdge, MarkEdge, UnlinkEdge, FreezeHead, FreezeEdge, StoreFree, PushFree}
+use Rattle.core_journal.specs.declared.event.Kind.TheVariants.{PopFree, LinkVertex, MarkVertex, UnlinkVertex, LinkEdge, MarkEdge, UnlinkEdge, FreezeHead, FreezeEdge, StoreFree, PushFree, ReplaceEdge}
 use Rattle.core_journal.specs.declared.event.Event.{Event}
 use Rattle.core_journal.specs.Prefix.{IsPrefix}
 use Rattle.core_journal.specs.Machine.{word_at}
-use Rattle.core_journal.specs.State.{Mode, Free, Fresh, Linked, Spent, Node as Nodes, State, put, handed, unlinked_from, state_by, state}
+use Rattle.core_journal.specs.State.{Mode, Free, Fresh, Linked, Spent, Node as Nodes, State, put, handed, unlinked_from, joined_edge, state_by, state}
 use Rattle.core_journal.proofs.Lists.{prefix_trans, prefix_snoc, prefix_refl}
 use Rattle.core_journal.proofs.States.{state-snoc}
 use Rattle.core_rule.specs.Facts.{IsKeptSpent}
@@ -39,6 +39,7 @@ use Rattle.core_rule.proofs.MarkedWords.{marked_head_stays}
 use Rattle.core_rule.proofs.Meets.{stands}
 use Rattle.core_rule.proofs.OwnLifts.{own_spent, still_ripe}
 use Rattle.core_rule.proofs.OwnSpent.{spent_stays}
+use Rattle.core_rule.proofs.ReplaceCases.{new_edge_node}
 use Rattle.core_rule.proofs.Spenders.{spenders, part_who}
 use Rattle.core_rule.proofs.Steps.{put_case, put_other, handed_case, marked_state, closed_state}
 
@@ -198,6 +199,12 @@ module _ (sizes : Sizes) (z : IsLayout sizes) (caller last place x : ℕ) (sourc
           let ne = not_unlinked e ok c.on in
           let i = in_put tag source.index x (state sizes journal) e.life.index _ is_in (λ same _. absurd (ne same)) in
           record { life = i.0; used = i.1; on = unlinked_keeps e.life.index x ((state sizes journal).edges source.index) c.on ne }
+      behind_step ReplaceEdge ok =
+          let s : State = state sizes journal in
+          let j : State = joined_edge sizes e s in
+          let ij = in_put tag source.index x s e.life.index (new_edge_node (s.node e.life.index) e s.count) is_in (λ same _. absurd (not_mode Fresh e.life.index (λ u. u) ok.fresh.fresh same)) in
+          let i = in_handed tag source.index x (marked_state j e.old.index) (j.node e.old.index).source.index (in_put tag source.index x j e.old.index (record (j.node e.old.index) { marked = true }) ij (λ _ d. d)) in
+          record { life = i.0; used = i.1; on = linked_keeps sizes (second_at sizes source.index) e.place e.life.index x (s.edges source.index) c.on }
       behind_step MarkEdge ok = let i = in_handed tag source.index x (marked_state (state sizes journal) e.life.index) (node_in sizes journal e.life.index).source.index (in_put tag source.index x (state sizes journal) e.life.index _ is_in (λ _ d. d)) in record { life = i.0; used = i.1; on = c.on }
       behind_step FreezeEdge ok = let i = in_handed tag source.index x (marked_state (state sizes journal) e.life.index) (node_in sizes journal e.life.index).source.index (in_put tag source.index x (state sizes journal) e.life.index _ is_in (λ _ d. d)) in record { life = i.0; used = i.1; on = c.on }
       behind_step FreezeHead ok = let i = in_handed tag source.index x (closed_state (state sizes journal) e.life.index) e.life.index is_in in record { life = i.0; used = i.1; on = c.on }

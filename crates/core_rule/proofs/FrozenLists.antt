@@ -8,6 +8,7 @@ use Rattle.packed_link.specs.Layout.{Sizes, IsLayout, link_at}
 use Rattle.core_chain.specs.Chain.{Chain, Position, Head, Node, IsOn, Precedes}
 use Rattle.core_chain.specs.Met.{Rises}
 use Rattle.core_chain.specs.Steps.{IsFrozenTo}
+use Rattle.core_chain.proofs.Orders.{before_then}
 use Rattle.core_journal.specs.declared.event.Event.{Event}
 use Rattle.core_journal.specs.Machine.{word_at}
 use Rattle.core_journal.specs.State.{State, frozen_part, state}
@@ -63,9 +64,8 @@ frozen_parts sizes z journal kept =
 rises_behind : (c : Chain) (p : Position) (xs : List ℕ) (v : ℕ) → Rises c p xs → stands v xs ≡ true → Precedes c p (Node v)
 rises_behind c p [] v rising on = absurd (cc)
 rises_behind c p (x ∷ xs) v rising on =
-    let low = rising.0 in
     stands_case (Precedes c p (Node v)) x v xs on (λ same. subst (λ (u : ℕ). Precedes c p (Node u)) same rising.0)
-    (λ _ later. let after = rises_behind c (Node x) xs v rising.1 later in omega arith)
+    (λ _ later. before_then c p (Node x) (Node v) rising.0 (rises_behind c (Node x) xs v rising.1 later))
 
 -- what stands no further than a node of the longest part that passes a test is in it, where the nodes rise
 part_before : (c : Chain) (test : ℕ → Bool) (p : Position) (xs : List ℕ) (y v : ℕ) → Rises c p xs → stands y (take_while test xs) ≡ true → stands v xs ≡ true → (Precedes c (Node y) (Node v) → ⊥) → stands v (take_while test xs) ≡ true
@@ -89,7 +89,7 @@ module _ (sizes : Sizes) (z : IsLayout sizes) (journal : List Event) (kept : IsK
   -- and so are all words up to one of it
   before_marked : (at p : Position) → ((y : ℕ) → at ≡ Node y → stands y (frozen_part (state sizes journal) x) ≡ true) → IsOn (edge_chain sizes journal x) p → (Precedes (edge_chain sizes journal x) at p → ⊥) → (edge_chain sizes journal x).mark p ≡ 1
   before_marked at Head part on not_behind = (((contents sizes z journal kept).each x o.there).vertex o.used o.vertex).second_mark ∙ ap mark_bit head
-  before_marked Head (Node v) part on not_behind = absurd (not_behind (omega arith))
+  before_marked Head (Node v) part on not_behind = absurd (not_behind (inl (omega arith)))
   before_marked (Node y) (Node v) part on not_behind =
       let s : State = state sizes journal in
       let test : ℕ → Bool = λ u. (s.node u).marked in

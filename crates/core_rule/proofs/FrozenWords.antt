@@ -4,7 +4,7 @@ use Rattle.packed_link.specs.Link.{index_of, mark_of, mark_bit, with_mark}
 use Rattle.packed_link.specs.Layout.{Sizes, IsLayout, link_at, second_at}
 use Rattle.packed_link.specs.declared.link.Life.{Life}
 use Rattle.core_journal.specs.declared.event.Kind.{Kind}
-use Rattle.core_journal.specs.declared.event.Kind.TheVariants.{PopFree, StorePrivate, LinkVertex, MarkVertex, UnlinkVertex, LinkEdge, Raise, MarkEdge, UnlinkEdge, FreezeHead, FreezeEdge, StoreFree, PushFree}
+use Rattle.core_journal.specs.declared.event.Kind.TheVariants.{PopFree, StorePrivate, LinkVertex, MarkVertex, UnlinkVertex, LinkEdge, Raise, MarkEdge, UnlinkEdge, FreezeHead, FreezeEdge, StoreFree, PushFree, ReplaceEdge}
 use Rattle.core_journal.specs.declared.event.Event.{Event}
 use Rattle.core_journal.specs.Prefix.{IsPrefix}
 use Rattle.core_journal.specs.Machine.{word_at}
@@ -116,6 +116,7 @@ not_about sizes z past e kept y there spent edge unstored k other ok same = by k
     by StorePrivate other ok = let m = mode Fresh ok.fresh.fresh in absurd (cc)
     by LinkVertex other ok = let m = mode Fresh ok.fresh.fresh in absurd (cc)
     by LinkEdge other ok = let m = mode Fresh ok.fresh.fresh in absurd (cc)
+    by ReplaceEdge other ok = let m = mode Fresh ok.fresh.fresh in absurd (cc)
     by MarkVertex other ok = let m = mode Linked ok.linked.linked in absurd (cc)
     by UnlinkVertex other ok = let m = mode Linked ok.linked.linked in absurd (cc)
     by MarkEdge other ok = let m = mode Linked ok.linked.linked in absurd (cc)

@@ -1,9 +1,9 @@
 -- The list of a vertex that a caller spent stays one while others act.
-use Rattle.std.proofs.Common.{◌≡◌, ◌≢◌, ℕ, ◌<◌, ◌≤◌, true, false, List, [], ◌∷◌, ◌++◌, Option, Some, None, length, refl, sym, ap, ◌∙◌, subst}
+use Rattle.std.proofs.Common.{◌≡◌, ◌≢◌, ℕ, ◌+◌, ◌<◌, ◌≤◌, true, false, List, [], ◌∷◌, ◌++◌, Option, Some, None, length, refl, sym, ap, ◌∙◌, subst}
 use Rattle.packed_link.specs.Layout.{Sizes, IsLayout}
 use Rattle.packed_link.specs.declared.link.Life.{Life}
 use Rattle.core_journal.specs.declared.event.Kind.{Kind}
-use Rattle.core_journal.specs.declared.event.Kind.TheVariants.{PopFree, LinkVertex, MarkVertex, UnlinkVertex, LinkEdge, MarkEdge, UnlinkEdge, FreezeHead, FreezeEdge, StoreFree, PushFree}
+use Rattle.core_journal.specs.declared.event.Kind.TheVariants.{PopFree, LinkVertex, MarkVertex, UnlinkVertex, LinkEdge, MarkEdge, UnlinkEdge, FreezeHead, FreezeEdge, StoreFree, PushFree, ReplaceEdge}
 use Rattle.core_journal.specs.declared.event.Event.{Event}
 use Rattle.core_journal.specs.Event.{same_life, links_edge}
 use Rattle.core_journal.specs.Life.{link_of, unlinked}
@@ -26,6 +26,7 @@ use Rattle.core_rule.proofs.ListSteps.{listing}
 use Rattle.core_rule.proofs.ClosedLists.{IsHeldIn, kept_lives}
 use Rattle.core_rule.proofs.Spenders.{spenders}
 use Rattle.core_rule.proofs.ListParts.{yes_no}
+use Rattle.core_rule.proofs.ReplaceCases.{replaced_case}
 
 -- a caller's spent vertex and its list
 record IsOwnList (sizes : Sizes) (caller x tag : ℕ) (journal : List Event) (s : State) : Type 0 where
@@ -76,6 +77,13 @@ module _ (sizes : Sizes) (z : IsLayout sizes) (past : List Event) (e : Event) (k
       (λ same. subst (λ (j : ℕ). IsSameVertex (node_in sizes past j) (record (node_in sizes past e.life.index) { stored = true })) (sym same) record { mode = refl; vertex = refl; who = refl; tag = refl })
       (λ _. same_vertex (node_in sizes past x) (node_in sizes past x) refl)
   own_still PushFree is ok = same_vertex (node_in sizes past x) _ (put_other e.life.index _ (state sizes past).node x (unpushed is))
+  own_still ReplaceEdge is ok =
+      let s : State = state sizes past in
+      let at : (marked_state s e.old.index).node x ≡ s.node x = put_other e.old.index (record (s.node e.old.index) { marked = true }) s.node x (apart_mode e.old.index (λ m. let f = ok.linked.linked in absurd (cc))) in
+      replaced_case sizes z past e kept ok (λ (n : Node). IsSameVertex (node_in sizes past x) n) x
+      (λ same. absurd (apart_mode e.life.index (λ m. let f = ok.fresh.fresh in absurd (cc)) same))
+      (λ _. same_vertex (node_in sizes past x) ((marked_state s e.old.index).node x) at)
+      (λ _ l _ _. let m : Linked ≡ Spent = sym l ∙ (ap (λ (n : Node). n.mode) at ∙ c.spent) in absurd (cc))
   own_still MarkEdge is ok = same_vertex (node_in sizes past x) _ (not_handed (marked_state (state sizes past) e.life.index) (node_in sizes past e.life.index).source.index (λ _. refl) (put_other e.life.index _ (state sizes past).node x (apart_mode e.life.index (λ m. let f = ok.linked.linked in absurd (cc)))))
   own_still FreezeEdge is ok = same_vertex (node_in sizes past x) _ (not_handed (marked_state (state sizes past) e.life.index) (node_in sizes past e.life.index).source.index (λ _. refl) (put_other e.life.index _ (state sizes past).node x (apart_mode e.life.index (λ m. let f = ok.linked.linked in absurd (cc)))))
   own_still FreezeHead is ok = same_vertex (node_in sizes past x) _ (not_handed (closed_state (state sizes past) e.life.index) e.life.index (λ _. refl) refl)
@@ -106,6 +114,14 @@ module _ (sizes : Sizes) (z : IsLayout sizes) (past : List Event) (e : Event) (k
     held_after UnlinkEdge is ok = put_held e.life.index _ (λ same. (refl, tt, refl)) (state_by UnlinkEdge sizes e (state sizes past)) refl
     held_after StoreFree is ok = put_held e.life.index _ (λ same. absurd (unstored is (subst (λ (j : ℕ). stands j ((state sizes past).edges x) ≡ true) same on))) (state_by StoreFree sizes e (state sizes past)) refl
     held_after PushFree is ok = put_held e.life.index _ (λ same. let f : (node_in sizes past e.life.index).stored ≡ false = ap (λ (j : ℕ). (node_in sizes past j).stored) (sym same) ∙ h.unstored in let t = ok.stored in absurd (cc)) (state_by PushFree sizes e (state sizes past)) refl
+    held_after ReplaceEdge is ok =
+        let s : State = state sizes past in
+        let m = put_case (λ (n : Node). (l.tag ≡ n.tag) × IsUsed n.mode × (n.stored ≡ false)) e.old.index (record (s.node e.old.index) { marked = true }) s.node l.index
+        (λ at. (h.life ∙ ap (λ (j : ℕ). (s.node j).tag) at, subst (λ (j : ℕ). IsUsed (s.node j).mode) at h.used, ap (λ (j : ℕ). (s.node j).stored) (sym at) ∙ h.unstored))
+        (λ _. (h.life, h.used, h.unstored)) in
+        let q = replaced_case sizes z past e kept ok (λ (n : Node). (l.tag ≡ n.tag) × IsUsed n.mode × (n.stored ≡ false)) l.index
+        (λ same. absurd (not_used e.life.index (λ u. subst IsUsed ok.fresh.fresh u) same)) (λ _. m) (λ _ _ _ _. (m.0, tt, m.2)) in
+        record { life = q.0; used = q.1; unstored = q.2 }
     held_after MarkEdge is ok = handed_held (marked_state (state sizes past) e.life.index) (node_in sizes past e.life.index).source.index (put_held e.life.index _ (λ same. (refl, subst IsUsed (sym ok.linked.linked) tt, refl)) (marked_state (state sizes past) e.life.index) refl)
     held_after FreezeEdge is ok = handed_held (marked_state (state sizes past) e.life.index) (node_in sizes past e.life.index).source.index (put_held e.life.index _ (λ same. (refl, subst IsUsed (sym ok.linked.linked) tt, refl)) (marked_state (state sizes past) e.life.index) refl)
     held_after FreezeHead is ok = handed_held (closed_state (state sizes past) e.life.index) e.life.index record { life = h.life; used = h.used; unstored = h.unstored }
@@ -114,13 +130,18 @@ module _ (sizes : Sizes) (z : IsLayout sizes) (past : List Event) (e : Event) (k
   -- an edge that is linked next is held
   new_held : (k : Kind) → links_edge k ≡ true → AllowedAs k sizes past e → IsHeldIn (state_by k sizes e (state sizes past)) e.life
   new_held LinkEdge is ok =
-      let v : Node = record (node_in sizes past e.life.index) { mode = Linked; vertex = false; key = e.key; source = e.source; target = e.target; weight = e.weight } in
+      let v : Node = record (node_in sizes past e.life.index) { mode = Linked; vertex = false; key = e.key; source = e.source; target = e.target; weight = e.weight; since = (state sizes past).count + 1 } in
       let at = put_same e.life.index v (state sizes past).node in
       record {
         life = ok.life ∙ ap (λ (n : Node). n.tag) (sym at);
         used = subst (λ (n : Node). IsUsed n.mode) (sym at) tt;
         unstored = ap (λ (n : Node). n.stored) at ∙ (((link_words sizes z past kept).each e.life.index ok.there).unmarked ok.fresh.fresh).1;
       }
+  new_held ReplaceEdge is ok =
+      let q = replaced_case sizes z past e kept ok (λ (n : Node). (e.life.tag ≡ n.tag) × IsUsed n.mode × (n.stored ≡ false)) e.life.index
+      (λ _. (ok.life, tt, (((link_words sizes z past kept).each e.life.index ok.there).unmarked ok.fresh.fresh).1))
+      (λ ne. absurd (ne refl)) (λ ne _ _ _. absurd (ne refl)) in
+      record { life = q.0; used = q.1; unstored = q.2 }
   new_held _ is ok = absurd (cc)
 
   own_edge : (k : Kind) → e.kind ≡ k → AllowedAs k sizes past e → (l : Life) (link : Event) → link_of (past ++ e ∷ []) l ≡ Some link → link.source ≡ life_of x (node_in sizes past x) → unlinked (past ++ e ∷ []) l ≡ false → IsHeldIn (state_by k sizes e (state sizes past)) l

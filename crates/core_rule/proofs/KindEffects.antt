@@ -2,7 +2,7 @@
 use Rattle.std.proofs.Common.{◌≡◌, ℕ, List, Option, Some, None, refl, ap}
 use Rattle.packed_link.specs.Layout.{Sizes, IsLayout}
 use Rattle.core_journal.specs.declared.event.Kind.{Kind}
-use Rattle.core_journal.specs.declared.event.Kind.TheVariants.{LinkVertex, MarkVertex, UnlinkVertex, LinkEdge, MarkEdge, UnlinkEdge, FreezeHead, FreezeEdge}
+use Rattle.core_journal.specs.declared.event.Kind.TheVariants.{LinkVertex, MarkVertex, UnlinkVertex, LinkEdge, MarkEdge, UnlinkEdge, FreezeHead, FreezeEdge, ReplaceEdge}
 use Rattle.core_journal.specs.declared.event.Event.{Event}
 use Rattle.core_journal.specs.Event.{marks_vertex, marks_edge}
 use Rattle.core_journal.specs.Changes.{is_idle}
@@ -18,6 +18,7 @@ use Rattle.core_rule.proofs.Ends.{new_vertex, new_edge, frozen_edge}
 use Rattle.core_rule.proofs.Induction.{kept_all}
 use Rattle.core_rule.proofs.ListEffects.{lists_stay}
 use Rattle.core_rule.proofs.Pairs.{new_pair, removed_pair}
+use Rattle.core_rule.proofs.ReplaceEffects.{replace_regular, replaces_edge_of}
 use Rattle.core_rule.proofs.VertexEffects.{buckets_stay, new_key, adds, removed, removes, unlinks_vertex}
 
 module _ (sizes : Sizes) (z : IsLayout sizes) (past : List Event) (e : Event) (kept : IsKept sizes past) where
@@ -43,6 +44,7 @@ module _ (sizes : Sizes) (z : IsLayout sizes) (past : List Event) (e : Event) (k
   regular_event LinkVertex is ok = new_vertex_regular past e (new_vertex sizes z past e kept is ok) (new_key sizes z past e kept ok)
   regular_event MarkVertex is ok = removed_vertex_regular past e (node_in sizes past e.life.index).key (removed sizes z past e kept is ok)
   regular_event LinkEdge is ok = link_regular is ok
+  regular_event ReplaceEdge is ok = replace_regular sizes z past e kept is ok
   regular_event MarkEdge is ok = mark_regular is
   regular_event FreezeEdge is ok = regular_still past e (frozen_graph past e (frozen_edge sizes z past e kept is ok)) (ap marks_vertex is)
   regular_event _ is ok = idle_regular past e (ap is_idle is)
@@ -53,6 +55,7 @@ module _ (sizes : Sizes) (z : IsLayout sizes) (past : List Event) (e : Event) (k
   effect MarkVertex is ok = removes sizes z past e kept is ok (lists_stay sizes z past e kept MarkVertex is tt ok)
   effect UnlinkVertex is ok = unlinks_vertex sizes z past e kept is ok (lists_stay sizes z past e kept UnlinkVertex is tt ok)
   effect LinkEdge is ok = adds_edge_of sizes z past e kept is ok
+  effect ReplaceEdge is ok = replaces_edge_of sizes z past e kept is ok
   effect MarkEdge is ok = removes_edge_of sizes z past e kept is ok
   effect UnlinkEdge is ok = unlinks_edge sizes z past e kept is ok
   effect FreezeHead is ok = closes sizes z past e kept is ok

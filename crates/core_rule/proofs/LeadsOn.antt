@@ -1,6 +1,6 @@
 -- Where the words of linked nodes lead: a bucket and the link of a linked vertex to linked vertices, an open list and the link of
 -- a linked edge to linked edges.
-use Rattle.std.proofs.Common.{◌≡◌, ◌≢◌, ℕ, ◌%◌, ◌<◌, List, [], ◌∷◌, Bool, true, false, cond, inl, inr, refl, sym, ap, ◌∙◌, subst, arith, ⊎_elim}
+use Rattle.std.proofs.Common.{◌≡◌, ◌≢◌, ℕ, ◌%◌, ◌<◌, ◌≤◌, ◌⊎◌, List, [], ◌∷◌, Bool, true, false, cond, inl, inr, refl, sym, ap, ◌∙◌, subst, arith, ⊎_elim}
 use Rattle.std.specs.Prelude.{take_while}
 use Rattle.std.proofs.lemmas.List.Sums.{take_while-cons}
 use mathlib.Core.Logic.{dite}
@@ -10,7 +10,7 @@ use Rattle.packed_link.specs.Layout.{Sizes, IsLayout, bucket_at, key_at, link_at
 use Rattle.packed_link.specs.declared.link.Life.{Life}
 use Rattle.core_chain.specs.Chain.{Chain, Position, Head, Node, IsOn, IsChain, Precedes, rank_of}
 use Rattle.core_chain.specs.Met.{Meets}
-use Rattle.core_chain.proofs.Orders.{by_rank, one_leads}
+use Rattle.core_chain.proofs.Orders.{by_rank, one_leads, before_same}
 use Rattle.core_journal.specs.declared.event.Event.{Event}
 use Rattle.core_journal.specs.Machine.{word_at}
 use Rattle.core_journal.specs.State.{Linked, state}
@@ -53,11 +53,11 @@ before_part c is test p on q (a ∷ rest) here met before some h =
     yes_no (stands p (take_while test (a ∷ rest)) ≡ true) (test a)
     (λ t. ap (λ (l : List ℕ). stands p l) (take_while-cons test a rest ∙ ap (λ (b : Bool). cond b (a ∷ take_while test rest) []) t)
     ∙ stands_case (stands p (a ∷ take_while test rest) ≡ true) a (c.next (Node p)) (take_while test rest) (sym (ap (λ (l : List ℕ). stands (c.next (Node p)) l) (take_while-cons test a rest ∙ ap (λ (b : Bool). cond b (a ∷ take_while test rest) []) t)) ∙ h)
-    (λ same. let one : Node p ≡ q = one_leads c (Node p) q is on here some (sym same ∙ sym leads) in absurd (let r : rank_of c (Node p) ≡ rank_of c q = ap (rank_of c) one in omega (arith, r, before)))
+    (λ same. let one : Node p ≡ q = one_leads c (Node p) q is on here some (sym same ∙ sym leads) in absurd (before_same c q (Node p) before (sym one)))
     (λ _ later. dite (ℕ_discrete a p)
     (λ same. stands_here a p (take_while test rest) same)
     (λ ne. stands_later a p (take_while test rest) (by_rank c (Node a) (Node p)
-    (λ e. absurd (ne (ap node_of (is.alone (Node a) (Node p) on_a on e))))
+    (λ e f. absurd (ne (ap node_of (is.alone (Node a) (Node p) on_a on e f))))
     (λ low. next low later)
     (λ high. absurd (is.gap q (Node p) here on before (subst (λ (y : ℕ). Precedes c (Node p) (Node y)) (sym leads) high)))))))
     (λ f. let none : stands (c.next (Node p)) [] ≡ true = sym (ap (λ (l : List ℕ). stands (c.next (Node p)) l) (take_while-cons test a rest ∙ ap (λ (b : Bool). cond b (a ∷ take_while test rest) []) f)) ∙ h in absurd (cc))
@@ -110,7 +110,7 @@ module _ (sizes : Sizes) (z : IsLayout sizes) (journal : List Event) (kept : IsK
       frozen_before x p on chain met some h = by ((state sizes journal).frozen x) h
         where
           by : (b : Bool) → stands ((edge_chain sizes journal x).next (Node p)) (cond b (take_while (λ i. (node_in sizes journal i).marked) ((state sizes journal).edges x)) []) ≡ true → stands p (cond b (take_while (λ i. (node_in sizes journal i).marked) ((state sizes journal).edges x)) []) ≡ true
-          by true t = before_part (edge_chain sizes journal x) chain (λ i. (node_in sizes journal i).marked) p on Head ((state sizes journal).edges x) tt met (omega arith) some t
+          by true t = before_part (edge_chain sizes journal x) chain (λ i. (node_in sizes journal i).marked) p on Head ((state sizes journal).edges x) tt met (inl (omega arith)) some t
           by false t = absurd (cc)
 
 -- y is linked and stands behind the linked node x
@@ -118,7 +118,9 @@ pub record IsLinkedBehind (sizes : Sizes) (journal : List Event) (x y : ℕ) : T
   pub there : y < sizes.nodes
   pub linked : (node_in sizes journal y).mode ≡ Linked
   pub kind : (node_in sizes journal y).vertex ≡ (node_in sizes journal x).vertex
-  pub rising : word_at sizes journal (key_at sizes x) < word_at sizes journal (key_at sizes y)
+  pub rising : word_at sizes journal (key_at sizes x) ≤ word_at sizes journal (key_at sizes y)
+  pub strictly : ((node_in sizes journal x).vertex ≡ true) ⊎ (mark_of (word_at sizes journal (link_at sizes x)) ≡ 0)
+      → word_at sizes journal (key_at sizes x) < word_at sizes journal (key_at sizes y)
   pub bucket : (node_in sizes journal x).vertex ≡ true
       → word_at sizes journal (key_at sizes y) % sizes.buckets ≡ word_at sizes journal (key_at sizes x) % sizes.buckets
   pub source : (node_in sizes journal x).vertex ≡ false → (node_in sizes journal y).source ≡ (node_in sizes journal x).source
@@ -169,13 +171,14 @@ module _ (sizes : Sizes) (z : IsLayout sizes) (journal : List Event) (kept : IsK
       let j : ℕ = (node_in sizes journal x).key % sizes.buckets in
       let on : IsOn (bucket_chain sizes journal j) (Node x) = home_in sizes z journal kept x j v refl in
       let goes = ((buckets sizes z journal kept).each j (home_low sizes z journal kept (node_in sizes journal x).key)).chain.leads (Node x) on some in
-      let low : rank_of (bucket_chain sizes journal j) (Node x) < rank_of (bucket_chain sizes journal j) (Node (index_of (word_at sizes journal (link_at sizes x)))) = goes.1 in
+      let low : rank_of (bucket_chain sizes journal j) (Node x) < rank_of (bucket_chain sizes journal j) (Node (index_of (word_at sizes journal (link_at sizes x)))) = ⊎_elim (λ h. h) (λ h. absurd (let u = h.1 in omega arith)) goes.1 in
       let y = on_bucket j (index_of (word_at sizes journal (link_at sizes x))) goes.0 in
       record {
         there = y.there;
         linked = y.linked;
         kind = y.vertex ∙ sym v.vertex;
         rising = omega (arith, low);
+        strictly = λ _. omega (arith, low);
         bucket = λ _. y.bucket ∙ sym (on_bucket j x on).bucket;
         source = λ f. let t = v.vertex in absurd (cc);
       })
@@ -194,15 +197,17 @@ module _ (sizes : Sizes) (z : IsLayout sizes) (journal : List Event) (kept : IsK
       (λ some.
       let at = (sources sizes z journal kept).each x within v in
       let home : ℕ = (node_in sizes journal x).source.index in
-      let goes = ((lists sizes z journal kept).each home (has_open sizes journal home at.list)).chain.leads (Node x) at.on some in
-      let low : rank_of (edge_chain sizes journal home) (Node x) < rank_of (edge_chain sizes journal home) (Node (index_of (word_at sizes journal (link_at sizes x)))) = goes.1 in
+      let chain = ((lists sizes z journal kept).each home (has_open sizes journal home at.list)).chain in
+      let goes = chain.leads (Node x) at.on some in
       let there = ((listing sizes z journal kept).on home (index_of (word_at sizes journal (link_at sizes x))) goes.0).there in
       let y = leads_from_edge sizes z journal kept (node_in sizes journal x).source x (index_of (word_at sizes journal (link_at sizes x))) within record { linked = v; from = refl } refl there in
       record {
         there = there;
         linked = y.linked;
         kind = y.edge ∙ sym v.edge;
-        rising = omega (arith, low);
+        rising = ⊎_elim {A = rank_of (edge_chain sizes journal home) (Node x) < rank_of (edge_chain sizes journal home) (Node (index_of (word_at sizes journal (link_at sizes x))))}
+            (λ low. omega (arith, low)) (λ same. let u = same.0 in omega (arith, u)) goes.1;
+        strictly = λ c. ⊎_elim {A = (node_in sizes journal x).vertex ≡ true} (λ t. let f = v.edge in absurd (cc)) (λ live. let low = chain.rises (Node x) at.on live some in omega (arith, low)) c;
         bucket = λ t. let f = v.edge in absurd (cc);
         source = λ _. one_source home (index_of (word_at sizes journal (link_at sizes x))) x goes.0 at.on;
       })

@@ -61,6 +61,16 @@ pub mod FreezeLifts
 pub mod ClosedLists
 pub mod SmallSteps
 pub mod TwoLives
+pub mod Replaced
+pub mod ReplaceCases
+pub mod ReplaceEffects
+pub mod SameLife
+pub mod MarkedLeads
+pub mod ToldByLinks
+pub mod Replacing
+pub mod ReplacingShown
+pub mod ReplacingBooks
+pub mod ReplacingSteps
 pub mod Refusals
 pub mod LivesShown
 pub mod KeptLists

@@ -1,13 +1,14 @@
 -- The link word of each node, by its state.
+use Rattle.core_rule.proofs.Replaced.{old_joined, old_apart}
 use Rattle.std.proofs.Common.{◌≡◌, ◌≢◌, ℕ, ◌+◌, ◌<◌, ◌⊎◌, Bool, true, false, List, [], refl, sym, ap, ◌∙◌, subst, arith, ⊎_elim, inl, inr}
 use mathlib.Core.Logic.{dite}
 use native.Mathlib.Decide.{ℕ_discrete}
 use Rattle.packed_link.specs.Link.{pack, nowhere, index_of, mark_of, tag_of, mark_bit}
 use Rattle.packed_link.specs.Layout.{Sizes, IsLayout, word_count, link_at}
-use Rattle.core_journal.specs.declared.event.Kind.TheVariants.{PopFree, StorePrivate, LinkVertex, MarkVertex, UnlinkVertex, LinkEdge, MarkEdge, UnlinkEdge, FreezeHead, FreezeEdge, StoreFree, PushFree}
+use Rattle.core_journal.specs.declared.event.Kind.TheVariants.{PopFree, StorePrivate, LinkVertex, MarkVertex, UnlinkVertex, LinkEdge, MarkEdge, UnlinkEdge, FreezeHead, FreezeEdge, StoreFree, PushFree, ReplaceEdge}
 use Rattle.core_journal.specs.declared.event.Event.{Event}
 use Rattle.core_journal.specs.Machine.{word_at}
-use Rattle.core_journal.specs.State.{Mode, Free, Fresh, Linked, Spent, Node, State, put, handed, opening, state}
+use Rattle.core_journal.specs.State.{Mode, Free, Fresh, Linked, Spent, Node, State, put, handed, opening, state, joined_edge}
 use Rattle.core_rule.specs.Kept.{IsKept}
 use Rattle.core_rule.specs.FreeNodes.{IsPopFree}
 use Rattle.core_rule.specs.Nodes.{node_in, IsUsed}
@@ -146,6 +147,22 @@ link_words_step sizes z past e kept c MarkEdge by ok w a =
     let old : word_at sizes past e.place ≡ word_at sizes past (link_at sizes e.life.index) = ap (word_at sizes past) ok.place in
     handed_links sizes (marked_state (state sizes past) e.life.index) (node_in sizes past e.life.index).source.index w
     record { each = at_link sizes past e w _ c a ok.there ok.place (marked_now sizes _ _ _ ok.linked.linked (c.each e.life.index ok.there) (omega (arith, ok.word, old)) (omega (arith, ok.word))) }
+link_words_step sizes z past e kept c ReplaceEdge by ok w a =
+    let s : State = state sizes past in
+    let j : State = joined_edge sizes e s in
+    let apart = old_apart sizes past e ok in
+    let at_old : word_at sizes past e.place ≡ word_at sizes past (link_at sizes e.old.index) = ap (word_at sizes past) ok.place in
+    let m : (j.node e.old.index).mode ≡ Linked = ap (λ (v : Node). v.mode) (old_joined sizes past e ok) ∙ ok.linked.linked in
+    let was : IsLinkWord sizes (j.node e.old.index) (word_at sizes past (link_at sizes e.old.index)) = subst (λ (v : Node). IsLinkWord sizes v (word_at sizes past (link_at sizes e.old.index))) (sym (old_joined sizes past e ok)) (c.each e.old.index ok.old_there) in
+    handed_links sizes (marked_state j e.old.index) (j.node e.old.index).source.index w record {
+      each = λ x t. put_case (λ (u : Node). IsLinkWord sizes u (w (link_at sizes x))) e.old.index (record (j.node e.old.index) { marked = true }) j.node x
+          (λ same. let here : w (link_at sizes x) ≡ e.word = ap w (omega (arith, same, ok.place)) ∙ a.here (omega (arith, ok.place, ok.old_there)) in
+          link_same sizes _ _ _ here (marked_now sizes _ _ _ m was (omega (arith, ok.word, at_old, ok.there, z.few_nodes)) (omega (arith, ok.word, ok.there, z.few_nodes))))
+          (λ ne. put_case (λ (u : Node). IsLinkWord sizes u (w (link_at sizes x))) e.life.index _ s.node x
+          (λ same. let here : w (link_at sizes x) ≡ word_at sizes past (link_at sizes e.life.index) = ap (λ (y : ℕ). w (link_at sizes y)) same ∙ a.else (link_at sizes e.life.index) (λ h. apart (omega (arith, h, ok.place))) in
+          link_same sizes _ _ _ here (linked_now sizes (node_in sizes past e.life.index) _ _ (index_of (word_at sizes past e.place)) (omega arith) ok.fresh.fresh (c.each e.life.index ok.there) ok.filled.link_word refl refl refl refl))
+          (λ _. link_same sizes _ _ _ (a.else (link_at sizes x) (λ h. ne (omega (arith, h, ok.place)))) (c.each x t)));
+    }
 link_words_step sizes z past e kept c FreezeEdge by ok w a =
     let old : word_at sizes past e.place ≡ word_at sizes past (link_at sizes e.life.index) = ap (word_at sizes past) ok.place in
     handed_links sizes (marked_state (state sizes past) e.life.index) (node_in sizes past e.life.index).source.index w

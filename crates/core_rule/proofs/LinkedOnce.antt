@@ -3,14 +3,16 @@ use Rattle.std.proofs.Common.{◌≡◌, ◌≢◌, ℕ, true, List, [], ◌∷�
 use mathlib.Core.Logic.{dite}
 use native.Mathlib.Decide.{ℕ_discrete}
 use Rattle.packed_link.specs.Layout.{Sizes, IsLayout}
+use Rattle.core_journal.specs.Event.{links}
 use Rattle.core_journal.specs.declared.event.Kind.{Kind}
-use Rattle.core_journal.specs.declared.event.Kind.TheVariants.{PopFree, LinkVertex, MarkVertex, UnlinkVertex, LinkEdge, MarkEdge, UnlinkEdge, FreezeHead, FreezeEdge, StoreFree, PushFree}
+use Rattle.core_journal.specs.declared.event.Kind.TheVariants.{PopFree, LinkVertex, MarkVertex, UnlinkVertex, LinkEdge, MarkEdge, UnlinkEdge, FreezeHead, FreezeEdge, StoreFree, PushFree, ReplaceEdge}
 use Rattle.core_journal.specs.declared.event.Event.{Event}
-use Rattle.core_journal.specs.State.{Fresh, Node, State, put, handed, state_by, state}
-use Rattle.core_rule.specs.Counts.{links, about}
+use Rattle.core_journal.specs.State.{Fresh, Node, State, put, handed, state_by, state, joined_edge}
+use Rattle.core_rule.specs.Counts.{about}
 use Rattle.core_rule.specs.Kept.{IsKept}
 use Rattle.core_rule.specs.Nodes.{node_in}
 use Rattle.core_rule.specs.Facts.{LinkedOnce}
+use Rattle.core_rule.proofs.ReplaceCases.{replaced_case}
 use Rattle.core_rule.proofs.Steps.{KeepsIn, put_case, handed_case, marked_state, closed_state, all_in}
 use Rattle.core_rule.proofs.LinkWords.{taken}
 use Rattle.core_rule.proofs.Lives.{IsWithin, same_tag, about_other, about_else, about_this, other_index, other_tag, this_life, lives}
@@ -32,6 +34,7 @@ fresh_before UnlinkEdge o sizes e s x = put_fresh s e.life.index _ x (λ m. absu
 fresh_before StoreFree o sizes e s x = put_fresh s e.life.index _ x (λ m. m)
 fresh_before PushFree o sizes e s x = put_fresh s e.life.index _ x (λ m. absurd (cc))
 fresh_before MarkEdge o sizes e s x = λ m. put_fresh s e.life.index (record (s.node e.life.index) { marked = true }) x (λ m. m) (handed_fresh (marked_state s e.life.index) (s.node e.life.index).source.index x m)
+fresh_before ReplaceEdge o sizes e s x = λ m. put_fresh s e.life.index _ x (λ m. absurd (cc)) (put_fresh (joined_edge sizes e s) e.old.index (record ((joined_edge sizes e s).node e.old.index) { marked = true }) x (λ m. m) (handed_fresh (marked_state (joined_edge sizes e s) e.old.index) ((joined_edge sizes e s).node e.old.index).source.index x m))
 fresh_before FreezeEdge o sizes e s x = λ m. put_fresh s e.life.index (record (s.node e.life.index) { marked = true }) x (λ m. m) (handed_fresh (marked_state s e.life.index) (s.node e.life.index).source.index x m)
 fresh_before FreezeHead o sizes e s x = λ m. handed_fresh (closed_state s e.life.index) e.life.index x m
 fresh_before _ o sizes e s x = λ m. m
@@ -61,6 +64,13 @@ linked_once_step sizes z past e kept c LinkVertex is ok w a = linked_now past e 
 linked_once_step sizes z past e kept c LinkEdge is ok w a = linked_now past e (state sizes past) _ c (ap links is) ok.life ok.fresh.fresh
     (λ x. put_case (λ (u : Node). u.mode ≡ Fresh → (x ≢ e.life.index) × ((node_in sizes past x).mode ≡ Fresh)) e.life.index _ (state sizes past).node x (λ _ m. absurd (cc)) (λ ne m. (ne, m)))
     (same_tag LinkEdge tt sizes e (state sizes past))
+linked_once_step sizes z past e kept c ReplaceEdge is ok w a = linked_now past e (state sizes past) _ c (ap links is) ok.life ok.fresh.fresh
+    (λ x. replaced_case sizes z past e kept ok (λ (u : Node). u.mode ≡ Fresh → (x ≢ e.life.index) × ((node_in sizes past x).mode ≡ Fresh)) x
+    (λ _ m. absurd (cc))
+    (λ ne. put_case (λ (u : Node). u.mode ≡ Fresh → (x ≢ e.life.index) × ((node_in sizes past x).mode ≡ Fresh)) e.old.index (record (node_in sizes past e.old.index) { marked = true }) (state sizes past).node x
+    (λ same m. (ne, ap (λ (y : ℕ). (node_in sizes past y).mode) same ∙ m)) (λ _ m. (ne, m)))
+    (λ _ _ _ _ m. absurd (cc)))
+    (same_tag ReplaceEdge tt sizes e (state sizes past))
 linked_once_step sizes z past e kept c k is ok w a = record {
   once = λ x. omega (arith, about_other links x past e (ap links is), c.once x);
   fresh = λ x m. ap (λ (t : ℕ). about links (record { index = x; tag = t }) (past ++ e ∷ [])) (same_tag k tt sizes e (state sizes past) x)

@@ -17,7 +17,7 @@ use Rattle.core_rule.specs.Chains.{edge_chain, HasList}
 use Rattle.core_rule.proofs.Steps.{after_event}
 use Rattle.core_rule.proofs.VertexEffects.{next_state, ListsStay}
 use Rattle.core_rule.proofs.ListSteps.{listing, has_open}
-use Rattle.core_rule.proofs.EdgeChains.{list_chain, IsOffLists, idle_list, untouched, off_mark, off_close, IsSpot, link_spot, link_inserts, link_others, cut_spot, cut_unlinks, cut_others, mark_sets}
+use Rattle.core_rule.proofs.EdgeChains.{list_chain, IsOffLists, idle_list, untouched, off_mark, off_close, IsSpot, link_spot, link_inserts, link_others, cut_spot, cut_unlinks, cut_others, mark_sets, since_still}
 use Rattle.core_rule.proofs.FrozenLists.{IsEnd, frozen_end, frozen_to}
 
 module _ (sizes : Sizes) (z : IsLayout sizes) (past : List Event) (e : Event) (kept : IsKept sizes past) where
@@ -65,21 +65,21 @@ module _ (sizes : Sizes) (z : IsLayout sizes) (past : List Event) (e : Event) (k
       record {
         present = ((listing sizes z past kept).source e.life.index ok.there ok.linked.linked ok.linked.edge).on;
         sets = subst (λ (t : State). SetsMark (edge_chain sizes past home) (list_chain sizes t words home) (Node e.life.index)) (next_state sizes past e MarkEdge is)
-            (mark_sets sizes past e (state_by MarkEdge sizes e (state sizes past)) (λ _. refl) home (Node e.life.index) (sym ok.place) (omega (arith, ok.place, ok.there)) ok.word words (after_event sizes past e));
+            (mark_sets sizes past e (state_by MarkEdge sizes e (state sizes past)) (λ _. refl) (λ y. since_still MarkEdge tt sizes e (state sizes past) y) home (Node e.life.index) (sym ok.place) (omega (arith, ok.place, ok.there)) ok.word words (after_event sizes past e));
       }
 
   pub mark_rest : e.kind ≡ MarkEdge → IsMarkEdge sizes past e → OtherLists (node_in sizes past e.life.index).source.index
   mark_rest is ok x has ne = subst (λ (t : State). Untouched (edge_chain sizes past x) (list_chain sizes t words x)) (next_state sizes past e MarkEdge is)
-      (untouched sizes past e words (state_by MarkEdge sizes e (state sizes past)) x (after_event sizes past e) (off_mark sizes z past e kept x ok.place ne) refl)
+      (untouched sizes past e words (state_by MarkEdge sizes e (state sizes past)) x (after_event sizes past e) (off_mark sizes z past e kept x ok.place ne) (λ y on. since_still MarkEdge tt sizes e (state sizes past) y) refl)
 
   -- a list is closed at its head
   pub close_step : e.kind ≡ FreezeHead → IsFreezeHead sizes past e → SetsMark (edge_chain sizes past e.life.index) (edge_chain sizes (past ++ e ∷ []) e.life.index) Head
   close_step is ok = subst (λ (t : State). SetsMark (edge_chain sizes past e.life.index) (list_chain sizes t words e.life.index) Head) (next_state sizes past e FreezeHead is)
-      (mark_sets sizes past e (state_by FreezeHead sizes e (state sizes past)) (λ _. refl) e.life.index Head (sym ok.place) (omega (arith, ok.place, ok.there)) ok.word words (after_event sizes past e))
+      (mark_sets sizes past e (state_by FreezeHead sizes e (state sizes past)) (λ _. refl) (λ y. since_still FreezeHead tt sizes e (state sizes past) y) e.life.index Head (sym ok.place) (omega (arith, ok.place, ok.there)) ok.word words (after_event sizes past e))
 
   pub close_rest : e.kind ≡ FreezeHead → IsFreezeHead sizes past e → OtherLists e.life.index
   close_rest is ok x has ne = subst (λ (t : State). Untouched (edge_chain sizes past x) (list_chain sizes t words x)) (next_state sizes past e FreezeHead is)
-      (untouched sizes past e words (state_by FreezeHead sizes e (state sizes past)) x (after_event sizes past e) (off_close sizes z past e kept x ok.place ne) refl)
+      (untouched sizes past e words (state_by FreezeHead sizes e (state sizes past)) x (after_event sizes past e) (off_close sizes z past e kept x ok.place ne) (λ y on. since_still FreezeHead tt sizes e (state sizes past) y) refl)
 
   -- an edge is frozen, to which the frozen part of its list leads
   pub freeze_end : (ok : IsFreezeEdge sizes past e) → IsEnd sizes past (node_in sizes past e.life.index).source.index ok.before
@@ -94,9 +94,9 @@ module _ (sizes : Sizes) (z : IsLayout sizes) (past : List Event) (e : Event) (k
         named = λ none. omega (arith, ok.there, z.few_nodes, none);
         led = ap (λ (p : ℕ). index_of (word_at sizes past p)) d.place_is ∙ ok.leads;
         sets = subst (λ (t : State). SetsMark (edge_chain sizes past home) (list_chain sizes t words home) (Node e.life.index)) (next_state sizes past e FreezeEdge is)
-            (mark_sets sizes past e (state_by FreezeEdge sizes e (state sizes past)) (λ _. refl) home (Node e.life.index) (sym ok.place) (omega (arith, ok.place, ok.there)) ok.word words (after_event sizes past e));
+            (mark_sets sizes past e (state_by FreezeEdge sizes e (state sizes past)) (λ _. refl) (λ y. since_still FreezeEdge tt sizes e (state sizes past) y) home (Node e.life.index) (sym ok.place) (omega (arith, ok.place, ok.there)) ok.word words (after_event sizes past e));
       }
 
   pub freeze_rest : e.kind ≡ FreezeEdge → IsFreezeEdge sizes past e → OtherLists (node_in sizes past e.life.index).source.index
   freeze_rest is ok x has ne = subst (λ (t : State). Untouched (edge_chain sizes past x) (list_chain sizes t words x)) (next_state sizes past e FreezeEdge is)
-      (untouched sizes past e words (state_by FreezeEdge sizes e (state sizes past)) x (after_event sizes past e) (off_mark sizes z past e kept x ok.place ne) refl)
+      (untouched sizes past e words (state_by FreezeEdge sizes e (state sizes past)) x (after_event sizes past e) (off_mark sizes z past e kept x ok.place ne) (λ y on. since_still FreezeEdge tt sizes e (state sizes past) y) refl)

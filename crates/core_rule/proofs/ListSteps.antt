@@ -7,12 +7,12 @@ use Rattle.packed_link.specs.Link.{mark_of}
 use Rattle.packed_link.specs.Layout.{Sizes, IsLayout, link_at, second_at}
 use Rattle.packed_link.specs.declared.link.Life.{Life}
 use Rattle.core_journal.specs.declared.event.Kind.{Kind}
-use Rattle.core_journal.specs.declared.event.Kind.TheVariants.{PopFree, LinkVertex, MarkVertex, UnlinkVertex, LinkEdge, MarkEdge, UnlinkEdge, FreezeHead, FreezeEdge, StoreFree, PushFree}
+use Rattle.core_journal.specs.declared.event.Kind.TheVariants.{PopFree, LinkVertex, MarkVertex, UnlinkVertex, LinkEdge, MarkEdge, UnlinkEdge, ReplaceEdge, FreezeHead, FreezeEdge, StoreFree, PushFree}
 use Rattle.core_journal.specs.declared.event.Event.{Event}
 use Rattle.core_journal.specs.Machine.{word_at}
-use Rattle.core_journal.specs.State.{Free, Fresh, Linked, Spent, Node, State, put, linked_in, unlinked_from, state_by, state}
+use Rattle.core_journal.specs.State.{Free, Fresh, Linked, Spent, Node, State, put, linked_in, unlinked_from, state_by, state, joined_edge}
 use Rattle.core_rule.specs.Kept.{AllowedAs, IsKept}
-use Rattle.core_rule.specs.Edges.{IsLinkEdge, IsUnlinkEdge}
+use Rattle.core_rule.specs.Edges.{IsLinkEdge, IsUnlinkEdge, IsReplaceEdge}
 use Rattle.core_rule.specs.Vertices.{IsLinkVertex, IsMarkVertex, IsUnlinkVertex}
 use Rattle.core_rule.specs.FreeNodes.{IsStoreFree, IsPushFree}
 use Rattle.core_rule.specs.Nodes.{node_in, IsUsed}
@@ -427,7 +427,37 @@ module _ (sizes : Sizes) (z : IsLayout sizes) (past : List Event) (e : Event) (k
   pub not_closed : (x : ℕ) → x < sizes.nodes → IsUsed (node_in sizes past x).mode → (node_in sizes past x).vertex ≡ true → mark_of (word_at sizes past (second_at sizes x)) ≡ 0 → (state sizes past).frozen x ≡ false
   not_closed x t u v m = mark_isnt ((state sizes past).frozen x) (sym (((contents sizes z past kept).each x t).vertex u v).second_mark ∙ m)
 
-  pub link_joins : IsLinkEdge sizes past e → IsJoining sizes (state sizes past).node (state sizes past).edges (state sizes past).frozen e.life.index e.place (record (node_in sizes past e.life.index) { mode = Linked; vertex = false; key = e.key; source = e.source; target = e.target; weight = e.weight })
+  -- so is one that replaces another
+  pub replace_joins : IsReplaceEdge sizes past e → IsJoining sizes (state sizes past).node (state sizes past).edges (state sizes past).frozen e.life.index e.place (record (node_in sizes past e.life.index) { mode = Linked; vertex = false; key = e.key; source = e.source; target = e.target; weight = e.weight; since = (state sizes past).count + 1 })
+  replace_joins ok =
+      let d = c.source e.old.index ok.old_there ok.linked.linked ok.linked.edge in
+      let home : (node_in sizes past e.old.index).source.index ≡ e.source.index = ap (λ (l : Life). l.index) (sym ok.source) in
+      let open_home = subst (λ (x : ℕ). IsOpenList sizes (state sizes past).node (state sizes past).edges (state sizes past).frozen x) home d.list in
+      record {
+        there = ok.there;
+        fresh = ok.fresh.fresh;
+        linked = refl;
+        edge = refl;
+        tag = refl;
+        mark = refl;
+        stored = (((link_words sizes z past kept).each e.life.index ok.there).unmarked ok.fresh.fresh).1;
+        used = open_home.used;
+        vertex = open_home.vertex;
+        inside = open_home.there;
+        life = subst (λ (l : Life). l.tag ≡ (node_in sizes past l.index).tag) (sym ok.source) d.life;
+        word = inr (e.old.index, subst (λ (x : ℕ). stands e.old.index ((state sizes past).edges x) ≡ true) home d.on, ok.place);
+        only = λ x at. ⊎_elim
+            (λ (h : e.place ≡ second_at sizes x). omega (arith, h, ok.place))
+            (λ (h : (y : ℕ) × (stands y ((state sizes past).edges x) ≡ true) × (e.place ≡ link_at sizes y)).
+            let same : h.0 ≡ e.old.index = omega (arith, h.2, ok.place) in
+            sym (c.on x h.0 h.1).index ∙ (ap (λ (y : ℕ). (node_in sizes past y).source.index) same ∙ home)) at;
+        head = λ h. absurd (omega (arith, h, ok.place));
+        unmarked = λ y h.
+            let same : y ≡ e.old.index = omega (arith, h, ok.place) in
+            not_marked y (omega (arith, same, ok.old_there)) (ap (λ (i : ℕ). (node_in sizes past i).mode) same ∙ ok.linked.linked) (subst (λ (p : ℕ). mark_of (word_at sizes past p) ≡ 0) h ok.unmarked);
+      }
+
+  pub link_joins : IsLinkEdge sizes past e → IsJoining sizes (state sizes past).node (state sizes past).edges (state sizes past).frozen e.life.index e.place (record (node_in sizes past e.life.index) { mode = Linked; vertex = false; key = e.key; source = e.source; target = e.target; weight = e.weight; since = (state sizes past).count + 1 })
   link_joins ok = record {
     there = ok.there;
     fresh = ok.fresh.fresh;
@@ -522,6 +552,9 @@ listing_step sizes z past e kept c UnlinkEdge by ok w a =
     let m = cut_marked sizes z past e kept c ok in
     cut_listing sizes (state sizes past).node (state sizes past).edges (state sizes past).frozen c e.life.index _ ok.linked.linked ok.linked.edge m refl refl ok.linked.edge m
 listing_step sizes z past e kept c MarkEdge by ok w a = handed_over sizes (state sizes past).node (state sizes past).frozen (marked_state (state sizes past) e.life.index) (node_in sizes past e.life.index).source.index c (mark_grows sizes (state sizes past) e.life.index c)
+listing_step sizes z past e kept c ReplaceEdge by ok w a =
+    let d : ListingOf sizes (joined_edge sizes e (state sizes past)) = joins sizes (state sizes past).node (state sizes past).edges (state sizes past).frozen c e.life.index e.place _ (replace_joins sizes z past e kept c ok) in
+    handed_over sizes (joined_edge sizes e (state sizes past)).node (joined_edge sizes e (state sizes past)).frozen (marked_state (joined_edge sizes e (state sizes past)) e.old.index) ((joined_edge sizes e (state sizes past)).node e.old.index).source.index d (mark_grows sizes (joined_edge sizes e (state sizes past)) e.old.index d)
 listing_step sizes z past e kept c FreezeEdge by ok w a = handed_over sizes (state sizes past).node (state sizes past).frozen (marked_state (state sizes past) e.life.index) (node_in sizes past e.life.index).source.index c (mark_grows sizes (state sizes past) e.life.index c)
 listing_step sizes z past e kept c FreezeHead by ok w a = handed_over sizes (state sizes past).node (state sizes past).frozen (closed_state (state sizes past) e.life.index) e.life.index c (close_grows (state sizes past) e.life.index)
 listing_step sizes z past e kept c _ by ok w a = c
@@ -560,6 +593,11 @@ open_before sizes z past e kept UnlinkEdge n ok x o =
     let m = cut_marked sizes z past e kept (listing sizes z past kept) ok in
     cut_open sizes (state sizes past).node (state sizes past).edges (state sizes past).frozen (listing sizes z past kept) e.life.index _ ok.linked.linked ok.linked.edge m refl refl ok.linked.edge m x o
 open_before sizes z past e kept MarkEdge n ok x o = then_open sizes (state sizes past).node (state sizes past).frozen (marked_state (state sizes past) e.life.index) (node_in sizes past e.life.index).source.index (listing sizes z past kept) (mark_grows sizes (state sizes past) e.life.index (listing sizes z past kept)) x o
+open_before sizes z past e kept ReplaceEdge n ok x o =
+    let c = listing sizes z past kept in
+    let j = replace_joins sizes z past e kept c ok in
+    let d : ListingOf sizes (joined_edge sizes e (state sizes past)) = joins sizes (state sizes past).node (state sizes past).edges (state sizes past).frozen c e.life.index e.place _ j in
+    joins_open sizes (state sizes past).node (state sizes past).edges (state sizes past).frozen c e.life.index e.place _ j x (then_open sizes (joined_edge sizes e (state sizes past)).node (joined_edge sizes e (state sizes past)).frozen (marked_state (joined_edge sizes e (state sizes past)) e.old.index) ((joined_edge sizes e (state sizes past)).node e.old.index).source.index d (mark_grows sizes (joined_edge sizes e (state sizes past)) e.old.index d) x o)
 open_before sizes z past e kept FreezeEdge n ok x o = then_open sizes (state sizes past).node (state sizes past).frozen (marked_state (state sizes past) e.life.index) (node_in sizes past e.life.index).source.index (listing sizes z past kept) (mark_grows sizes (state sizes past) e.life.index (listing sizes z past kept)) x o
 open_before sizes z past e kept FreezeHead n ok x o = then_open sizes (state sizes past).node (state sizes past).frozen (closed_state (state sizes past) e.life.index) e.life.index (listing sizes z past kept) (close_grows (state sizes past) e.life.index) x o
 open_before sizes z past e kept _ n ok x o = o
@@ -578,6 +616,11 @@ finished_after sizes z past e kept UnlinkEdge ok x ne f =
     let m = cut_marked sizes z past e kept (listing sizes z past kept) ok in
     cut_finished sizes (state sizes past).node (state sizes past).edges (state sizes past).frozen (listing sizes z past kept) e.life.index _ ok.linked.linked ok.linked.edge m refl refl ok.linked.edge m x f
 finished_after sizes z past e kept MarkEdge ok x ne f = then_finished sizes (state sizes past).node (state sizes past).frozen (marked_state (state sizes past) e.life.index) (node_in sizes past e.life.index).source.index (listing sizes z past kept) (mark_grows sizes (state sizes past) e.life.index (listing sizes z past kept)) x f
+finished_after sizes z past e kept ReplaceEdge ok x ne f =
+    let c = listing sizes z past kept in
+    let j = replace_joins sizes z past e kept c ok in
+    let d : ListingOf sizes (joined_edge sizes e (state sizes past)) = joins sizes (state sizes past).node (state sizes past).edges (state sizes past).frozen c e.life.index e.place _ j in
+    then_finished sizes (joined_edge sizes e (state sizes past)).node (joined_edge sizes e (state sizes past)).frozen (marked_state (joined_edge sizes e (state sizes past)) e.old.index) ((joined_edge sizes e (state sizes past)).node e.old.index).source.index d (mark_grows sizes (joined_edge sizes e (state sizes past)) e.old.index d) x (joins_finished sizes (state sizes past).node (state sizes past).edges (state sizes past).frozen c e.life.index e.place _ j x f)
 finished_after sizes z past e kept FreezeEdge ok x ne f = then_finished sizes (state sizes past).node (state sizes past).frozen (marked_state (state sizes past) e.life.index) (node_in sizes past e.life.index).source.index (listing sizes z past kept) (mark_grows sizes (state sizes past) e.life.index (listing sizes z past kept)) x f
 finished_after sizes z past e kept FreezeHead ok x ne f = then_finished sizes (state sizes past).node (state sizes past).frozen (closed_state (state sizes past) e.life.index) e.life.index (listing sizes z past kept) (close_grows (state sizes past) e.life.index) x f
 finished_after sizes z past e kept _ ok x ne f = f

@@ -5,17 +5,19 @@ use native.Mathlib.Decide.{ℕ_discrete}
 use Rattle.packed_link.specs.Layout.{Sizes, IsLayout, third_at}
 use Rattle.packed_link.specs.declared.link.Life.{Life}
 use Rattle.core_journal.specs.declared.event.Kind.{Kind}
-use Rattle.core_journal.specs.declared.event.Kind.TheVariants.{DrawNumber, PopFree, StorePrivate, LinkVertex, MarkVertex, UnlinkVertex, LinkEdge, Raise, MarkEdge, UnlinkEdge, Announce, Withdraw, MoveEpoch, FreezeHead, FreezeEdge, StoreFree, PushFree}
+use Rattle.core_journal.specs.declared.event.Kind.TheVariants.{DrawNumber, PopFree, StorePrivate, LinkVertex, MarkVertex, UnlinkVertex, LinkEdge, Raise, MarkEdge, UnlinkEdge, Announce, Withdraw, MoveEpoch, FreezeHead, FreezeEdge, StoreFree, PushFree, ReplaceEdge}
 use Rattle.core_journal.specs.declared.event.Event.{Event}
-use Rattle.core_journal.specs.Event.{same_life}
+use Rattle.core_journal.specs.Event.{same_life, replaces, cut_life, raises}
+use Rattle.core_journal.proofs.Snoc.{cut_else}
 use Rattle.core_journal.specs.Machine.{word_at}
-use Rattle.core_journal.specs.State.{Fresh, Linked, Spent, Node, State, put, handed, state_by, state}
-use Rattle.core_rule.specs.Counts.{raises, about, raised}
+use Rattle.core_journal.specs.State.{Fresh, Linked, Spent, Node, State, put, handed, state_by, state, joined_edge}
+use Rattle.core_rule.specs.Counts.{about, raised}
 use Rattle.core_rule.specs.Kept.{IsKept}
 use Rattle.core_rule.specs.Nodes.{node_in, IsUsed}
 use Rattle.core_rule.specs.Facts.{IsCounter, Counters, Lives}
 use Rattle.core_rule.proofs.Steps.{KeepsIn, put_case, handed_case, marked_state, closed_state, all_in}
 use Rattle.core_rule.proofs.LinkWords.{taken}
+use Rattle.core_rule.proofs.ReplaceCases.{new_edge_node}
 
 pub count_snoc : {A : Type 0} (test : A → Bool) (xs : List A) (x : A) → length (filter test (xs ++ x ∷ [])) ≡ length (filter test xs) + cond (test x) 1 0
 count_snoc test [] x = by (test x)
@@ -83,12 +85,17 @@ same_tag UnlinkEdge o sizes e s x = put_tag s e.life.index _ x refl
 same_tag StoreFree o sizes e s x = put_tag s e.life.index _ x refl
 same_tag PushFree o sizes e s x = put_tag s e.life.index _ x refl
 same_tag MarkEdge o sizes e s x = handed_tag (marked_state s e.life.index) (s.node e.life.index).source.index x ∙ put_tag s e.life.index _ x refl
+same_tag ReplaceEdge o sizes e s x = handed_tag (marked_state (joined_edge sizes e s) e.old.index) ((joined_edge sizes e s).node e.old.index).source.index x ∙ (put_tag (joined_edge sizes e s) e.old.index _ x refl ∙ put_tag s e.life.index _ x refl)
 same_tag FreezeEdge o sizes e s x = handed_tag (marked_state s e.life.index) (s.node e.life.index).source.index x ∙ put_tag s e.life.index _ x refl
 same_tag FreezeHead o sizes e s x = handed_tag (closed_state s e.life.index) e.life.index x
 same_tag _ o sizes e s x = refl
 
-lives_more : (past : List Event) (e : Event) (s s' : State) → Lives past s → ((x : ℕ) → (s.node x).tag ≤ (s'.node x).tag) → e.life.tag ≤ (s'.node e.life.index).tag → Lives (past ++ e ∷ []) s'
-lives_more past e s s' c rise now = record {
+lives_more : (past : List Event) (e : Event) (s s' : State) → Lives past s → ((x : ℕ) → (s.node x).tag ≤ (s'.node x).tag) → e.life.tag ≤ (s'.node e.life.index).tag
+    → (l : Life) → cut_life e ≡ l → l.tag ≤ (s'.node l.index).tag → Lives (past ++ e ∷ []) s'
+lives_more past e s s' c rise now l which cut = record {
+  cut = λ x h. cut_else past e x (subst (λ (y : Life). same_life x y ≡ false) (sym which) (dite (ℕ_discrete x.index l.index)
+      (λ same. let at : (s'.node x.index).tag ≡ (s'.node l.index).tag = ap (λ (y : ℕ). (s'.node y).tag) same in other_tag x l (λ t. omega (arith, at, cut, h, t)))
+      (λ ne. other_index x l ne))) ∙ c.cut x (omega (arith, h, rise x.index));
   later = λ test x h. about_else test x past e (dite (ℕ_discrete x.index e.life.index)
       (λ same. let at : (s'.node x.index).tag ≡ (s'.node e.life.index).tag = ap (λ (y : ℕ). (s'.node y).tag) same in other_tag x e.life (λ t. omega (arith, at, now, h, t)))
       (λ ne. other_index x e.life ne)) ∙ c.later test x (omega (arith, h, rise x.index));
@@ -100,15 +107,19 @@ lives_step sizes z past e kept c PopFree is ok w a =
     lives_more past e (state sizes past) _ c
     (λ x. put_case (λ (u : Node). (node_in sizes past x).tag ≤ u.tag) e.life.index _ (state sizes past).node x (λ same. let at : (node_in sizes past x).tag ≡ (node_in sizes past e.life.index).tag = ap (λ (y : ℕ). (node_in sizes past y).tag) same in omega (arith, at, t.tag)) (λ _. omega arith))
     (put_case (λ (u : Node). e.life.tag ≤ u.tag) e.life.index _ (state sizes past).node e.life.index (λ _. omega arith) (λ ne. absurd (ne refl)))
-lives_step sizes z past e kept c DrawNumber is ok w a = let t : e.life.tag ≡ 0 = ap (λ (y : Life). y.tag) ok.life in lives_more past e (state sizes past) _ c (λ x. omega arith) (omega (arith, t))
-lives_step sizes z past e kept c Announce is ok w a = let t : e.life.tag ≡ 0 = ap (λ (y : Life). y.tag) ok.life in lives_more past e (state sizes past) _ c (λ x. omega arith) (omega (arith, t))
-lives_step sizes z past e kept c Withdraw is ok w a = let t : e.life.tag ≡ 0 = ap (λ (y : Life). y.tag) ok.life in lives_more past e (state sizes past) _ c (λ x. omega arith) (omega (arith, t))
-lives_step sizes z past e kept c MoveEpoch is ok w a = let t : e.life.tag ≡ 0 = ap (λ (y : Life). y.tag) ok.life in lives_more past e (state sizes past) _ c (λ x. omega arith) (omega (arith, t))
+    e.life (ap (λ (k : Kind). cond (replaces k) e.old e.life) is) (put_case (λ (u : Node). e.life.tag ≤ u.tag) e.life.index _ (state sizes past).node e.life.index (λ _. omega arith) (λ ne. absurd (ne refl)))
+lives_step sizes z past e kept c DrawNumber is ok w a = let t : e.life.tag ≡ 0 = ap (λ (y : Life). y.tag) ok.life in lives_more past e (state sizes past) _ c (λ x. omega arith) (omega (arith, t)) e.life (ap (λ (k : Kind). cond (replaces k) e.old e.life) is) (omega (arith, t))
+lives_step sizes z past e kept c Announce is ok w a = let t : e.life.tag ≡ 0 = ap (λ (y : Life). y.tag) ok.life in lives_more past e (state sizes past) _ c (λ x. omega arith) (omega (arith, t)) e.life (ap (λ (k : Kind). cond (replaces k) e.old e.life) is) (omega (arith, t))
+lives_step sizes z past e kept c Withdraw is ok w a = let t : e.life.tag ≡ 0 = ap (λ (y : Life). y.tag) ok.life in lives_more past e (state sizes past) _ c (λ x. omega arith) (omega (arith, t)) e.life (ap (λ (k : Kind). cond (replaces k) e.old e.life) is) (omega (arith, t))
+lives_step sizes z past e kept c MoveEpoch is ok w a = let t : e.life.tag ≡ 0 = ap (λ (y : Life). y.tag) ok.life in lives_more past e (state sizes past) _ c (λ x. omega arith) (omega (arith, t)) e.life (ap (λ (k : Kind). cond (replaces k) e.old e.life) is) (omega (arith, t))
+lives_step sizes z past e kept c ReplaceEdge is ok w a = lives_more past e (state sizes past) _ c (λ x. omega (arith, same_tag ReplaceEdge tt sizes e (state sizes past) x)) (omega (arith, ok.life, same_tag ReplaceEdge tt sizes e (state sizes past) e.life.index))
+    e.old (ap (λ (k : Kind). cond (replaces k) e.old e.life) is) (omega (arith, ok.old_life, same_tag ReplaceEdge tt sizes e (state sizes past) e.old.index))
 lives_step sizes z past e kept c k is ok w a = lives_more past e (state sizes past) _ c (λ x. omega (arith, same_tag k tt sizes e (state sizes past) x)) (omega (arith, ok.life, same_tag k tt sizes e (state sizes past) e.life.index))
+    e.life (ap (λ (k : Kind). cond (replaces k) e.old e.life) is) (omega (arith, ok.life, same_tag k tt sizes e (state sizes past) e.life.index))
 
 -- no event is about a later life
 pub lives : (sizes : Sizes) → IsLayout sizes → (journal : List Event) → IsKept sizes journal → Lives journal (state sizes journal)
-lives sizes z journal kept = all_in sizes (λ (j : List Event) (s : State) (w : ℕ → ℕ). Lives j s) (lives_step sizes z) (record { later = λ test x _. refl }) journal kept
+lives sizes z journal kept = all_in sizes (λ (j : List Event) (s : State) (w : ℕ → ℕ). Lives j s) (lives_step sizes z) (record { later = λ test x _. refl; cut = λ x _. refl }) journal kept
 
 -- a node keeps what its third word counts
 record IsSameCount (v v' : Node) : Type 0 where
@@ -146,6 +157,10 @@ put_new : (sizes : Sizes) (past : List Event) (e : Event) (w : ℕ → ℕ) (v :
 put_new sizes past e w v other c words new x t = put_case (λ (u : Node). IsCounter sizes (past ++ e ∷ []) u x w) e.life.index v (state sizes past).node x
     (λ same. subst (λ (y : ℕ). IsCounter sizes (past ++ e ∷ []) v y w) (sym same) (new (omega (arith, same, t))))
     (λ ne. count_same sizes past e _ _ x (word_at sizes past) w other (same_count (node_in sizes past x)) (words x ne) (c.each x t))
+
+-- a mark changes no counter
+marked_count : (sizes : Sizes) (journal : List Event) (v : Node) (x : ℕ) (w : ℕ → ℕ) → IsCounter sizes journal v x w → IsCounter sizes journal (record v { marked = true }) x w
+marked_count sizes journal v x w c = record { third = c.third; fresh = c.fresh }
 
 counters_step : (sizes : Sizes) → IsLayout sizes → KeepsIn sizes (Counters sizes)
 counters_step sizes z past e kept c PopFree is ok w a = record {
@@ -196,6 +211,17 @@ counters_step sizes z past e kept c UnlinkVertex is ok w a = record { each = put
 counters_step sizes z past e kept c UnlinkEdge is ok w a = record { each = put_counts sizes past e (state sizes past) (word_at sizes past) w e.life.index _ (ap raises is) c (spent_count (node_in sizes past e.life.index) _ _ _ ok.linked.linked) (λ x. a.else (third_at sizes x) (λ h. omega (arith, ok.place, h))) }
 counters_step sizes z past e kept c StoreFree is ok w a = record { each = put_counts sizes past e (state sizes past) (word_at sizes past) w e.life.index _ (ap raises is) c record { used = λ u. u; fresh = λ m. m; vertex = refl; tag = refl } (λ x. a.else (third_at sizes x) (λ h. omega (arith, ok.place, h))) }
 counters_step sizes z past e kept c PushFree is ok w a = record { each = put_counts sizes past e (state sizes past) (word_at sizes past) w e.life.index _ (ap raises is) c record { used = λ u. absurd u; fresh = λ h. absurd (cc); vertex = refl; tag = refl } (λ x. a.else (third_at sizes x) (λ h. omega (arith, ok.place, h))) }
+counters_step sizes z past e kept c ReplaceEdge is ok w a =
+    let s : State = state sizes past in
+    let j : State = joined_edge sizes e s in
+    let joined : Counters sizes (past ++ e ∷ []) j w = record {
+      each = put_new sizes past e w (new_edge_node (s.node e.life.index) e s.count) (ap raises is) c (λ x _. a.else (third_at sizes x) (λ h. omega (arith, ok.place, h))) (λ t. record { third = λ _ h. absurd (cc); fresh = λ h. absurd (cc) });
+    } in
+    handed_counts sizes (past ++ e ∷ []) (marked_state j e.old.index) (j.node e.old.index).source.index w record {
+      each = λ x t. put_case (λ (u : Node). IsCounter sizes (past ++ e ∷ []) u x w) e.old.index (record (j.node e.old.index) { marked = true }) j.node x
+          (λ same. marked_count sizes (past ++ e ∷ []) (j.node e.old.index) x w (subst (λ (y : ℕ). IsCounter sizes (past ++ e ∷ []) (j.node y) x w) same (joined.each x t)))
+          (λ _. joined.each x t);
+    }
 counters_step sizes z past e kept c MarkEdge is ok w a = handed_counts sizes (past ++ e ∷ []) (marked_state (state sizes past) e.life.index) (node_in sizes past e.life.index).source.index w
     record { each = put_counts sizes past e (state sizes past) (word_at sizes past) w e.life.index _ (ap raises is) c record { used = λ u. u; fresh = λ m. m; vertex = refl; tag = refl } (λ x. a.else (third_at sizes x) (λ h. omega (arith, ok.place, h))) }
 counters_step sizes z past e kept c FreezeEdge is ok w a = handed_counts sizes (past ++ e ∷ []) (marked_state (state sizes past) e.life.index) (node_in sizes past e.life.index).source.index w

@@ -1,9 +1,9 @@
--- What the worked journal with all seventeen kinds of events comes to, computed.
-use Rattle.std.proofs.Common.{◌≡◌, [], ◌∷◌, map, refl, inl, lit<, lit≤}
+-- What the worked journal in which a node has two lives comes to, computed.
+use Rattle.std.proofs.Common.{◌≡◌, ◌≢◌, [], ◌∷◌, map, refl, inl, lit<, lit≤}
 use Rattle.std.specs.Prelude.{Contains}
 use Rattle.packed_link.specs.Layout.{IsLayout}
 use Rattle.core_journal.specs.declared.event.Kind.{Kind}
-use Rattle.core_journal.specs.declared.event.Kind.TheVariants.{DrawNumber, PopFree, StorePrivate, LinkVertex, MarkVertex, UnlinkVertex, LinkEdge, Raise, MarkEdge, UnlinkEdge, Announce, Withdraw, MoveEpoch, FreezeHead, FreezeEdge, StoreFree, PushFree}
+use Rattle.core_journal.specs.declared.event.Kind.TheVariants.{DrawNumber, PopFree, StorePrivate, LinkVertex, MarkVertex, UnlinkVertex, LinkEdge, Raise, MarkEdge, UnlinkEdge, Announce, Withdraw, MoveEpoch, FreezeHead, FreezeEdge, StoreFree, PushFree, ReplaceEdge}
 use Rattle.core_journal.specs.declared.event.Event.{Event}
 use Rattle.core_journal.specs.GraphOf.{graph_of}
 use Rattle.core_journal.specs.Life.{key_of, link_of}
@@ -16,24 +16,25 @@ use Rattle.core_rule.specs.TwoLives.{two_lives, with_edge, without_edge, with_ot
 pub small_layout : IsLayout small
 small_layout = record { some_callers = lit≤ tt; few_callers = lit≤ tt; some_nodes = lit≤ tt; few_nodes = lit≤ tt; some_buckets = lit≤ tt; few_buckets = lit≤ tt }
 
-pub kinds_stand : (k : Kind) → Contains (map (λ (e : Event). e.kind) two_lives) k
-kinds_stand DrawNumber = (0, lit< tt, refl)
-kinds_stand Announce = (2, lit< tt, refl)
-kinds_stand PopFree = (3, lit< tt, refl)
-kinds_stand StorePrivate = (4, lit< tt, refl)
-kinds_stand LinkVertex = (8, lit< tt, refl)
-kinds_stand Withdraw = (9, lit< tt, refl)
-kinds_stand LinkEdge = (24, lit< tt, refl)
-kinds_stand Raise = (27, lit< tt, refl)
-kinds_stand MarkEdge = (28, lit< tt, refl)
-kinds_stand UnlinkEdge = (29, lit< tt, refl)
-kinds_stand MarkVertex = (40, lit< tt, refl)
-kinds_stand UnlinkVertex = (41, lit< tt, refl)
-kinds_stand FreezeHead = (42, lit< tt, refl)
-kinds_stand FreezeEdge = (43, lit< tt, refl)
-kinds_stand MoveEpoch = (45, lit< tt, refl)
-kinds_stand StoreFree = (47, lit< tt, refl)
-kinds_stand PushFree = (48, lit< tt, refl)
+pub kinds_stand : (k : Kind) → k ≢ ReplaceEdge → Contains (map (λ (e : Event). e.kind) two_lives) k
+kinds_stand DrawNumber _ = (0, lit< tt, refl)
+kinds_stand Announce _ = (2, lit< tt, refl)
+kinds_stand PopFree _ = (3, lit< tt, refl)
+kinds_stand StorePrivate _ = (4, lit< tt, refl)
+kinds_stand LinkVertex _ = (8, lit< tt, refl)
+kinds_stand Withdraw _ = (9, lit< tt, refl)
+kinds_stand LinkEdge _ = (24, lit< tt, refl)
+kinds_stand Raise _ = (27, lit< tt, refl)
+kinds_stand ReplaceEdge other = absurd (other refl)
+kinds_stand MarkEdge _ = (28, lit< tt, refl)
+kinds_stand UnlinkEdge _ = (29, lit< tt, refl)
+kinds_stand MarkVertex _ = (40, lit< tt, refl)
+kinds_stand UnlinkVertex _ = (41, lit< tt, refl)
+kinds_stand FreezeHead _ = (42, lit< tt, refl)
+kinds_stand FreezeEdge _ = (43, lit< tt, refl)
+kinds_stand MoveEpoch _ = (45, lit< tt, refl)
+kinds_stand StoreFree _ = (47, lit< tt, refl)
+kinds_stand PushFree _ = (48, lit< tt, refl)
 
 pub graph_added : graph_of with_edge ≡ two_keys (((1, 2), 5) ∷ [])
 unfolding graph_of key_of link_of

@@ -3,12 +3,12 @@ use Rattle.std.proofs.Common.{◌≡◌, ◌≢◌, ℕ, ◌<◌, Bool, true, fa
 use Rattle.packed_link.specs.Link.{mark_of}
 use Rattle.packed_link.specs.Layout.{Sizes, IsLayout, link_at}
 use Rattle.packed_link.specs.declared.link.Life.{Life}
-use Rattle.core_journal.specs.declared.event.Kind.TheVariants.{PopFree, LinkVertex, MarkVertex, UnlinkVertex, LinkEdge, MarkEdge, UnlinkEdge, FreezeHead, FreezeEdge, StoreFree, PushFree}
+use Rattle.core_journal.specs.declared.event.Kind.TheVariants.{PopFree, LinkVertex, MarkVertex, UnlinkVertex, LinkEdge, MarkEdge, UnlinkEdge, FreezeHead, FreezeEdge, StoreFree, PushFree, ReplaceEdge}
 use Rattle.core_journal.specs.declared.event.Event.{Event}
 use Rattle.core_journal.specs.Event.{same_life, links_vertex, unlinks}
 use Rattle.core_journal.specs.Life.{key_of, vertex_marked, unlinked}
 use Rattle.core_journal.specs.Machine.{word_at}
-use Rattle.core_journal.specs.State.{Mode, Fresh, Linked, Spent, Node, State, put, handed, opening, state}
+use Rattle.core_journal.specs.State.{Mode, Fresh, Linked, Spent, Node, State, put, handed, opening, joined_edge, state}
 use Rattle.core_journal.proofs.Snoc.{any_skip, any_last, same_is, same_self, key_skip, key_else}
 use Rattle.core_journal.proofs.KeptLives.{key_more, vertex_marked_more}
 use Rattle.core_rule.specs.Kept.{IsKept}
@@ -16,8 +16,9 @@ use Rattle.core_rule.specs.Nodes.{node_in, IsUsed}
 use Rattle.core_rule.proofs.Steps.{KeepsIn, put_case, handed_case, marked_state, closed_state, all_in}
 use Rattle.core_rule.proofs.LinkWords.{link_words, taken, mark_is}
 use Rattle.core_rule.proofs.Lives.{other_index, this_life, lives}
+use Rattle.core_rule.proofs.ReplaceCases.{new_edge_node, replaced_case}
 use Rattle.core_rule.proofs.Named.{life_is, named, none_any, key_first}
-use Rattle.core_rule.proofs.Placed.{OnLists, on_lists, marked_lists, frozen_stands}
+use Rattle.core_rule.proofs.Placed.{OnLists, on_lists, marked_lists, joined_lists, frozen_stands}
 
 module _ (past : List Event) (e : Event) where
   -- what was unlinked, where the event unlinks nothing, or another life, or this one
@@ -81,6 +82,15 @@ standing_step sizes z past e kept c LinkEdge is ok w a = record { each = put_sta
 standing_step sizes z past e kept c MarkVertex is ok w a = record { each = put_standing past e (state sizes past) e.life.index _ (ap unlinks is) c (λ h. h) refl }
 standing_step sizes z past e kept c StoreFree is ok w a = record { each = put_standing past e (state sizes past) e.life.index _ (ap unlinks is) c (λ h. h) refl }
 standing_step sizes z past e kept c PushFree is ok w a = record { each = put_standing past e (state sizes past) e.life.index _ (ap unlinks is) c (λ h. absurd h) refl }
+standing_step sizes z past e kept c ReplaceEdge is ok w a =
+    let s : State = state sizes past in
+    record {
+      each = λ x. replaced_case sizes z past e kept ok (λ (u : Node). IsStanding u.mode → unlinked (past ++ e ∷ []) (life_of x u) ≡ false) x
+          (λ same _. unlinked_skip past e (ap unlinks is) (life_of x (node_in sizes past e.life.index))
+          ∙ subst (λ (y : ℕ). unlinked past (life_of y (node_in sizes past e.life.index)) ≡ false) (sym same) (c.each e.life.index (subst IsStanding (sym ok.fresh.fresh) tt)))
+          (λ _. put_standing past e s e.old.index (record (s.node e.old.index) { marked = true }) (ap unlinks is) c (λ h. h) refl x)
+          (λ _ _ _ _ h. absurd h);
+    }
 standing_step sizes z past e kept c MarkEdge is ok w a = handed_standing (past ++ e ∷ []) (marked_state (state sizes past) e.life.index) (node_in sizes past e.life.index).source.index record { each = put_standing past e (state sizes past) e.life.index _ (ap unlinks is) c (λ h. h) refl }
 standing_step sizes z past e kept c FreezeEdge is ok w a = handed_standing (past ++ e ∷ []) (marked_state (state sizes past) e.life.index) (node_in sizes past e.life.index).source.index record { each = put_standing past e (state sizes past) e.life.index _ (ap unlinks is) c (λ h. h) refl }
 standing_step sizes z past e kept c FreezeHead is ok w a = handed_standing (past ++ e ∷ []) (closed_state (state sizes past) e.life.index) e.life.index record { each = λ x h. unlinked_skip past e (ap unlinks is) (life_of x (node_in sizes past x)) ∙ c.each x h }
@@ -180,6 +190,13 @@ vertices_step sizes z past e kept c PushFree is ok w a = live_still past e (stat
 vertices_step sizes z past e kept c StoreFree is ok w a = live_still past e (state sizes past) _ (ap links_vertex is) (ap unlinks is) c (put_live (state sizes past) e.life.index _ (no_live (state sizes past) e.life.index _ (λ m. let f = ok.ripe.stamped.spent.spent in absurd (cc))))
 vertices_step sizes z past e kept c LinkEdge is ok w a = live_still past e (state sizes past) _ (ap links_vertex is) (ap unlinks is) c (put_live (state sizes past) e.life.index _ (no_live (state sizes past) e.life.index _ (λ m. let f = ok.fresh.fresh in absurd (cc))))
 vertices_step sizes z past e kept c MarkVertex is ok w a = live_still past e (state sizes past) _ (ap links_vertex is) (ap unlinks is) c (put_live (state sizes past) e.life.index _ (λ tag k h. record { life = h.life; linked = h.linked; vertex = h.vertex; key_is = h.key_is }))
+vertices_step sizes z past e kept c ReplaceEdge is ok w a =
+    let s : State = state sizes past in
+    let j : State = joined_edge sizes e s in
+    live_still past e s _ (ap links_vertex is) (ap unlinks is) c
+    (λ x tag k h. handed_live (marked_state j e.old.index) (j.node e.old.index).source.index (marked_lists j e.old.index (joined_lists sizes past e (on_lists sizes past kept))) x tag k
+    (put_live j e.old.index (record (j.node e.old.index) { marked = true }) (λ tag k h. record { life = h.life; linked = h.linked; vertex = h.vertex; key_is = h.key_is }) x tag k
+    (put_live s e.life.index (new_edge_node (s.node e.life.index) e s.count) (no_live s e.life.index _ (λ m. let f = ok.fresh.fresh in absurd (cc))) x tag k h)))
 vertices_step sizes z past e kept c MarkEdge is ok w a = live_still past e (state sizes past) _ (ap links_vertex is) (ap unlinks is) c
     (λ x tag k h. handed_live (marked_state (state sizes past) e.life.index) (node_in sizes past e.life.index).source.index (marked_lists (state sizes past) e.life.index (on_lists sizes past kept)) x tag k
     (put_live (state sizes past) e.life.index _ (λ tag k h. record { life = h.life; linked = h.linked; vertex = h.vertex; key_is = h.key_is }) x tag k h))

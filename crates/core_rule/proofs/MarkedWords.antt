@@ -3,11 +3,11 @@ use Rattle.std.proofs.Common.{◌≡◌, ◌≢◌, ◌⊎◌, ℕ, ◌≤◌, t
 use Rattle.packed_link.specs.Link.{mark_of}
 use Rattle.packed_link.specs.Layout.{Sizes, IsLayout, link_at, second_at}
 use Rattle.core_journal.specs.declared.event.Kind.{Kind}
-use Rattle.core_journal.specs.declared.event.Kind.TheVariants.{PopFree, StorePrivate, LinkVertex, MarkVertex, UnlinkVertex, LinkEdge, MarkEdge, UnlinkEdge, FreezeHead, FreezeEdge, StoreFree, PushFree}
+use Rattle.core_journal.specs.declared.event.Kind.TheVariants.{PopFree, StorePrivate, LinkVertex, MarkVertex, UnlinkVertex, LinkEdge, MarkEdge, UnlinkEdge, FreezeHead, FreezeEdge, StoreFree, PushFree, ReplaceEdge}
 use Rattle.core_journal.specs.declared.event.Event.{Event}
 use Rattle.core_journal.specs.Prefix.{IsPrefix}
 use Rattle.core_journal.specs.Machine.{word_at}
-use Rattle.core_journal.specs.State.{Fresh, Node, State, put, handed, state_by, state}
+use Rattle.core_journal.specs.State.{Fresh, Node, State, put, handed, state_by, state, joined_edge}
 use Rattle.core_rule.specs.Kept.{AllowedAs, IsKept}
 use Rattle.core_rule.specs.Nodes.{node_in}
 use Rattle.core_rule.proofs.Steps.{Keeps, put_case, put_same, handed_case, marked_state, closed_state, holds_onward}
@@ -32,6 +32,7 @@ stored_before UnlinkEdge o sizes e s x = put_stored s e.life.index _ x (λ m. m)
 stored_before StoreFree o sizes e s x = put_stored s e.life.index _ x (λ m. absurd (cc))
 stored_before PushFree o sizes e s x = put_stored s e.life.index _ x (λ m. m)
 stored_before MarkEdge o sizes e s x = λ m. put_stored s e.life.index (record (s.node e.life.index) { marked = true }) x (λ m. m) (handed_stored (marked_state s e.life.index) (s.node e.life.index).source.index x m)
+stored_before ReplaceEdge o sizes e s x = λ m. put_stored s e.life.index _ x (λ m. m) (put_stored (joined_edge sizes e s) e.old.index (record ((joined_edge sizes e s).node e.old.index) { marked = true }) x (λ m. m) (handed_stored (marked_state (joined_edge sizes e s) e.old.index) ((joined_edge sizes e s).node e.old.index).source.index x m))
 stored_before FreezeEdge o sizes e s x = λ m. put_stored s e.life.index (record (s.node e.life.index) { marked = true }) x (λ m. m) (handed_stored (marked_state s e.life.index) (s.node e.life.index).source.index x m)
 stored_before FreezeHead o sizes e s x = λ m. handed_stored (closed_state s e.life.index) e.life.index x m
 stored_before _ o sizes e s x = λ m. m
@@ -57,6 +58,7 @@ module _ (sizes : Sizes) (z : IsLayout sizes) (x place tag word : ℕ) (at : (pl
   not_written past e LinkEdge o ok is fresh stored = not_unmarked past e ok.unmarked is
   not_written past e MarkEdge o ok is fresh stored = not_unmarked past e ok.unmarked is
   not_written past e UnlinkEdge o ok is fresh stored = not_unmarked past e ok.unmarked is
+  not_written past e ReplaceEdge o ok is fresh stored = not_unmarked past e ok.unmarked is
   not_written past e FreezeHead o ok is fresh stored = not_unmarked past e ok.unmarked is
   not_written past e FreezeEdge o ok is fresh stored = not_unmarked past e ok.unmarked is
   not_written past e StorePrivate o ok is fresh stored = λ h. let same : x ≡ e.life.index = omega (arith, h, at, ok.place) in fresh (ap (λ (y : ℕ). (node_in sizes past y).mode) same ∙ ok.fresh.fresh)

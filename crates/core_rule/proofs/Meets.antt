@@ -1,5 +1,5 @@
 -- What one meets from the head of a chain after each step: the list of the state after the event.
-use Rattle.std.proofs.Common.{◌≡◌, ◌≢◌, ℕ, suc, ◌≤◌, Bool, true, false, cond, not, ◌||◌, ◌==◌, List, [], ◌∷◌, refl, sym, ap, ◌∙◌, subst, arith, eq-eqb, eqb-true, ne_eqb}
+use Rattle.std.proofs.Common.{◌≡◌, ◌≢◌, ℕ, suc, Bool, true, false, cond, not, ◌||◌, ◌==◌, List, [], ◌∷◌, refl, sym, ap, ◌∙◌, subst, arith, eq-eqb, eqb-true, ne_eqb, ◌⊎◌, ⊎_elim, inl, inr}
 use Rattle.std.specs.Prelude.{Contains}
 use Rattle.std.specs.List.{list_any}
 use mathlib.Core.Logic.{dite}
@@ -7,11 +7,12 @@ use native.Mathlib.Decide.{ℕ_discrete}
 use Rattle.graph_kinds.specs.History.{Every}
 use Rattle.packed_link.specs.Link.{nowhere}
 use Rattle.packed_link.specs.Layout.{Sizes, link_at}
-use Rattle.core_chain.specs.Chain.{Chain, Position, Head, Node, IsOn, IsChain, rank_of}
+use Rattle.core_chain.specs.Chain.{Chain, Position, Head, Node, IsOn, IsChain, Precedes}
 use Rattle.core_chain.specs.Met.{Meets, Rises, IsMet}
-use Rattle.core_chain.specs.Steps.{Inserts, Unlinks, SetsMark, Untouched, Joins, Leaves}
+use Rattle.core_chain.specs.Steps.{Inserts, Replaces, Unlinks, SetsMark, Untouched, Joins, Leaves}
 use Rattle.core_chain.specs.Table.{Places}
-use Rattle.core_chain.proofs.Orders.{if_same, one_leads}
+use Rattle.core_chain.proofs.Orders.{if_same, one_leads, before_same, before_then}
+use Rattle.core_chain.proofs.Inserts.{Puts, Puts-inserted, Puts-replaced}
 use Rattle.core_chain.proofs.Marks.{next-marked}
 use Rattle.core_chain.proofs.Meets.{met_behind}
 use Rattle.core_journal.specs.State.{put_behind, linked_in, unlinked_from}
@@ -73,23 +74,27 @@ moved : (c d : Chain) (at p q : Position) (xs : List ℕ) → ((r : Position) �
 moved c d at p q [] others apart same met = same ∙ met
 moved c d at p q (x ∷ xs) others apart same met = (same ∙ met.0, met.1, moved c d at (Node x) (Node x) xs others apart.1 (others (Node x) apart.0) met.2)
 
--- what rises behind a node is no such node
-risen : (c : Chain) (p : Position) (n : ℕ) (xs : List ℕ) → rank_of c (Node n) ≤ rank_of c p → Rises c p xs → Every (λ x. x ≢ n) xs
-risen c p n [] before rising = tt
-risen c p n (x ∷ xs) before rising =
-    let low = rising.0 in (
-      (λ e. let a : c.key x ≡ c.key n = ap c.key e in omega arith),
-      risen c (Node x) n xs (omega arith) rising.1,
-    )
+-- a word doesn't stand behind another
+abbrev pub IsUpTo : Chain → Position → Position → Type 0
+IsUpTo c q p = (q ≡ p) ⊎ Precedes c q p
+
+-- so it stands before what stands behind that
+before_next : (c : Chain) (q p : Position) (x : ℕ) → IsUpTo c q p → Precedes c p (Node x) → Precedes c q (Node x)
+before_next c q p x upto low = ⊎_elim (λ same. subst (λ (r : Position). Precedes c r (Node x)) (sym same) low) (λ before. before_then c q p (Node x) before low) upto
 
 -- what rises behind a word stands at no such word
-apart_from : (c : Chain) (at p : Position) (xs : List ℕ) → rank_of c at ≤ rank_of c p → Rises c p xs → Every (λ x. Node x ≢ at) xs
-apart_from c at p [] before rising = tt
-apart_from c at p (x ∷ xs) before rising =
-    let low = rising.0 in (
-      (λ e. let a : rank_of c (Node x) ≡ rank_of c at = ap (rank_of c) e in omega arith),
-      apart_from c at (Node x) xs (omega arith) rising.1,
-    )
+apart_from : (c : Chain) (at p : Position) (xs : List ℕ) → IsUpTo c at p → Rises c p xs → Every (λ x. Node x ≢ at) xs
+apart_from c at p [] upto rising = tt
+apart_from c at p (x ∷ xs) upto rising =
+    let low = before_next c at p x upto rising.0 in
+    ((λ e. before_same c at (Node x) low (sym e)), apart_from c at (Node x) xs (inr low) rising.1)
+
+-- what rises behind a node is no such node
+risen : (c : Chain) (p : Position) (n : ℕ) (xs : List ℕ) → IsUpTo c (Node n) p → Rises c p xs → Every (λ x. x ≢ n) xs
+risen c p n [] upto rising = tt
+risen c p n (x ∷ xs) upto rising =
+    let low = before_next c (Node n) p x upto rising.0 in
+    ((λ e. before_same c (Node n) (Node x) low (ap Node (sym e))), risen c (Node x) n xs (inr low) rising.1)
 
 -- the words of a chain among those of the layout: the links of nodes, and a head that is none of these
 pub record AreLinks (sizes : Sizes) (places : Places) : Type 0 where
@@ -97,17 +102,17 @@ pub record AreLinks (sizes : Sizes) (places : Places) : Type 0 where
   pub apart : (x : ℕ) → places.word_at Head ≢ link_at sizes x
 
 -- a node that is inserted behind the link of a node stands behind that node
-put_in : (sizes : Sizes) (c d : Chain) (x n : ℕ) (p : Position) (xs : List ℕ) → Inserts c d (Node x) n → p ≢ Node x → Meets c p xs → Rises c p xs → Meets d p (put_behind (λ y. link_at sizes x == link_at sizes y) n xs)
+put_in : (sizes : Sizes) (c d : Chain) (x n : ℕ) (p : Position) (xs : List ℕ) → Puts c d (Node x) n → p ≢ Node x → Meets c p xs → Rises c p xs → Meets d p (put_behind (λ y. link_at sizes x == link_at sizes y) n xs)
 put_in sizes c d x n p [] step ne met rising = step.words.next p ne ∙ met
 put_in sizes c d x n p (y ∷ ys) step ne met rising = dite (ℕ_discrete y x)
     (λ same.
     let here : (link_at sizes x == link_at sizes y) ≡ true = eq-eqb (link_at sizes x) (link_at sizes y) (omega (arith, same)) in
-    let not_new : Node n ≢ Node x = λ e. let z : n ≡ x = cc in step.can.absent (subst (λ (q : Position). IsOn c q) (ap Node (sym z)) step.can.passes.present) in
-    let to : d.next (Node n) ≡ c.next (Node y) = step.words.next (Node n) not_new ∙ (step.can.filled ∙ ap (λ (z : ℕ). c.next (Node z)) (sym same)) in
-    let rest : Meets d (Node n) ys = moved c d (Node x) (Node y) (Node n) ys step.words.next (apart_from c (Node x) (Node y) ys (let a : c.key x ≡ c.key y = ap c.key (sym same) in omega arith) rising.1) to met.2 in
+    let not_new : Node n ≢ Node x = λ e. let z : n ≡ x = cc in step.absent (subst (λ (q : Position). IsOn c q) (ap Node (sym z)) step.present) in
+    let to : d.next (Node n) ≡ c.next (Node y) = step.words.next (Node n) not_new ∙ (step.filled ∙ ap (λ (z : ℕ). c.next (Node z)) (sym same)) in
+    let rest : Meets d (Node n) ys = moved c d (Node x) (Node y) (Node n) ys step.words.next (apart_from c (Node x) (Node y) ys (inl (ap Node (sym same))) rising.1) to met.2 in
     let led : d.next (Node y) ≡ n = ap (λ (z : ℕ). d.next (Node z)) same ∙ step.leads in
     subst (λ (b : Bool). Meets d p (cond b (y ∷ n ∷ ys) (y ∷ put_behind (λ z. link_at sizes x == link_at sizes z) n ys))) (sym here)
-    (step.words.next p ne ∙ met.0, met.1, (led, step.can.named, rest)))
+    (step.words.next p ne ∙ met.0, met.1, (led, step.named, rest)))
     (λ other.
     let here : (link_at sizes x == link_at sizes y) ≡ false = ne_eqb (link_at sizes x) (link_at sizes y) (λ h. other (omega (arith, h))) in
     subst (λ (b : Bool). Meets d p (cond b (y ∷ n ∷ ys) (y ∷ put_behind (λ z. link_at sizes x == link_at sizes z) n ys))) (sym here)
@@ -128,9 +133,14 @@ module _ (sizes : Sizes) (places : Places) (are : AreLinks sizes places) where
   meets_inserted c d Head n xs chain step met =
       let to : d.next (Node n) ≡ c.next Head = step.words.next (Node n) (λ e. absurd (cc)) ∙ step.can.filled in
       subst (λ (l : List ℕ). Meets d Head l) (sym (at_head n xs))
-      (step.leads, step.can.named, moved c d Head Head (Node n) xs step.words.next (apart_from c Head Head xs (omega arith) (met_behind c Head xs chain tt met).0) to met)
+      (step.leads, step.can.named, moved c d Head Head (Node n) xs step.words.next (apart_from c Head Head xs (inl refl) (met_behind c Head xs chain tt met).0) to met)
   meets_inserted c d (Node x) n xs chain step met =
-      subst (λ (l : List ℕ). Meets d Head l) (sym (at_node x n xs)) (put_in sizes c d x n Head xs step (λ e. absurd (cc)) met (met_behind c Head xs chain tt met).0)
+      subst (λ (l : List ℕ). Meets d Head l) (sym (at_node x n xs)) (put_in sizes c d x n Head xs (Puts-inserted c d (Node x) n chain step) (λ e. absurd (cc)) met (met_behind c Head xs chain tt met).0)
+
+  -- so after a node is replaced
+  pub meets_replaced : (c d : Chain) (x n : ℕ) (xs : List ℕ) → IsChain c → Replaces c d x n → Meets c Head xs → Meets d Head (linked_in sizes (places.word_at Head) (places.word_at (Node x)) n xs)
+  meets_replaced c d x n xs chain step met =
+      subst (λ (l : List ℕ). Meets d Head l) (sym (at_node x n xs)) (put_in sizes c d x n Head xs (Puts-replaced c d x n chain step) (λ e. absurd (cc)) met (met_behind c Head xs chain tt met).0)
 
 -- a node that is taken out is no more met
 take_out : (c d : Chain) (at : Position) (n : ℕ) (p : Position) (xs : List ℕ) → IsChain c → Unlinks c d at n → IsOn c p → p ≢ Node n → Meets c p xs → Rises c p xs → Meets d p (unlinked_from n xs)
@@ -143,13 +153,10 @@ take_out c d at n p (y ∷ ys) chain step on ne met rising =
     if_same p at
     (λ same.
     let is : y ≡ n = sym met.0 ∙ (ap c.next same ∙ step.can.led) in
-    let key : c.key y ≡ c.key n = ap c.key is in
-    let low = rising.0 in
-    let before : rank_of c at ≡ rank_of c p = ap (rank_of c) (sym same) in
     let to : d.next p ≡ c.next (Node y) = ap d.next same ∙ (step.leads ∙ ap (λ (z : ℕ). c.next (Node z)) (sym is)) in
-    let rest : Meets d p ys = moved c d at (Node y) p ys step.words.next (apart_from c at (Node y) ys (omega arith) rising.1) to met.2 in
+    let rest : Meets d p ys = moved c d at (Node y) p ys step.words.next (apart_from c at (Node y) ys (inr (subst (λ (r : Position). Precedes c r (Node y)) same rising.0)) rising.1) to met.2 in
     subst (λ (b : Bool). Meets d p (cond (not b) (y ∷ unlinked_from n ys) (unlinked_from n ys))) (sym (eq-eqb y n is))
-    (subst (λ (l : List ℕ). Meets d p l) (sym (unlinked_else n ys (risen c (Node y) n ys (omega arith) rising.1))) rest))
+    (subst (λ (l : List ℕ). Meets d p l) (sym (unlinked_else n ys (risen c (Node y) n ys (inl (ap Node (sym is))) rising.1))) rest))
     (λ other.
     let not_it : y ≢ n = λ is. other (one_leads c p at chain on step.can.present some (met.0 ∙ (is ∙ sym step.can.led))) in
     subst (λ (b : Bool). Meets d p (cond (not b) (y ∷ unlinked_from n ys) (unlinked_from n ys))) (sym (ne_eqb y n not_it))

@@ -5,10 +5,10 @@ use native.Mathlib.Decide.{ℕ_discrete}
 use Rattle.packed_link.specs.Link.{index_of, mark_of, with_mark}
 use Rattle.packed_link.specs.Layout.{Sizes, IsLayout, word_count, link_at, second_at}
 use Rattle.core_journal.specs.declared.event.Kind.{Kind}
-use Rattle.core_journal.specs.declared.event.Kind.TheVariants.{PopFree, LinkVertex, MarkVertex, UnlinkVertex, LinkEdge, MarkEdge, UnlinkEdge, Announce, Withdraw, FreezeHead, FreezeEdge, StoreFree, PushFree}
+use Rattle.core_journal.specs.declared.event.Kind.TheVariants.{PopFree, LinkVertex, MarkVertex, UnlinkVertex, LinkEdge, MarkEdge, UnlinkEdge, Announce, Withdraw, FreezeHead, FreezeEdge, StoreFree, PushFree, ReplaceEdge}
 use Rattle.core_journal.specs.declared.event.Event.{Event}
 use Rattle.core_journal.specs.Machine.{word_at}
-use Rattle.core_journal.specs.State.{Mode, Free, Fresh, Linked, Spent, Pass, Node, State, put, handed, state_by, state}
+use Rattle.core_journal.specs.State.{Mode, Free, Fresh, Linked, Spent, Pass, Node, State, put, handed, state_by, state, joined_edge}
 use Rattle.core_journal.specs.Reuse.{pass_in}
 use Rattle.core_journal.proofs.States.{state-snoc}
 use Rattle.core_rule.specs.Kept.{Allowed, AllowedAs, IsKept}
@@ -17,15 +17,18 @@ use Rattle.core_rule.proofs.Steps.{IsAfter, after_event, put_case, handed_case, 
 use Rattle.core_rule.proofs.LinkWords.{taken}
 use Rattle.core_rule.proofs.MarkedWords.{stored_before}
 use Rattle.core_rule.proofs.Ripe.{end_by, ended}
+use Rattle.core_rule.proofs.ReplaceCases.{replaced_case}
+use Rattle.core_rule.specs.Edges.{IsReplaceEdge}
 
--- what an event makes of the mode of a node: it stays, or the node is spent and its link leads on as before, linked, taken, or
--- given back
-pub data Turn (sizes : Sizes) (past : List Event) (w : ℕ → ℕ) (x : ℕ) (v : Node) : Type 0 where
-  stays : v.mode ≡ (node_in sizes past x).mode → v.ended ≡ (node_in sizes past x).ended → v.tag ≡ (node_in sizes past x).tag → v.vertex ≡ (node_in sizes past x).vertex → Turn sizes past w x v
-  spends : (node_in sizes past x).mode ≡ Linked → v.mode ≡ Spent → v.ended ≡ (state sizes past).count + 1 → index_of (w (link_at sizes x)) ≡ index_of (word_at sizes past (link_at sizes x)) → Turn sizes past w x v
-  links : (node_in sizes past x).mode ≡ Fresh → v.mode ≡ Linked → Turn sizes past w x v
-  takes : (node_in sizes past x).mode ≡ Free → v.mode ≡ Fresh → Turn sizes past w x v
-  frees : (node_in sizes past x).mode ≡ Spent → v.mode ≡ Free → Turn sizes past w x v
+-- what an event makes of the mode of a node: it stays, or the node is spent and its link leads on as before or to the
+-- edge that replaces it, linked, taken, or given back
+pub data Turn (sizes : Sizes) (past : List Event) (e : Event) (w : ℕ → ℕ) (x : ℕ) (v : Node) : Type 0 where
+  stays : v.mode ≡ (node_in sizes past x).mode → v.ended ≡ (node_in sizes past x).ended → v.tag ≡ (node_in sizes past x).tag → v.vertex ≡ (node_in sizes past x).vertex → Turn sizes past e w x v
+  spends : (node_in sizes past x).mode ≡ Linked → v.mode ≡ Spent → v.ended ≡ (state sizes past).count + 1 → index_of (w (link_at sizes x)) ≡ index_of (word_at sizes past (link_at sizes x)) → Turn sizes past e w x v
+  swaps : e.kind ≡ ReplaceEdge → IsReplaceEdge sizes past e → x ≡ e.old.index → (node_in sizes past x).mode ≡ Linked → v.mode ≡ Spent → v.ended ≡ (state sizes past).count + 1 → w (link_at sizes x) ≡ e.word → Turn sizes past e w x v
+  links : (node_in sizes past x).mode ≡ Fresh → v.mode ≡ Linked → Turn sizes past e w x v
+  takes : (node_in sizes past x).mode ≡ Free → v.mode ≡ Fresh → Turn sizes past e w x v
+  frees : (node_in sizes past x).mode ≡ Spent → v.mode ≡ Free → Turn sizes past e w x v
 
 module _ (sizes : Sizes) (z : IsLayout sizes) (past : List Event) (e : Event) (kept : IsKept sizes past) (w : ℕ → ℕ) (a : IsAfter sizes past e w) where
   -- an event that only sets a mark leaves where words lead
@@ -34,18 +37,18 @@ module _ (sizes : Sizes) (z : IsLayout sizes) (past : List Event) (e : Event) (k
       (λ h. let here : w i ≡ e.word = ap w h ∙ a.here near in let old : word_at sizes past i ≡ word_at sizes past e.place = ap (word_at sizes past) h in omega (arith, here, old, is))
       (λ ne. ap index_of (a.else i ne))
 
-  turn_put : (i : ℕ) (v : Node) (x : ℕ) → (x ≡ i → Turn sizes past w x v) → Turn sizes past w x (put i v (state sizes past).node x)
-  turn_put i v x new = put_case (λ (u : Node). Turn sizes past w x u) i v (state sizes past).node x new (λ _. stays refl refl refl refl)
+  turn_put : (i : ℕ) (v : Node) (x : ℕ) → (x ≡ i → Turn sizes past e w x v) → Turn sizes past e w x (put i v (state sizes past).node x)
+  turn_put i v x new = put_case (λ (u : Node). Turn sizes past e w x u) i v (state sizes past).node x new (λ _. stays refl refl refl refl)
 
   mode_of : (x i : ℕ) (m : Mode) → x ≡ i → (node_in sizes past i).mode ≡ m → (node_in sizes past x).mode ≡ m
   mode_of x i m same is = ap (λ (y : ℕ). (node_in sizes past y).mode) same ∙ is
 
   -- a node of which something else changes
-  turn_same : (i x : ℕ) → x ≡ i → {marked stored : Bool} → Turn sizes past w x (record (node_in sizes past i) { marked = marked; stored = stored })
+  turn_same : (i x : ℕ) → x ≡ i → {marked stored : Bool} → Turn sizes past e w x (record (node_in sizes past i) { marked = marked; stored = stored })
   turn_same i x same = stays (ap (λ (y : ℕ). (node_in sizes past y).mode) (sym same)) (ap (λ (y : ℕ). (node_in sizes past y).ended) (sym same)) (ap (λ (y : ℕ). (node_in sizes past y).tag) (sym same)) (ap (λ (y : ℕ). (node_in sizes past y).vertex) (sym same))
 
   -- a node that is unlinked keeps its marked link
-  turn_cut : (i x : ℕ) (v : Node) → (node_in sizes past i).mode ≡ Linked → mark_of (word_at sizes past e.place) ≡ 0 → mark_of (word_at sizes past (link_at sizes i)) ≡ 1 → v.mode ≡ Spent → v.ended ≡ (state sizes past).count + 1 → Turn sizes past w x (put i v (state sizes past).node x)
+  turn_cut : (i x : ℕ) (v : Node) → (node_in sizes past i).mode ≡ Linked → mark_of (word_at sizes past e.place) ≡ 0 → mark_of (word_at sizes past (link_at sizes i)) ≡ 1 → v.mode ≡ Spent → v.ended ≡ (state sizes past).count + 1 → Turn sizes past e w x (put i v (state sizes past).node x)
   turn_cut i x v linked live dead spent end = turn_put i v x
       (λ same.
       let d : mark_of (word_at sizes past (link_at sizes x)) ≡ 1 = ap (λ (y : ℕ). mark_of (word_at sizes past (link_at sizes y))) same ∙ dead in
@@ -53,26 +56,34 @@ module _ (sizes : Sizes) (z : IsLayout sizes) (past : List Event) (e : Event) (k
       spends (mode_of x i Linked same linked) spent end (ap index_of (a.else (link_at sizes x) apart)))
 
   -- a node is marked, and the frozen part of a list is handed over
-  turn_marked : (i v x : ℕ) → e.word ≡ with_mark (word_at sizes past e.place) → e.place < word_count sizes → Turn sizes past w x ((handed v (marked_state (state sizes past) i)).node x)
-  turn_marked i v x is near = handed_case (λ (u : Node). Turn sizes past w x u) (marked_state (state sizes past) i) v x
-      (put_case (λ (u : Node). Turn sizes past w x u) i (record (node_in sizes past i) { marked = true }) (state sizes past).node x (λ same. turn_same i x same) (λ _. stays refl refl refl refl))
+  turn_marked : (i v x : ℕ) → e.word ≡ with_mark (word_at sizes past e.place) → e.place < word_count sizes → Turn sizes past e w x ((handed v (marked_state (state sizes past) i)).node x)
+  turn_marked i v x is near = handed_case (λ (u : Node). Turn sizes past e w x u) (marked_state (state sizes past) i) v x
+      (put_case (λ (u : Node). Turn sizes past e w x u) i (record (node_in sizes past i) { marked = true }) (state sizes past).node x (λ same. turn_same i x same) (λ _. stays refl refl refl refl))
       (λ m _ _. spends
       (put_case (λ (u : Node). u.mode ≡ Linked → (node_in sizes past x).mode ≡ Linked) i (record (node_in sizes past i) { marked = true }) (state sizes past).node x (λ same l. mode_of x i Linked same l) (λ _ l. l) m)
       refl refl (marks_lead is near (link_at sizes x)))
 
-  turn_by : (k : Kind) → AllowedAs k sizes past e → (x : ℕ) → Turn sizes past w x ((state_by k sizes e (state sizes past)).node x)
-  turn_by PopFree ok x = turn_put e.life.index _ x (λ same. takes (mode_of x e.life.index Free same (taken sizes z past e kept ok).free) refl)
-  turn_by LinkVertex ok x = turn_put e.life.index _ x (λ same. links (mode_of x e.life.index Fresh same ok.fresh.fresh) refl)
-  turn_by LinkEdge ok x = turn_put e.life.index _ x (λ same. links (mode_of x e.life.index Fresh same ok.fresh.fresh) refl)
-  turn_by MarkVertex ok x = turn_put e.life.index _ x (λ same. turn_same e.life.index x same)
-  turn_by StoreFree ok x = turn_put e.life.index _ x (λ same. turn_same e.life.index x same)
-  turn_by UnlinkVertex ok x = turn_cut e.life.index x _ ok.linked.linked ok.unmarked ok.dead refl refl
-  turn_by UnlinkEdge ok x = turn_cut e.life.index x _ ok.linked.linked ok.unmarked ok.dead refl refl
-  turn_by PushFree ok x = turn_put e.life.index _ x (λ same. frees (mode_of x e.life.index Spent same ok.ripe.stamped.spent.spent) refl)
-  turn_by MarkEdge ok x = turn_marked e.life.index (node_in sizes past e.life.index).source.index x ok.word (omega (arith, ok.place, ok.there))
-  turn_by FreezeEdge ok x = turn_marked e.life.index (node_in sizes past e.life.index).source.index x ok.word (omega (arith, ok.place, ok.there))
-  turn_by FreezeHead ok x = handed_case (λ (u : Node). Turn sizes past w x u) (closed_state (state sizes past) e.life.index) e.life.index x (stays refl refl refl refl) (λ m _ _. spends m refl refl (marks_lead ok.word (omega (arith, ok.place, ok.there)) (link_at sizes x)))
-  turn_by _ ok x = stays refl refl refl refl
+  turn_by : (k : Kind) → e.kind ≡ k → AllowedAs k sizes past e → (x : ℕ) → Turn sizes past e w x ((state_by k sizes e (state sizes past)).node x)
+  turn_by PopFree is ok x = turn_put e.life.index _ x (λ same. takes (mode_of x e.life.index Free same (taken sizes z past e kept ok).free) refl)
+  turn_by LinkVertex is ok x = turn_put e.life.index _ x (λ same. links (mode_of x e.life.index Fresh same ok.fresh.fresh) refl)
+  turn_by LinkEdge is ok x = turn_put e.life.index _ x (λ same. links (mode_of x e.life.index Fresh same ok.fresh.fresh) refl)
+  turn_by MarkVertex is ok x = turn_put e.life.index _ x (λ same. turn_same e.life.index x same)
+  turn_by StoreFree is ok x = turn_put e.life.index _ x (λ same. turn_same e.life.index x same)
+  turn_by UnlinkVertex is ok x = turn_cut e.life.index x _ ok.linked.linked ok.unmarked ok.dead refl refl
+  turn_by UnlinkEdge is ok x = turn_cut e.life.index x _ ok.linked.linked ok.unmarked ok.dead refl refl
+  turn_by PushFree is ok x = turn_put e.life.index _ x (λ same. frees (mode_of x e.life.index Spent same ok.ripe.stamped.spent.spent) refl)
+  turn_by ReplaceEdge is ok x = replaced_case sizes z past e kept ok (λ (u : Node). Turn sizes past e w x u) x
+      (λ same. links (mode_of x e.life.index Fresh same ok.fresh.fresh) refl)
+      (λ _. put_case (λ (u : Node). Turn sizes past e w x u) e.old.index (record (node_in sizes past e.old.index) { marked = true }) (state sizes past).node x (λ same. turn_same e.old.index x same) (λ _. stays refl refl refl refl))
+      (λ _ m _ _.
+      let was : (node_in sizes past x).mode ≡ Linked = put_case (λ (u : Node). u.mode ≡ Linked → (node_in sizes past x).mode ≡ Linked) e.old.index (record (node_in sizes past e.old.index) { marked = true }) (state sizes past).node x (λ same l. mode_of x e.old.index Linked same l) (λ _ l. l) m in
+      dite (ℕ_discrete x e.old.index)
+      (λ same. swaps is ok same was refl refl (ap (λ (y : ℕ). w (link_at sizes y)) same ∙ (ap w (sym ok.place) ∙ a.here (omega (arith, ok.place, ok.old_there)))))
+      (λ ne. spends was refl refl (ap index_of (a.else (link_at sizes x) (λ h. ne (omega (arith, h, ok.place)))))))
+  turn_by MarkEdge is ok x = turn_marked e.life.index (node_in sizes past e.life.index).source.index x ok.word (omega (arith, ok.place, ok.there))
+  turn_by FreezeEdge is ok x = turn_marked e.life.index (node_in sizes past e.life.index).source.index x ok.word (omega (arith, ok.place, ok.there))
+  turn_by FreezeHead is ok x = handed_case (λ (u : Node). Turn sizes past e w x u) (closed_state (state sizes past) e.life.index) e.life.index x (stays refl refl refl refl) (λ m _ _. spends m refl refl (marks_lead ok.word (omega (arith, ok.place, ok.there)) (link_at sizes x)))
+  turn_by _ is ok x = stays refl refl refl refl
 
   -- a list that is closed by an event is that of a spent vertex, and its head leads on as before
   pub record IsClosing (x : ℕ) : Type 0 where
@@ -112,6 +123,12 @@ module _ (sizes : Sizes) (z : IsLayout sizes) (past : List Event) (e : Event) (k
   stored_by StoreFree ok x h = put_case (λ (u : Node). u.stored ≡ true → ((node_in sizes past x).stored ≡ true) ⊎ IsRipe sizes past e.caller x) e.life.index _ (state sizes past).node x
       (λ same _. inr (subst (IsRipe sizes past e.caller) (sym same) ok.ripe)) (λ _ t. inl t) h
   stored_by MarkEdge ok x h = inl (stored_marked e.life.index (node_in sizes past e.life.index).source.index x h)
+  stored_by ReplaceEdge ok x h =
+      let j : State = joined_edge sizes e (state sizes past) in
+      let one = handed_case (λ (u : Node). u.stored ≡ true → (j.node x).stored ≡ true) (marked_state j e.old.index) (j.node e.old.index).source.index x
+      (put_case (λ (u : Node). u.stored ≡ true → (j.node x).stored ≡ true) e.old.index (record (j.node e.old.index) { marked = true }) j.node x (λ same t. ap (λ (y : ℕ). (j.node y).stored) same ∙ t) (λ _ t. t))
+      (λ _ _ _. put_case (λ (u : Node). u.stored ≡ true → (j.node x).stored ≡ true) e.old.index (record (j.node e.old.index) { marked = true }) j.node x (λ same t. ap (λ (y : ℕ). (j.node y).stored) same ∙ t) (λ _ t. t)) h in
+      inl (stored_put e.life.index _ x (λ t. t) one)
   stored_by FreezeEdge ok x h = inl (stored_marked e.life.index (node_in sizes past e.life.index).source.index x h)
   stored_by FreezeHead ok x h = inl (handed_case (λ (u : Node). u.stored ≡ true → (node_in sizes past x).stored ≡ true) (closed_state (state sizes past) e.life.index) e.life.index x (λ t. t) (λ _ _ _ t. t) h)
   stored_by _ ok x h = inl h
@@ -137,9 +154,9 @@ pass_by _ sizes past e i o = inl record { open_before = o; since = refl }
 
 -- the same from journal to journal
 module _ (sizes : Sizes) (z : IsLayout sizes) (past : List Event) (e : Event) (kept : IsKept sizes past) (ok : Allowed sizes past e) where
-  pub turn : (x : ℕ) → Turn sizes past (word_at sizes (past ++ e ∷ [])) x (node_in sizes (past ++ e ∷ []) x)
-  turn x = subst (λ (s : State). Turn sizes past (word_at sizes (past ++ e ∷ [])) x (s.node x)) (sym (state-snoc sizes past e))
-      (turn_by sizes z past e kept (word_at sizes (past ++ e ∷ [])) (after_event sizes past e) e.kind ok.as_kind x)
+  pub turn : (x : ℕ) → Turn sizes past e (word_at sizes (past ++ e ∷ [])) x (node_in sizes (past ++ e ∷ []) x)
+  turn x = subst (λ (s : State). Turn sizes past e (word_at sizes (past ++ e ∷ [])) x (s.node x)) (sym (state-snoc sizes past e))
+      (turn_by sizes z past e kept (word_at sizes (past ++ e ∷ [])) (after_event sizes past e) e.kind refl ok.as_kind x)
 
   pub closing : (x : ℕ) → (state sizes past).frozen x ≡ false → (state sizes (past ++ e ∷ [])).frozen x ≡ true → IsClosing sizes z past e kept (word_at sizes (past ++ e ∷ [])) (after_event sizes past e) x
   closing x open_ h = closing_by sizes z past e kept (word_at sizes (past ++ e ∷ [])) (after_event sizes past e) e.kind ok.as_kind x open_

@@ -1,17 +1,17 @@
 -- What a node says of its life is what the events of the journal say.
-use Rattle.std.proofs.Common.{◌≡◌, ℕ, ◌<◌, Bool, true, false, cond, ◌&&◌, ◌||◌, List, [], ◌∷◌, ◌++◌, length, filter, find, Option, Some, None, refl, sym, ap, ◌∙◌, subst, arith}
+use Rattle.std.proofs.Common.{◌≡◌, ◌≢◌, ℕ, ◌<◌, Bool, true, false, cond, ◌&&◌, ◌||◌, List, [], ◌∷◌, ◌++◌, length, filter, find, Option, Some, None, refl, sym, ap, ◌∙◌, subst, arith}
 use Rattle.std.specs.Prelude.{option_map}
 use Rattle.std.specs.List.{list_any}
 use Rattle.packed_link.specs.Layout.{Sizes, IsLayout}
 use Rattle.packed_link.specs.declared.link.Life.{Life}
 use Rattle.core_journal.specs.declared.event.Kind.{Kind}
-use Rattle.core_journal.specs.declared.event.Kind.TheVariants.{PopFree, LinkVertex, MarkVertex, UnlinkVertex, LinkEdge, MarkEdge, UnlinkEdge, FreezeHead, FreezeEdge, StoreFree, PushFree}
+use Rattle.core_journal.specs.declared.event.Kind.TheVariants.{PopFree, LinkVertex, MarkVertex, UnlinkVertex, LinkEdge, MarkEdge, UnlinkEdge, FreezeHead, FreezeEdge, StoreFree, PushFree, ReplaceEdge}
 use Rattle.core_journal.specs.declared.event.Event.{Event}
-use Rattle.core_journal.specs.Event.{same_life, links_vertex, marks_vertex, links_edge, marks_edge}
+use Rattle.core_journal.specs.Event.{same_life, links_vertex, marks_vertex, links_edge, marks_edge, cuts_edge, cut_life, replaces}
 use Rattle.core_journal.specs.Changes.{is_idle}
 use Rattle.core_journal.specs.Life.{key_of, link_of, vertex_marked, edge_marked}
-use Rattle.core_journal.specs.State.{Fresh, Linked, Spent, Node, State, put, handed, state}
-use Rattle.core_journal.proofs.Snoc.{find_last, idle_is, key_skip, key_else, link_skip, link_else, marked_skip, marked_else, marked_here, cut_skip, cut_else, cut_here}
+use Rattle.core_journal.specs.State.{Fresh, Linked, Spent, Node, State, put, handed, state_by, state}
+use Rattle.core_journal.proofs.Snoc.{find_last, idle_is, key_skip, key_else, link_skip, link_else, marked_skip, marked_else, marked_here, cut_skip, cut_else, cut_here, own_here}
 use Rattle.core_rule.specs.Counts.{about}
 use Rattle.core_rule.specs.Kept.{IsKept}
 use Rattle.core_rule.specs.Nodes.{node_in, IsUsed}
@@ -19,6 +19,8 @@ use Rattle.core_rule.specs.Facts.{IsNewLife, IsNamed, Named}
 use Rattle.core_rule.proofs.Steps.{KeepsIn, put_case, handed_case, marked_state, closed_state, all_in}
 use Rattle.core_rule.proofs.LinkWords.{link_words, taken}
 use Rattle.core_rule.proofs.Lives.{other_index, this_life, lives}
+use Rattle.core_rule.proofs.ReplaceCases.{new_edge_node, new_unmarked, replaced_case}
+use Rattle.core_rule.proofs.Replaced.{old_apart}
 
 -- where no event of some kinds is about a life, none is found
 none_about : (test : Kind → Bool) (x : Life) (journal : List Event) → about test x journal ≡ 0 → find (λ (e : Event). test e.kind && same_life x e.life) journal ≡ None
@@ -37,13 +39,13 @@ none_any test x (e ∷ es) h = by (none_any test x es) (test e.kind && same_life
     by more true h = absurd (omega (arith, h))
     by more false h = more h
 
-new_life : (journal : List Event) (x : Life) → ((test : Kind → Bool) → about test x journal ≡ 0) → IsNewLife journal x
+new_life : (journal : List Event) (x : Life) → ((test : Kind → Bool) → about test x journal ≡ 0) → edge_marked journal x ≡ false → IsNewLife journal x
 unfolding key_of link_of
-new_life journal x h = record {
+new_life journal x h cut = record {
   key = ap (option_map (λ (e : Event). e.key)) (none_about links_vertex x journal (h links_vertex));
   link = none_about links_edge x journal (h links_edge);
   vertex = none_any marks_vertex x journal (h marks_vertex);
-  edge = none_any marks_edge x journal (h marks_edge);
+  edge = cut;
 }
 
 -- a longer journal tells the same of a life
@@ -53,8 +55,8 @@ record IsSameTold (past longer : List Event) (x : Life) : Type 0 where
   pub vertex : vertex_marked longer x ≡ vertex_marked past x
   pub edge : edge_marked longer x ≡ edge_marked past x
 
-told_else : (past : List Event) (e : Event) (x : Life) → same_life x e.life ≡ false → IsSameTold past (past ++ e ∷ []) x
-told_else past e x h = record { key = key_else past e x h; link = link_else past e x h; vertex = marked_else past e x h; edge = cut_else past e x h }
+told_else : (past : List Event) (e : Event) (x : Life) → same_life x e.life ≡ false → same_life x (cut_life e) ≡ false → IsSameTold past (past ++ e ∷ []) x
+told_else past e x h g = record { key = key_else past e x h; link = link_else past e x h; vertex = marked_else past e x h; edge = cut_else past e x g }
 
 told_idle : (past : List Event) (e : Event) (x : Life) → is_idle e.kind ≡ true → IsSameTold past (past ++ e ∷ []) x
 told_idle past e x h = let i = idle_is e.kind h in record { key = key_skip past e i.links x; link = link_skip past e i.joins x; vertex = marked_skip past e i.marks x; edge = cut_skip past e i.cuts x }
@@ -92,10 +94,10 @@ spent_name : (v : Node) (who ended epoch : ℕ) → v.mode ≡ Linked → IsSame
 spent_name v who ended epoch m = record { used = λ _. subst IsUsed (sym m) tt; fresh = λ h. absurd (cc); vertex = refl; marked = refl; key = refl; source = refl; target = refl; weight = refl; tag = refl }
 
 -- the node that an event is about changes, and no event tells anything of another
-put_named : (sizes : Sizes) (past : List Event) (e : Event) (v : Node) → Named sizes past (state sizes past) → (e.life.index < sizes.nodes → IsNamed (past ++ e ∷ []) v e.life.index) → (x : ℕ) → x < sizes.nodes → IsNamed (past ++ e ∷ []) (put e.life.index v (state sizes past).node x) x
-put_named sizes past e v c new x t = put_case (λ (u : Node). IsNamed (past ++ e ∷ []) u x) e.life.index v (state sizes past).node x
+put_named : (sizes : Sizes) (past : List Event) (e : Event) (v : Node) → cut_life e ≡ e.life → Named sizes past (state sizes past) → (e.life.index < sizes.nodes → IsNamed (past ++ e ∷ []) v e.life.index) → (x : ℕ) → x < sizes.nodes → IsNamed (past ++ e ∷ []) (put e.life.index v (state sizes past).node x) x
+put_named sizes past e v own c new x t = put_case (λ (u : Node). IsNamed (past ++ e ∷ []) u x) e.life.index v (state sizes past).node x
     (λ same. subst (λ (y : ℕ). IsNamed (past ++ e ∷ []) v y) (sym same) (new (omega (arith, same, t))))
-    (λ ne. named_same past (past ++ e ∷ []) _ _ x (told_else past e _ (other_index _ e.life ne)) (same_name (node_in sizes past x)) (c.each x t))
+    (λ ne. named_same past (past ++ e ∷ []) _ _ x (told_else past e _ (other_index _ e.life ne) (ap (same_life _) own ∙ other_index _ e.life ne)) (same_name (node_in sizes past x)) (c.each x t))
 
 handed_named : (sizes : Sizes) (journal : List Event) (s : State) (v : ℕ) → Named sizes journal s → Named sizes journal (handed v s)
 handed_named sizes journal s v c = record {
@@ -128,26 +130,27 @@ cut_now past e v m edge life links cuts c =
       vertex_key = λ _ h. absurd (cc);
       vertex_mark = λ _ h. absurd (cc);
       edge_link = λ u b. let d = c.edge_link u b in record { link = d.link; is = link_skip past e links L ∙ d.is; from = d.from; to = d.to; of_key = d.of_key; of_weight = d.of_weight };
-      edge_mark = λ _ _. subst (λ (y : Life). edge_marked (past ++ e ∷ []) y ≡ true) (life_is e.life e.life.index v.tag refl life) (cut_here past e cuts);
+      edge_mark = λ _ _. subst (λ (y : Life). edge_marked (past ++ e ∷ []) y ≡ true) (life_is e.life e.life.index v.tag refl life) (own_here past e cuts);
       new = λ h. absurd (cc);
     }
 
 named_step : (sizes : Sizes) → IsLayout sizes → KeepsIn sizes (λ (j : List Event) (s : State) (w : ℕ → ℕ). Named sizes j s)
 named_step sizes z past e kept c PopFree is ok w a = record {
-  each = put_named sizes past e _ c (λ t. record {
+  each = put_named sizes past e _ (ap (λ (k : Kind). cond (replaces k) e.old e.life) is) c (λ t. record {
     vertex_key = λ u _. absurd u;
     vertex_mark = λ u _. absurd u;
     edge_link = λ u _. absurd u;
     edge_mark = λ u _. absurd u;
     new = λ _.
         let y : Life = record { index = e.life.index; tag = e.life.tag } in
-        let d = new_life past y (λ test. (lives sizes z past kept).later test y (omega (arith, (taken sizes z past e kept ok).tag))) in
+        let later = (taken sizes z past e kept ok).tag in
+        let d = new_life past y (λ test. (lives sizes z past kept).later test y (omega (arith, later))) ((lives sizes z past kept).cut y (omega (arith, later))) in
         let s = told_idle past e y (ap is_idle is) in
         record { key = s.key ∙ d.key; link = s.link ∙ d.link; vertex = s.vertex ∙ d.vertex; edge = s.edge ∙ d.edge };
   });
 }
 named_step sizes z past e kept c LinkVertex is ok w a = record {
-  each = put_named sizes past e _ c (λ t.
+  each = put_named sizes past e _ (ap (λ (k : Kind). cond (replaces k) e.old e.life) is) c (λ t.
       let L : Life = record { index = e.life.index; tag = (node_in sizes past e.life.index).tag } in
       let d = (c.each e.life.index t).new ok.fresh.fresh in
       let u = (((link_words sizes z past kept).each e.life.index t).unmarked ok.fresh.fresh).0 in
@@ -160,7 +163,7 @@ named_step sizes z past e kept c LinkVertex is ok w a = record {
       });
 }
 named_step sizes z past e kept c LinkEdge is ok w a = record {
-  each = put_named sizes past e _ c (λ t.
+  each = put_named sizes past e _ (ap (λ (k : Kind). cond (replaces k) e.old e.life) is) c (λ t.
       let L : Life = record { index = e.life.index; tag = (node_in sizes past e.life.index).tag } in
       let d = (c.each e.life.index t).new ok.fresh.fresh in
       let u = (((link_words sizes z past kept).each e.life.index t).unmarked ok.fresh.fresh).0 in
@@ -168,12 +171,12 @@ named_step sizes z past e kept c LinkEdge is ok w a = record {
         vertex_key = λ _ h. absurd (cc);
         vertex_mark = λ _ h. absurd (cc);
         edge_link = λ _ _. record { link = e; is = link_first past e L d.link (ap links_edge is) (this_life L e.life refl (sym ok.life)); from = refl; to = refl; of_key = refl; of_weight = refl };
-        edge_mark = λ _ _. cut_skip past e (ap marks_edge is) L ∙ (d.edge ∙ sym u);
+        edge_mark = λ _ _. cut_skip past e (ap cuts_edge is) L ∙ (d.edge ∙ sym u);
         new = λ h. absurd (cc);
       });
 }
 named_step sizes z past e kept c MarkVertex is ok w a = record {
-  each = put_named sizes past e _ c (λ t.
+  each = put_named sizes past e _ (ap (λ (k : Kind). cond (replaces k) e.old e.life) is) c (λ t.
       let L : Life = record { index = e.life.index; tag = (node_in sizes past e.life.index).tag } in
       let m = ok.linked.linked in
       let v = ok.linked.vertex in
@@ -185,23 +188,75 @@ named_step sizes z past e kept c MarkVertex is ok w a = record {
         new = λ h. absurd (cc);
       });
 }
+named_step sizes z past e kept c ReplaceEdge is ok w a = record { each = λ x t. by x t }
+  where
+    J : List Event
+    J = past ++ e ∷ []
+
+    new : Node
+    new = new_edge_node (node_in sizes past e.life.index) e (state sizes past).count
+
+    old : Node
+    old = record (node_in sizes past e.old.index) { marked = true }
+
+    which : cut_life e ≡ e.old
+    which = ap (λ (k : Kind). cond (replaces k) e.old e.life) is
+
+    linked_now : IsNamed J new e.life.index
+    linked_now =
+        let L : Life = record { index = e.life.index; tag = (node_in sizes past e.life.index).tag } in
+        let d = (c.each e.life.index ok.there).new ok.fresh.fresh in
+        record {
+          vertex_key = λ _ h. absurd (cc);
+          vertex_mark = λ _ h. absurd (cc);
+          edge_link = λ _ _. record { link = e; is = link_first past e L d.link (ap links_edge is) (this_life L e.life refl (sym ok.life)); from = refl; to = refl; of_key = refl; of_weight = refl };
+          edge_mark = λ _ _. cut_else past e L (ap (same_life L) which ∙ other_index L e.old (λ h. old_apart sizes past e ok (sym h))) ∙ (d.edge ∙ sym (new_unmarked sizes z past e kept ok));
+          new = λ h. absurd (cc);
+        }
+
+    marked_now : IsNamed J old e.old.index
+    marked_now =
+        let L : Life = record { index = e.old.index; tag = (node_in sizes past e.old.index).tag } in
+        let m = ok.linked.linked in
+        let v = ok.linked.edge in
+        record {
+          vertex_key = λ _ h. absurd (cc);
+          vertex_mark = λ _ h. absurd (cc);
+          edge_link = λ u b.
+              let d = (c.each e.old.index ok.old_there).edge_link u b in
+              record { link = d.link; is = link_else past e L (other_index L e.life (old_apart sizes past e ok)) ∙ d.is; from = d.from; to = d.to; of_key = d.of_key; of_weight = d.of_weight };
+          edge_mark = λ _ _. subst (λ (y : Life). edge_marked J y ≡ true) (which ∙ life_is e.old e.old.index (node_in sizes past e.old.index).tag refl ok.old_life) (cut_here past e (ap cuts_edge is));
+          new = λ h. absurd (cc);
+        }
+
+    before : (x : ℕ) → x < sizes.nodes → x ≢ e.life.index → IsNamed J ((marked_state (state sizes past) e.old.index).node x) x
+    before x t ne = put_case (λ (u : Node). IsNamed J u x) e.old.index old (state sizes past).node x
+        (λ same. subst (λ (y : ℕ). IsNamed J old y) (sym same) marked_now)
+        (λ other. named_same past J _ _ x (told_else past e _ (other_index _ e.life ne) (ap (same_life _) which ∙ other_index _ e.old other)) (same_name (node_in sizes past x)) (c.each x t))
+
+    by : (x : ℕ) → x < sizes.nodes → IsNamed J ((state_by ReplaceEdge sizes e (state sizes past)).node x) x
+    by x t = replaced_case sizes z past e kept ok (λ (u : Node). IsNamed J u x) x
+        (λ same. subst (λ (y : ℕ). IsNamed J new y) (sym same) linked_now)
+        (λ ne. before x t ne)
+        (λ ne m _ _. named_same J J ((marked_state (state sizes past) e.old.index).node x) _ x record { key = refl; link = refl; vertex = refl; edge = refl }
+        (spent_name ((marked_state (state sizes past) e.old.index).node x) _ _ _ m) (before x t ne))
 named_step sizes z past e kept c MarkEdge is ok w a = handed_named sizes (past ++ e ∷ []) (marked_state (state sizes past) e.life.index) (node_in sizes past e.life.index).source.index record {
-  each = put_named sizes past e _ c (λ t. cut_now past e (node_in sizes past e.life.index) ok.linked.linked ok.linked.edge ok.life (ap links_edge is) (ap marks_edge is) (c.each e.life.index t));
+  each = put_named sizes past e _ (ap (λ (k : Kind). cond (replaces k) e.old e.life) is) c (λ t. cut_now past e (node_in sizes past e.life.index) ok.linked.linked ok.linked.edge ok.life (ap links_edge is) (ap marks_edge is) (c.each e.life.index t));
 }
 named_step sizes z past e kept c FreezeEdge is ok w a = handed_named sizes (past ++ e ∷ []) (marked_state (state sizes past) e.life.index) (node_in sizes past e.life.index).source.index record {
-  each = put_named sizes past e _ c (λ t. cut_now past e (node_in sizes past e.life.index) ok.linked.linked ok.linked.edge ok.life (ap links_edge is) (ap marks_edge is) (c.each e.life.index t));
+  each = put_named sizes past e _ (ap (λ (k : Kind). cond (replaces k) e.old e.life) is) c (λ t. cut_now past e (node_in sizes past e.life.index) ok.linked.linked ok.linked.edge ok.life (ap links_edge is) (ap marks_edge is) (c.each e.life.index t));
 }
 named_step sizes z past e kept c UnlinkVertex is ok w a = record {
-  each = put_named sizes past e _ c (λ t. named_same past (past ++ e ∷ []) (node_in sizes past e.life.index) _ e.life.index (told_idle past e _ (ap is_idle is)) (spent_name (node_in sizes past e.life.index) _ _ _ ok.linked.linked) (c.each e.life.index t));
+  each = put_named sizes past e _ (ap (λ (k : Kind). cond (replaces k) e.old e.life) is) c (λ t. named_same past (past ++ e ∷ []) (node_in sizes past e.life.index) _ e.life.index (told_idle past e _ (ap is_idle is)) (spent_name (node_in sizes past e.life.index) _ _ _ ok.linked.linked) (c.each e.life.index t));
 }
 named_step sizes z past e kept c UnlinkEdge is ok w a = record {
-  each = put_named sizes past e _ c (λ t. named_same past (past ++ e ∷ []) (node_in sizes past e.life.index) _ e.life.index (told_idle past e _ (ap is_idle is)) (spent_name (node_in sizes past e.life.index) _ _ _ ok.linked.linked) (c.each e.life.index t));
+  each = put_named sizes past e _ (ap (λ (k : Kind). cond (replaces k) e.old e.life) is) c (λ t. named_same past (past ++ e ∷ []) (node_in sizes past e.life.index) _ e.life.index (told_idle past e _ (ap is_idle is)) (spent_name (node_in sizes past e.life.index) _ _ _ ok.linked.linked) (c.each e.life.index t));
 }
 named_step sizes z past e kept c StoreFree is ok w a = record {
-  each = put_named sizes past e _ c (λ t. named_same past (past ++ e ∷ []) (node_in sizes past e.life.index) _ e.life.index (told_idle past e _ (ap is_idle is)) record { used = λ u. u; fresh = λ m. m; vertex = refl; marked = refl; key = refl; source = refl; target = refl; weight = refl; tag = refl } (c.each e.life.index t));
+  each = put_named sizes past e _ (ap (λ (k : Kind). cond (replaces k) e.old e.life) is) c (λ t. named_same past (past ++ e ∷ []) (node_in sizes past e.life.index) _ e.life.index (told_idle past e _ (ap is_idle is)) record { used = λ u. u; fresh = λ m. m; vertex = refl; marked = refl; key = refl; source = refl; target = refl; weight = refl; tag = refl } (c.each e.life.index t));
 }
 named_step sizes z past e kept c PushFree is ok w a = record {
-  each = put_named sizes past e _ c (λ t. named_same past (past ++ e ∷ []) (node_in sizes past e.life.index) _ e.life.index (told_idle past e _ (ap is_idle is)) record { used = λ u. absurd u; fresh = λ h. absurd (cc); vertex = refl; marked = refl; key = refl; source = refl; target = refl; weight = refl; tag = refl } (c.each e.life.index t));
+  each = put_named sizes past e _ (ap (λ (k : Kind). cond (replaces k) e.old e.life) is) c (λ t. named_same past (past ++ e ∷ []) (node_in sizes past e.life.index) _ e.life.index (told_idle past e _ (ap is_idle is)) record { used = λ u. absurd u; fresh = λ h. absurd (cc); vertex = refl; marked = refl; key = refl; source = refl; target = refl; weight = refl; tag = refl } (c.each e.life.index t));
 }
 named_step sizes z past e kept c FreezeHead is ok w a = handed_named sizes (past ++ e ∷ []) (closed_state (state sizes past) e.life.index) e.life.index record {
   each = λ x t. named_same past (past ++ e ∷ []) _ _ x (told_idle past e _ (ap is_idle is)) (same_name (node_in sizes past x)) (c.each x t);

@@ -1,12 +1,13 @@
 -- A number that was drawn last is nowhere in the state yet, and its caller made no event before.
 use Rattle.std.proofs.Common.{◌≡◌, ◌≢◌, ◌⊎◌, ℕ, ◌+◌, ◌<◌, ◌≤◌, Bool, true, false, List, [], ◌∷◌, ◌++◌, refl, sym, ap, ◌∙◌, subst, arith, inl, inr, ⊎_elim}
 use Rattle.packed_link.specs.Layout.{Sizes}
+use Rattle.core_journal.specs.Event.{draws}
 use Rattle.core_journal.specs.declared.event.Kind.{Kind}
-use Rattle.core_journal.specs.declared.event.Kind.TheVariants.{DrawNumber, PopFree, LinkVertex, MarkVertex, UnlinkVertex, LinkEdge, MarkEdge, UnlinkEdge, Announce, Withdraw, FreezeHead, FreezeEdge, StoreFree, PushFree}
+use Rattle.core_journal.specs.declared.event.Kind.TheVariants.{DrawNumber, PopFree, LinkVertex, MarkVertex, UnlinkVertex, LinkEdge, MarkEdge, UnlinkEdge, Announce, Withdraw, FreezeHead, FreezeEdge, StoreFree, PushFree, ReplaceEdge}
 use Rattle.core_journal.specs.declared.event.Event.{Event}
-use Rattle.core_journal.specs.State.{Free, Pass, Node, State, put, handed, state_by, state}
+use Rattle.core_journal.specs.State.{Free, Pass, Node, State, put, handed, state_by, state, joined_edge}
 use Rattle.core_journal.specs.Reuse.{pass_in}
-use Rattle.core_rule.specs.Counts.{draws, made}
+use Rattle.core_rule.specs.Counts.{made}
 use Rattle.core_rule.specs.Kept.{IsKept, IsQuiet}
 use Rattle.core_rule.specs.Nodes.{node_in, IsFreshWith, IsSpentWith}
 use Rattle.core_rule.proofs.Called.{called, made_quiet, made_none}
@@ -47,6 +48,11 @@ who_by PushFree d sizes e s by c x = put_who s e.life.index _ x (λ h. h) (c x) 
 who_by MarkEdge d sizes e s by c x =
     let m : (y : ℕ) → IsOld s.drawn ((marked_state s e.life.index).node y).who = λ y. put_who s e.life.index (record (s.node e.life.index) { marked = true }) y (λ h. h) (c y) (c e.life.index) in
     handed_who (marked_state s e.life.index) (s.node e.life.index).source.index x (m (s.node e.life.index).source.index) (m x)
+who_by ReplaceEdge d sizes e s by c x =
+    let t : State = joined_edge sizes e s in
+    let j : (y : ℕ) → IsOld s.drawn (t.node y).who = λ y. put_who s e.life.index _ y (λ h. h) (c y) (c e.life.index) in
+    let m : (y : ℕ) → IsOld s.drawn ((marked_state t e.old.index).node y).who = λ y. put_who t e.old.index (record (t.node e.old.index) { marked = true }) y (λ h. h) (j y) (j e.old.index) in
+    handed_who (marked_state t e.old.index) (t.node e.old.index).source.index x (m (t.node e.old.index).source.index) (m x)
 who_by FreezeEdge d sizes e s by c x =
     let m : (y : ℕ) → IsOld s.drawn ((marked_state s e.life.index).node y).who = λ y. put_who s e.life.index (record (s.node e.life.index) { marked = true }) y (λ h. h) (c y) (c e.life.index) in
     handed_who (marked_state s e.life.index) (s.node e.life.index).source.index x (m (s.node e.life.index).source.index) (m x)

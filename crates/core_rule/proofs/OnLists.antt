@@ -1,6 +1,6 @@
 -- Each linked edge on the list of a vertex has that vertex, in its present life, as its source; and a list that is closed was
 -- closed in that life.
-use Rattle.std.proofs.Common.{◌≡◌, ◌≢◌, ℕ, ◌⊎◌, Bool, true, false, cond, not, ◌&&◌, ◌||◌, List, [], ◌∷◌, ◌++◌, refl, sym, ap, ◌∙◌, subst, arith, ⊎_elim, inl, inr, eqb-true, eq-eqb}
+use Rattle.std.proofs.Common.{◌≡◌, ◌≢◌, ℕ, ◌⊎◌, Bool, true, false, cond, not, ◌&&◌, ◌||◌, List, [], ◌∷◌, ◌++◌, refl, sym, ap, ◌∙◌, subst, arith, ⊎_elim, inl, inr, eqb-true, eq-eqb, ◌+◌}
 use Rattle.std.specs.Prelude.{take_while, ◌==◌}
 use Rattle.std.specs.List.{list_any}
 use Rattle.std.proofs.lemmas.List.Sums.{take_while-cons}
@@ -9,19 +9,20 @@ use native.Mathlib.Decide.{ℕ_discrete}
 use Rattle.packed_link.specs.Layout.{Sizes, IsLayout, link_at, second_at}
 use Rattle.packed_link.specs.declared.link.Life.{Life}
 use Rattle.core_journal.specs.declared.event.Kind.{Kind}
-use Rattle.core_journal.specs.declared.event.Kind.TheVariants.{PopFree, LinkVertex, MarkVertex, UnlinkVertex, LinkEdge, MarkEdge, UnlinkEdge, FreezeHead, FreezeEdge, StoreFree, PushFree}
+use Rattle.core_journal.specs.declared.event.Kind.TheVariants.{PopFree, LinkVertex, MarkVertex, UnlinkVertex, LinkEdge, MarkEdge, UnlinkEdge, FreezeHead, FreezeEdge, StoreFree, PushFree, ReplaceEdge}
 use Rattle.core_journal.specs.declared.event.Event.{Event}
 use Rattle.core_journal.specs.Event.{freezes_head, same_life}
 use Rattle.core_journal.specs.Life.{head_frozen}
-use Rattle.core_journal.specs.State.{Fresh, Linked, Spent, Node, State, put, put_behind, linked_in, unlinked_from, handed, frozen_part, state_by, state}
+use Rattle.core_journal.specs.State.{Fresh, Linked, Spent, Node, State, put, put_behind, linked_in, unlinked_from, handed, frozen_part, joined_edge, state_by, state}
 use Rattle.core_journal.proofs.Lists.{any_more}
 use Rattle.core_journal.proofs.Snoc.{any_last, same_self}
 use Rattle.core_rule.specs.Kept.{IsKept}
 use Rattle.core_rule.specs.Nodes.{node_in}
-use Rattle.core_rule.specs.Edges.{IsLinkEdge}
+use Rattle.core_rule.specs.Edges.{IsLinkEdge, IsReplaceEdge}
 use Rattle.core_rule.proofs.Steps.{KeepsIn, put_case, put_both, put_same, put_other, handed_case, marked_state, closed_state, all_in}
 use Rattle.core_rule.proofs.Lives.{same_tag}
 use Rattle.core_rule.proofs.Named.{life_is}
+use Rattle.core_rule.proofs.ReplaceCases.{new_edge_node}
 
 -- a node stands on a list
 abbrev pub On : List ℕ → ℕ → Type 0
@@ -182,7 +183,7 @@ listed_taken sizes e s c =
 listed_linked : (sizes : Sizes) (past : List Event) (e : Event) → IsLinkEdge sizes past e → Listed (state sizes past) → Listed (state_by LinkEdge sizes e (state sizes past))
 listed_linked sizes past e ok c =
     let s : State = state sizes past in
-    let v : Node = record (s.node e.life.index) { mode = Linked; vertex = false; key = e.key; source = e.source; target = e.target; weight = e.weight } in
+    let v : Node = record (s.node e.life.index) { mode = Linked; vertex = false; key = e.key; source = e.source; target = e.target; weight = e.weight; since = s.count + 1 } in
     let tags : (x : ℕ) → (put e.life.index v s.node x).tag ≡ (s.node x).tag = same_tag LinkEdge tt sizes e s in
     let at : put e.life.index v s.node e.life.index ≡ v = put_same e.life.index v s.node in
     let here : (x : ℕ) → e.source.index ≡ x → IsListed (state_by LinkEdge sizes e s) x e.life.index = λ x is. record {
@@ -207,6 +208,39 @@ listed_linked sizes past e ok c =
           (λ (was : On (s.edges x) y). old x y was) (on_linked_in sizes (second_at sizes x) e.place e.life.index y (s.edges x) h);
     }
 
+-- where an edge is linked that replaces another
+listed_joined : (sizes : Sizes) (past : List Event) (e : Event) → IsReplaceEdge sizes past e → Listed (state sizes past) → Listed (joined_edge sizes e (state sizes past))
+listed_joined sizes past e ok c =
+    let s : State = state sizes past in
+    let j : State = joined_edge sizes e s in
+    let v : Node = new_edge_node (s.node e.life.index) e s.count in
+    let tags : (x : ℕ) → (put e.life.index v s.node x).tag ≡ (s.node x).tag = same_tag LinkEdge tt sizes e s in
+    let at : put e.life.index v s.node e.life.index ≡ v = put_same e.life.index v s.node in
+    let here : (x : ℕ) → On (s.edges x) e.old.index → IsListed j x e.life.index = λ x on.
+    let l : IsListed s x e.old.index = c.each x e.old.index on in
+    record {
+      fresh = λ m. let t : Linked ≡ Fresh = sym (ap (λ (u : Node). u.mode) at) ∙ m in absurd (cc);
+      edge = λ _. ap (λ (u : Node). u.vertex) at;
+      index = λ _. ap (λ (u : Node). u.source.index) at ∙ (ap (λ (z : Life). z.index) ok.source ∙ l.index ok.linked.linked);
+      tag = λ _. ap (λ (u : Node). u.source.tag) at ∙ (ap (λ (z : Life). z.tag) ok.source ∙ (l.tag ok.linked.linked ∙ sym (tags x)));
+    } in
+    let old : (x y : ℕ) → On (s.edges x) y → IsListed j x y = λ x y h.
+    let l : IsListed s x y = c.each x y h in
+    dite (ℕ_discrete y e.life.index)
+    (λ same. absurd (l.fresh (ap (λ (i : ℕ). (s.node i).mode) same ∙ ok.fresh.fresh)))
+    (λ ne. listed_at s j x y (put_other e.life.index v s.node y ne) (tags x) l) in
+    record {
+      each = λ x y h. ⊎_elim
+          (λ (new : (y ≡ e.life.index) × ((e.place ≡ second_at sizes x) ⊎ IsBehind (λ z. e.place == link_at sizes z) (s.edges x))).
+          subst (λ (i : ℕ). IsListed j x i) (sym new.0) (⊎_elim
+          (λ (head : e.place ≡ second_at sizes x). absurd (omega (arith, head, ok.place)))
+          (λ (b : IsBehind (λ z. e.place == link_at sizes z) (s.edges x)).
+          let link : e.place ≡ link_at sizes b.node = eqb-true e.place (link_at sizes b.node) b.at in
+          let same : b.node ≡ e.old.index = omega (arith, link, ok.place) in
+          here x (subst (On (s.edges x)) same b.on)) new.1))
+          (λ (was : On (s.edges x) y). old x y was) (on_linked_in sizes (second_at sizes x) e.place e.life.index y (s.edges x) h);
+    }
+
 listed_step : (sizes : Sizes) → IsLayout sizes → KeepsIn sizes (λ (j : List Event) (s : State) (w : ℕ → ℕ). Listed s)
 listed_step sizes z past e kept c PopFree is ok w a = listed_taken sizes e (state sizes past) c
 listed_step sizes z past e kept c LinkEdge is ok w a = listed_linked sizes past e ok c
@@ -216,6 +250,11 @@ listed_step sizes z past e kept c UnlinkVertex is ok w a = listed_same (state si
 listed_step sizes z past e kept c UnlinkEdge is ok w a = listed_same (state sizes past) _ c (λ x y h. (on_unlinked e.life.index y ((state sizes past).edges x) h).0) (λ y. put_source (state sizes past) e.life.index _ y (inr (spent_source (node_in sizes past e.life.index) _ _ _))) (same_tag UnlinkEdge tt sizes e (state sizes past))
 listed_step sizes z past e kept c StoreFree is ok w a = listed_same (state sizes past) _ c (λ x y h. h) (λ y. put_source (state sizes past) e.life.index _ y (inr record { fresh = λ m. m; linked = λ m. m; vertex = refl; source = refl })) (same_tag StoreFree tt sizes e (state sizes past))
 listed_step sizes z past e kept c PushFree is ok w a = listed_same (state sizes past) _ c (λ x y h. h) (λ y. put_source (state sizes past) e.life.index _ y (inr record { fresh = λ m. absurd (cc); linked = λ m. absurd (cc); vertex = refl; source = refl })) (same_tag PushFree tt sizes e (state sizes past))
+listed_step sizes z past e kept c ReplaceEdge is ok w a =
+    let j : State = joined_edge sizes e (state sizes past) in
+    listed_same j (state_by ReplaceEdge sizes e (state sizes past)) (listed_joined sizes past e ok c) (λ x y h. h)
+    (λ y. handed_source (marked_state j e.old.index) (j.node e.old.index).source.index (j.node y) y (put_source j e.old.index (record (j.node e.old.index) { marked = true }) y (inr (marked_source (j.node e.old.index)))))
+    (λ x. same_tag ReplaceEdge tt sizes e (state sizes past) x ∙ sym (same_tag LinkEdge tt sizes e (state sizes past) x))
 listed_step sizes z past e kept c MarkEdge is ok w a = listed_same (state sizes past) _ c (λ x y h. h)
     (λ y. handed_source (marked_state (state sizes past) e.life.index) (node_in sizes past e.life.index).source.index (node_in sizes past y) y (put_source (state sizes past) e.life.index _ y (inr (marked_source (node_in sizes past e.life.index))))) (same_tag MarkEdge tt sizes e (state sizes past))
 listed_step sizes z past e kept c FreezeEdge is ok w a = listed_same (state sizes past) _ c (λ x y h. h)

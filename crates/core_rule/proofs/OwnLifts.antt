@@ -3,12 +3,12 @@ use Rattle.std.proofs.Common.{◌≡◌, ◌⊎◌, ℕ, ◌+◌, ◌<◌, ◌�
 use Rattle.packed_link.specs.Link.{pack, index_of, tag_of}
 use Rattle.packed_link.specs.Layout.{IsLayout, free_at, epoch_at, announce_at, link_at}
 use Rattle.packed_link.specs.declared.link.Life.{Life}
+use Rattle.core_journal.specs.Event.{pops, moves}
 use Rattle.core_journal.specs.declared.event.Event.{Event}
 use Rattle.core_journal.specs.Machine.{word_at}
 use Rattle.core_journal.specs.Reuse.{pass_in}
 use Rattle.core_journal.specs.State.{Pass, Node}
 use Rattle.core_journal.proofs.Lists.{prefix_trans}
-use Rattle.core_rule.specs.Counts.{pops, moves}
 use Rattle.core_rule.specs.Nodes.{IsFreshWith, IsRipe, IsSpentWith}
 use Rattle.core_rule.specs.Passes.{IsAnnounce, IsWithdraw, IsMoveEpoch}
 use Rattle.core_rule.specs.FreeNodes.{IsPopFree, IsStorePrivate, IsPushFree}

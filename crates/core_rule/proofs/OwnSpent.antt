@@ -2,7 +2,7 @@
 use Rattle.std.proofs.Common.{◌≡◌, ◌≢◌, ℕ, ◌<◌, ◌≤◌, true, List, [], ◌∷◌, ◌++◌, length, refl, sym, ap, ◌∙◌, arith}
 use Rattle.packed_link.specs.Layout.{Sizes, IsLayout, key_at, link_at}
 use Rattle.core_journal.specs.declared.event.Kind.{Kind}
-use Rattle.core_journal.specs.declared.event.Kind.TheVariants.{PopFree, StorePrivate, LinkVertex, MarkVertex, UnlinkVertex, LinkEdge, MarkEdge, UnlinkEdge, FreezeHead, FreezeEdge, StoreFree, PushFree}
+use Rattle.core_journal.specs.declared.event.Kind.TheVariants.{PopFree, StorePrivate, LinkVertex, MarkVertex, UnlinkVertex, LinkEdge, MarkEdge, UnlinkEdge, FreezeHead, FreezeEdge, StoreFree, PushFree, ReplaceEdge}
 use Rattle.core_journal.specs.declared.event.Event.{Event}
 use Rattle.core_journal.specs.Prefix.{IsPrefix}
 use Rattle.core_journal.specs.State.{Mode, Free, Fresh, Linked, Spent, Node, State, handed, state_by, state}
@@ -13,6 +13,7 @@ use Rattle.core_rule.specs.Nodes.{node_in, IsSpentWith}
 use Rattle.core_rule.proofs.Induction.{kept_beyond}
 use Rattle.core_rule.proofs.Steps.{after_event, put_other, handed_case, marked_state, closed_state}
 use Rattle.core_rule.proofs.FreeList.{first_is_free}
+use Rattle.core_rule.proofs.ReplaceCases.{replaced_case}
 
 module _ (sizes : Sizes) (z : IsLayout sizes) (past : List Event) (e : Event) (kept : IsKept sizes past) (caller x : ℕ) (there : x < sizes.nodes) (f : IsSpentWith sizes past caller x) (apart : (node_in sizes past e.life.index).who ≡ e.caller → x ≢ e.life.index) where
   -- another node's mode or caller tells it apart
@@ -49,6 +50,17 @@ module _ (sizes : Sizes) (z : IsLayout sizes) (past : List Event) (e : Event) (k
   left_by MarkVertex ok = let ne = not_linked e.life.index ok.linked.linked in record { node = put_other e.life.index _ (state sizes past).node x ne; frozen = refl; key = λ h. omega (arith, ok.place, h); link = λ h. ne (omega (arith, ok.place, h)) }
   left_by UnlinkVertex ok = record { node = put_other e.life.index _ (state sizes past).node x (not_linked e.life.index ok.linked.linked); frozen = refl; key = λ h. omega (arith, ok.place, h); link = λ h. not_linked x (ok.before_linked x (sym h)).linked refl }
   left_by UnlinkEdge ok = record { node = put_other e.life.index _ (state sizes past).node x (not_linked e.life.index ok.linked.linked); frozen = refl; key = λ h. omega (arith, ok.place, h); link = λ h. not_linked x (ok.before_linked x (sym h)).linked.linked refl }
+  left_by ReplaceEdge ok =
+      let s : State = state sizes past in
+      let ne = not_linked e.old.index ok.linked.linked in
+      let at : (marked_state s e.old.index).node x ≡ s.node x = put_other e.old.index (record (s.node e.old.index) { marked = true }) s.node x ne in
+      record {
+        node = replaced_case sizes z past e kept ok (λ (u : Node). u ≡ node_in sizes past x) x (λ same. absurd (not_fresh e.life.index ok.fresh.fresh same)) (λ _. at)
+            (λ _ l _ _. let m : Linked ≡ Spent = sym l ∙ (ap (λ (u : Node). u.mode) at ∙ f.spent) in absurd (cc));
+        frozen = refl;
+        key = λ h. omega (arith, ok.place, h);
+        link = λ h. ne (omega (arith, ok.place, h));
+      }
   left_by MarkEdge ok =
       let ne = not_linked e.life.index ok.linked.linked in
       record { node = handed_else (marked_state (state sizes past) e.life.index) (node_in sizes past e.life.index).source.index (put_other e.life.index _ (state sizes past).node x ne); frozen = refl; key = λ h. omega (arith, ok.place, h); link = λ h. ne (omega (arith, ok.place, h)) }

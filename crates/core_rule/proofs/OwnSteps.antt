@@ -5,7 +5,7 @@ use native.Mathlib.Decide.{ℕ_discrete}
 use Rattle.packed_link.specs.Layout.{Sizes, IsLayout, word_count, key_at, link_at, second_at, third_at}
 use Rattle.packed_link.specs.declared.link.Life.{Life}
 use Rattle.core_journal.specs.declared.event.Kind.{Kind}
-use Rattle.core_journal.specs.declared.event.Kind.TheVariants.{DrawNumber, PopFree, StorePrivate, LinkVertex, UnlinkVertex, LinkEdge, UnlinkEdge, Announce, Withdraw, MoveEpoch, StoreFree, PushFree, MarkVertex, MarkEdge, FreezeEdge, FreezeHead}
+use Rattle.core_journal.specs.declared.event.Kind.TheVariants.{DrawNumber, PopFree, StorePrivate, LinkVertex, UnlinkVertex, LinkEdge, UnlinkEdge, Announce, Withdraw, MoveEpoch, StoreFree, PushFree, MarkVertex, MarkEdge, FreezeEdge, FreezeHead, ReplaceEdge}
 use Rattle.core_journal.specs.declared.event.Event.{Event}
 use Rattle.core_journal.specs.Machine.{word_at}
 use Rattle.core_journal.specs.State.{Fresh, Linked, Spent, Pass, Node, State, put, state_by, state}
@@ -25,6 +25,8 @@ use Rattle.core_rule.proofs.OwnFacts.{nowhere_near, fresh_was}
 use Rattle.core_rule.proofs.OwnSpent.{left_by}
 use Rattle.core_rule.proofs.FreeList.{first_is_free}
 use Rattle.core_rule.proofs.Placed.{used_there}
+use Rattle.core_rule.proofs.ReplaceCases.{replaced_case}
+use Rattle.core_rule.proofs.Replaced.{old_apart}
 use Rattle.core_rule.proofs.SpentLinks.{unclosed}
 
 -- a caller holds at most one fresh node
@@ -149,6 +151,7 @@ module _ (sizes : Sizes) (past : List Event) (e : Event) (kept : IsKept sizes (p
   spent_here z m MarkVertex other ok = let f = ok.linked.linked in absurd (cc)
   spent_here z m UnlinkVertex other ok = let f = ok.linked.linked in absurd (cc)
   spent_here z m UnlinkEdge other ok = let f = ok.linked.linked in absurd (cc)
+  spent_here z m ReplaceEdge other ok = let f = ok.fresh.fresh in absurd (cc)
   spent_here z m MarkEdge other ok = let f = ok.linked.linked in absurd (cc)
   spent_here z m FreezeEdge other ok = let f = ok.linked.linked in absurd (cc)
   spent_here z m PushFree other ok = absurd (other refl)
@@ -194,6 +197,12 @@ module _ (sizes : Sizes) (past : List Event) (e : Event) (kept : IsKept sizes (p
       let m : (node_in sizes (past ++ e ∷ []) e.life.index).mode ≡ Fresh = subst (λ (y : ℕ). (node_in sizes (past ++ e ∷ []) y).mode ≡ Fresh) same f.fresh in
       absurd (cc)
 
+  -- the node of an edge that is linked by the event
+  record IsJoinedNode (v : Node) : Type 0 where
+    pub linked : v.mode ≡ Linked
+    pub edge : v.vertex ≡ false
+    pub source : v.source ≡ e.source
+
   pub vertex_joined : e.kind ≡ LinkVertex → IsLinkedVertex sizes (past ++ e ∷ []) e.life.index × ((x : ℕ) → x < sizes.nodes → IsFreshWith sizes (past ++ e ∷ []) e.caller x → ⊥)
   vertex_joined is =
       let v : Node = record (node_in sizes past e.life.index) { mode = Linked; vertex = true; key = e.key } in
@@ -203,10 +212,23 @@ module _ (sizes : Sizes) (past : List Event) (e : Event) (kept : IsKept sizes (p
 
   pub edge_joined : e.kind ≡ LinkEdge → IsLinkedEdge sizes (past ++ e ∷ []) e.life.index × ((node_in sizes (past ++ e ∷ []) e.life.index).source ≡ e.source) × ((x : ℕ) → x < sizes.nodes → IsFreshWith sizes (past ++ e ∷ []) e.caller x → ⊥)
   edge_joined is =
-      let v : Node = record (node_in sizes past e.life.index) { mode = Linked; vertex = false; key = e.key; source = e.source; target = e.target; weight = e.weight } in
+      let v : Node = record (node_in sizes past e.life.index) { mode = Linked; vertex = false; key = e.key; source = e.source; target = e.target; weight = e.weight; since = (state sizes past).count + 1 } in
       let h = node_as LinkEdge is v (put_same e.life.index v (state sizes past).node) in
       let linked = ap (λ (n : Node). n.mode) h in
       (record { linked = linked; edge = ap (λ (n : Node). n.vertex) h }, ap (λ (n : Node). n.source) h, no_more (λ h. absurd (cc)) (allowed_as LinkEdge is).fresh linked)
+
+  -- an edge is replaced: the new one is linked, and the old one is marked
+  pub edge_replaced : IsLayout sizes → e.kind ≡ ReplaceEdge → IsLinkedEdge sizes (past ++ e ∷ []) e.life.index × ((node_in sizes (past ++ e ∷ []) e.life.index).source ≡ e.source)
+      × ((node_in sizes (past ++ e ∷ []) e.old.index).marked ≡ true) × ((x : ℕ) → x < sizes.nodes → IsFreshWith sizes (past ++ e ∷ []) e.caller x → ⊥)
+  edge_replaced z is =
+      let ok = allowed_as ReplaceEdge is in
+      let s : State = state sizes past in
+      let new : IsJoinedNode ((state_by ReplaceEdge sizes e s).node e.life.index) = replaced_case sizes z past e was_kept ok IsJoinedNode e.life.index
+      (λ _. record { linked = refl; edge = refl; source = refl }) (λ ne. absurd (ne refl)) (λ ne _ _ _. absurd (ne refl)) in
+      let old : ((state_by ReplaceEdge sizes e s).node e.old.index).marked ≡ true = replaced_case sizes z past e was_kept ok (λ (u : Node). u.marked ≡ true) e.old.index
+      (λ same. absurd (old_apart sizes past e ok same)) (λ _. ap (λ (u : Node). u.marked) (put_same e.old.index (record (s.node e.old.index) { marked = true }) s.node)) (λ _ _ marked _. marked) in
+      let h = subst (λ (t : State). IsJoinedNode (t.node e.life.index)) (sym (after_as ReplaceEdge is)) new in
+      (record { linked = h.linked; edge = h.edge }, h.source, subst (λ (t : State). (t.node e.old.index).marked ≡ true) (sym (after_as ReplaceEdge is)) old, no_more (λ h. absurd (cc)) ok.fresh h.linked)
 
   -- a node is unlinked
   pub vertex_spent : IsLayout sizes → e.kind ≡ UnlinkVertex → IsSpentVertex sizes (past ++ e ∷ []) e.caller e.life.index × HasList sizes (past ++ e ∷ []) e.life.index

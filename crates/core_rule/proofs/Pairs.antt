@@ -1,6 +1,7 @@
 -- A present edge is on the list of its source by the key of its target; so no other is of its pair.
 use Rattle.std.proofs.Common.{◌≡◌, ℕ, true, List, Option, Some, None, refl, sym, ap, ◌∙◌, subst}
-use Rattle.packed_link.specs.Layout.{Sizes, IsLayout, key_at}
+use Rattle.packed_link.specs.Layout.{Sizes, IsLayout, key_at, link_at}
+use Rattle.packed_link.specs.Link.{mark_of, mark_bit}
 use Rattle.packed_link.specs.declared.link.Life.{Life}
 use Rattle.graph_kinds.specs.Graph.{weight_of}
 use Rattle.core_chain.proofs.Walks.{one_of_key, none_of_key}
@@ -20,7 +21,8 @@ use Rattle.core_rule.proofs.Contents.{contents}
 use Rattle.core_rule.proofs.Ends.{ends_linked}
 use Rattle.core_rule.proofs.EdgeChains.{lists, link_spot, link_can}
 use Rattle.core_rule.proofs.ListSteps.{has_open, sources}
-use Rattle.core_rule.proofs.LivingEdges.{live_edges}
+use Rattle.core_rule.proofs.LinkWords.{used_link}
+use Rattle.core_rule.proofs.LivingEdges.{live_edges, unmarked_node}
 use Rattle.core_rule.proofs.Named.{life_is, named}
 use Rattle.core_rule.proofs.Placed.{used_there}
 use Rattle.core_rule.proofs.Present.{one_present}
@@ -33,6 +35,7 @@ record IsOfPair (sizes : Sizes) (journal : List Event) (x : Life) (a b : ℕ) : 
   pub list : HasList sizes journal source.index
   pub on : is_listed (state sizes journal) source.index x.index ≡ true
   pub key : word_at sizes journal (key_at sizes x.index) ≡ b
+  pub live : mark_of (word_at sizes journal (link_at sizes x.index)) ≡ 0
 
 value : {A : Type 0} (a b : A) → Some a ≡ Some b → a ≡ b
 value a b p = cc
@@ -58,6 +61,7 @@ module _ (sizes : Sizes) (z : IsLayout sizes) (journal : List Event) (kept : IsK
         list = at.list;
         on = at.on;
         key = word ∙ (sym d.of_key ∙ (ap (λ (y : Event). y.key) same ∙ to));
+        live = (used_link sizes z journal kept x.index there used).1 ∙ ap mark_bit (unmarked_node sizes z journal kept x live j.uncut);
       }
 
   -- two present edges of one pair are one
@@ -68,7 +72,7 @@ module _ (sizes : Sizes) (z : IsLayout sizes) (journal : List Event) (kept : IsK
       let one : q.source ≡ p.source = one_present sizes z journal kept q.source p.source a q.present p.present in
       let on = subst (λ (s : Life). is_listed (state sizes journal) s.index y.index ≡ true) one q.on in
       let chain = ((lists sizes z journal kept).each p.source.index (has_open sizes journal p.source.index p.list)).chain in
-      let same : x.index ≡ y.index = one_of_key (edge_chain sizes journal p.source.index) x.index y.index chain p.on on (p.key ∙ sym q.key) in
+      let same : x.index ≡ y.index = one_of_key (edge_chain sizes journal p.source.index) x.index y.index chain p.on on p.live q.live (p.key ∙ sym q.key) in
       let tags : x.tag ≡ y.tag = p.life ∙ (ap (λ (i : ℕ). (node_in sizes journal i).tag) same ∙ sym q.life) in
       λ i. record { index = same i; tag = tags i }
 

@@ -1,12 +1,12 @@
 -- Nodes past the end of the table are free, and what stands on a list of edges is no vertex and isn't being filled.
-use Rattle.std.proofs.Common.{◌≡◌, ◌≢◌, ℕ, ◌<◌, ◌≤◌, ◌⊎◌, ◌%◌, Bool, true, false, cond, ◌&&◌, ◌||◌, ◌==◌, List, [], ◌∷◌, refl, sym, ◌∙◌, subst, arith, inl, inr}
+use Rattle.std.proofs.Common.{◌≡◌, ◌≢◌, ℕ, ◌<◌, ◌≤◌, ◌⊎◌, ◌%◌, Bool, true, false, cond, ◌&&◌, ◌||◌, ◌==◌, List, [], ◌∷◌, refl, sym, ◌∙◌, subst, arith, inl, inr, ◌+◌}
 use Rattle.std.specs.Prelude.{take_while}
 use Rattle.std.proofs.lemmas.List.Sums.{take_while-cons}
 use Rattle.std.proofs.lemmas.Bool.{cases_lt}
 use Rattle.packed_link.specs.Layout.{Sizes, second_at}
-use Rattle.core_journal.specs.declared.event.Kind.TheVariants.{PopFree, LinkVertex, MarkVertex, UnlinkVertex, LinkEdge, MarkEdge, UnlinkEdge, FreezeHead, FreezeEdge, StoreFree, PushFree}
+use Rattle.core_journal.specs.declared.event.Kind.TheVariants.{PopFree, LinkVertex, MarkVertex, UnlinkVertex, LinkEdge, MarkEdge, UnlinkEdge, FreezeHead, FreezeEdge, StoreFree, PushFree, ReplaceEdge}
 use Rattle.core_journal.specs.declared.event.Event.{Event}
-use Rattle.core_journal.specs.State.{Free, Fresh, Node, State, is_linked, put, handed, frozen_part, unlinked_from, state}
+use Rattle.core_journal.specs.State.{Free, Fresh, Node, State, is_linked, put, handed, frozen_part, unlinked_from, state, joined_edge, Linked}
 use Rattle.core_rule.specs.Kept.{IsKept}
 use Rattle.core_rule.specs.Nodes.{node_in}
 use Rattle.core_rule.specs.Chains.{is_of_bucket}
@@ -33,6 +33,7 @@ beyond_step sizes past e kept c UnlinkEdge by ok w a = record { each = put_beyon
 beyond_step sizes past e kept c StoreFree by ok w a = record { each = put_beyond sizes (state sizes past) e.life.index _ ok.there c }
 beyond_step sizes past e kept c PushFree by ok w a = record { each = put_beyond sizes (state sizes past) e.life.index _ ok.there c }
 beyond_step sizes past e kept c MarkEdge by ok w a = handed_beyond sizes (marked_state (state sizes past) e.life.index) (node_in sizes past e.life.index).source.index record { each = put_beyond sizes (state sizes past) e.life.index _ ok.there c }
+beyond_step sizes past e kept c ReplaceEdge by ok w a = handed_beyond sizes (marked_state (joined_edge sizes e (state sizes past)) e.old.index) ((joined_edge sizes e (state sizes past)).node e.old.index).source.index record { each = put_beyond sizes (joined_edge sizes e (state sizes past)) e.old.index _ ok.old_there record { each = put_beyond sizes (state sizes past) e.life.index _ ok.there c } }
 beyond_step sizes past e kept c FreezeEdge by ok w a = handed_beyond sizes (marked_state (state sizes past) e.life.index) (node_in sizes past e.life.index).source.index record { each = put_beyond sizes (state sizes past) e.life.index _ ok.there c }
 beyond_step sizes past e kept c FreezeHead by ok w a = handed_beyond sizes (closed_state (state sizes past) e.life.index) e.life.index record { each = c.each }
 beyond_step sizes past e kept c _ by ok w a = record { each = c.each }
@@ -66,6 +67,14 @@ handed_lists s v c = record { each = λ x y h. handed_case IsEdgeNode s v y (c.e
 pub marked_lists : (s : State) (i : ℕ) → OnLists s → OnLists (marked_state s i)
 marked_lists s i c = record { each = put_lists s i _ c (λ h. h) }
 
+-- the lists on which an edge is linked that replaces another
+pub joined_lists : (sizes : Sizes) (past : List Event) (e : Event) → OnLists (state sizes past) → OnLists (joined_edge sizes e (state sizes past))
+joined_lists sizes past e c = record {
+  each = λ x y h. put_case IsEdgeNode e.life.index (record (node_in sizes past e.life.index) { mode = Linked; vertex = false; key = e.key; source = e.source; target = e.target; weight = e.weight; since = (state sizes past).count + 1 }) (state sizes past).node y
+      (λ same. ((λ f. absurd (cc)), refl))
+      (λ ne. c.each x y (sym (linked_stands sizes (second_at sizes x) e.place e.life.index y ((state sizes past).edges x) ne) ∙ h));
+}
+
 lists_step : (sizes : Sizes) → Keeps sizes (λ (s : State) (w : ℕ → ℕ). OnLists s)
 lists_step sizes past e kept c PopFree by ok w a =
     let v : Node = record (node_in sizes past e.life.index) { mode = Fresh; who = e.caller; tag = e.life.tag; marked = false; stored = false } in
@@ -90,6 +99,13 @@ lists_step sizes past e kept c UnlinkEdge by ok w a = record {
 lists_step sizes past e kept c StoreFree by ok w a = record { each = put_lists (state sizes past) e.life.index _ c (λ h. h) }
 lists_step sizes past e kept c PushFree by ok w a = record { each = put_lists (state sizes past) e.life.index _ c (λ h. ((λ f. absurd (cc)), h.1)) }
 lists_step sizes past e kept c MarkEdge by ok w a = handed_lists (marked_state (state sizes past) e.life.index) (node_in sizes past e.life.index).source.index (marked_lists (state sizes past) e.life.index c)
+lists_step sizes past e kept c ReplaceEdge by ok w a =
+    let t : State = joined_edge sizes e (state sizes past) in
+    handed_lists (marked_state t e.old.index) (t.node e.old.index).source.index (marked_lists t e.old.index record {
+      each = λ x y h. put_case IsEdgeNode e.life.index _ (state sizes past).node y
+          (λ same. ((λ f. absurd (cc)), refl))
+          (λ ne. c.each x y (sym (linked_stands sizes (second_at sizes x) e.place e.life.index y ((state sizes past).edges x) ne) ∙ h));
+    })
 lists_step sizes past e kept c FreezeEdge by ok w a = handed_lists (marked_state (state sizes past) e.life.index) (node_in sizes past e.life.index).source.index (marked_lists (state sizes past) e.life.index c)
 lists_step sizes past e kept c FreezeHead by ok w a = handed_lists (closed_state (state sizes past) e.life.index) e.life.index record { each = c.each }
 lists_step sizes past e kept c _ by ok w a = record { each = c.each }

@@ -1,8 +1,8 @@
 -- A present vertex is on the chain of its bucket, and no other is of its key.
-use Rattle.std.proofs.Common.{◌≡◌, ℕ, ◌%◌, Bool, true, false, List, Some, refl, sym, ap, ◌∙◌, subst}
+use Rattle.std.proofs.Common.{◌≡◌, ℕ, ◌%◌, Bool, true, false, List, Some, refl, sym, ap, ◌∙◌, subst, arith}
 use Rattle.packed_link.specs.Layout.{Sizes, IsLayout}
 use Rattle.packed_link.specs.declared.link.Life.{Life}
-use Rattle.core_chain.proofs.Walks.{one_of_key}
+use Rattle.core_chain.specs.Chain.{Node}
 use Rattle.core_journal.specs.declared.event.Event.{Event}
 use Rattle.core_journal.specs.GraphOf.{present_key}
 use Rattle.core_journal.specs.Life.{key_of, vertex_marked, unlinked}
@@ -10,11 +10,14 @@ use Rattle.core_journal.specs.State.{state}
 use Rattle.core_journal.proofs.LivesOf.{present_is}
 use Rattle.core_rule.specs.Kept.{IsKept}
 use Rattle.core_rule.specs.Nodes.{node_in, IsUsed}
-use Rattle.core_rule.specs.Chains.{bucket_chain, IsVertexOf, IsInBucket}
+use Rattle.core_rule.specs.Chains.{IsVertexOf, IsInBucket}
 use Rattle.core_rule.proofs.BucketSteps.{is_in, in_is, key_word, home_low, buckets}
 use Rattle.core_rule.proofs.Living.{IsLiveVertex, linked_stays, live_vertices}
 use Rattle.core_rule.proofs.Named.{life_is, named}
 use Rattle.core_rule.proofs.Placed.{used_there}
+
+same_node : (x y : ℕ) → Node x ≡ Node y → x ≡ y
+same_node x y e = cc
 
 module _ (sizes : Sizes) (z : IsLayout sizes) (journal : List Event) (kept : IsKept sizes journal) where
   -- a life on the chain of a bucket was linked as a vertex of the bucket, and not unlinked
@@ -63,6 +66,6 @@ module _ (sizes : Sizes) (z : IsLayout sizes) (journal : List Event) (kept : IsK
       let b = present_in y k g in
       let key_x = key_word sizes z journal kept x.index j (is_in sizes (state sizes journal) j x.index a.on) ∙ v.key_is in
       let key_y = key_word sizes z journal kept y.index j (is_in sizes (state sizes journal) j y.index b.on) ∙ u.key_is in
-      let same : x.index ≡ y.index = one_of_key (bucket_chain sizes journal j) x.index y.index ((buckets sizes z journal kept).each j (home_low sizes z journal kept k)).chain a.on b.on (key_x ∙ sym key_y) in
+      let same : x.index ≡ y.index = same_node x.index y.index (((buckets sizes z journal kept).each j (home_low sizes z journal kept k)).chain.alone (Node x.index) (Node y.index) a.on b.on (omega (arith, key_x, key_y)) refl) in
       let tags : x.tag ≡ y.tag = v.life ∙ (ap (λ (i : ℕ). (node_in sizes journal i).tag) same ∙ sym u.life) in
       λ i. record { index = same i; tag = tags i }

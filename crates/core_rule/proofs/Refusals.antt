@@ -6,15 +6,14 @@ use Rattle.packed_link.specs.Link.{pack, with_mark, index_of, mark_of, tag_of, n
 use Rattle.packed_link.specs.Layout.{epoch_at, bucket_at, link_at}
 use Rattle.core_journal.specs.declared.event.Event.{Event}
 use Rattle.core_journal.specs.declared.event.Kind.{Kind}
-use Rattle.core_journal.specs.declared.event.Kind.TheVariants.{DrawNumber, PopFree, StorePrivate, LinkVertex, MarkVertex, UnlinkVertex, LinkEdge, Raise, MarkEdge, UnlinkEdge, Announce, Withdraw, MoveEpoch, FreezeHead, FreezeEdge, StoreFree, PushFree}
-use Rattle.core_journal.specs.Event.{blank, links_edge}
+use Rattle.core_journal.specs.declared.event.Kind.TheVariants.{DrawNumber, PopFree, StorePrivate, LinkVertex, MarkVertex, UnlinkVertex, LinkEdge, Raise, MarkEdge, UnlinkEdge, Announce, Withdraw, MoveEpoch, FreezeHead, FreezeEdge, StoreFree, PushFree, ReplaceEdge}
+use Rattle.core_journal.specs.Event.{blank, links_edge, raises}
 use Rattle.core_journal.specs.Life.{link_of}
 use Rattle.core_journal.specs.Reuse.{pass_in}
 use Rattle.core_journal.specs.Machine.{machine, word_at}
 use Rattle.core_journal.specs.State.{state}
 use Rattle.core_journal.specs.TwoCallers.{announces, takes, withdraws}
 use Rattle.core_journal.specs.Worked.{small}
-use Rattle.core_rule.specs.Counts.{raises}
 use Rattle.core_rule.specs.Edges.{IsLinkEdge, IsMarkEdge, IsRaise, IsUnlinkEdge}
 use Rattle.core_rule.specs.FreeNodes.{IsPopFree, IsStoreFree}
 use Rattle.core_rule.specs.Kept.{Allowed, AllowedAs, IsKept}
@@ -56,6 +55,7 @@ passes LinkEdge past e a t = a.pass
 passes Raise past e a t = a.pass
 passes MarkEdge past e a t = a.pass
 passes UnlinkEdge past e a t = a.pass
+passes ReplaceEdge past e a t = a.pass
 passes DrawNumber past e a t = absurd (true≢false (sym t))
 passes PopFree past e a t = absurd (true≢false (sym t))
 passes StorePrivate past e a t = absurd (true≢false (sym t))

@@ -4,9 +4,9 @@ use Rattle.packed_link.specs.Layout.{Sizes, IsLayout}
 use Rattle.core_epoch.specs.Ends.{Ended, Ordered, EndsSome, GivesOld}
 use Rattle.core_epoch.proofs.Beside.{ended_kept, ordered_kept, old_end_before}
 use Rattle.core_journal.specs.declared.event.Kind.{Kind}
-use Rattle.core_journal.specs.declared.event.Kind.TheVariants.{PopFree, LinkVertex, MarkVertex, UnlinkVertex, LinkEdge, MarkEdge, UnlinkEdge, FreezeHead, FreezeEdge, StoreFree, PushFree}
+use Rattle.core_journal.specs.declared.event.Kind.TheVariants.{PopFree, LinkVertex, MarkVertex, UnlinkVertex, LinkEdge, MarkEdge, UnlinkEdge, FreezeHead, FreezeEdge, StoreFree, PushFree, ReplaceEdge}
 use Rattle.core_journal.specs.declared.event.Event.{Event}
-use Rattle.core_journal.specs.State.{Mode, Fresh, Linked, Spent, Node, State, put, handed, state_by, state}
+use Rattle.core_journal.specs.State.{Mode, Fresh, Linked, Spent, Node, State, put, handed, state_by, state, joined_edge}
 use Rattle.core_journal.specs.Reuse.{pass_in}
 use Rattle.core_rule.specs.Kept.{AllowedAs, IsKept}
 use Rattle.core_rule.specs.Nodes.{node_in, IsRipe}
@@ -17,30 +17,43 @@ use Rattle.core_rule.proofs.Numbers.{numbers}
 use Rattle.core_rule.proofs.Announcements.{announcements, clock_step, epoch_was}
 use Rattle.core_rule.proofs.LinkWords.{taken}
 use Rattle.core_rule.proofs.Epochs.{near}
+use Rattle.core_rule.proofs.ReplaceCases.{new_edge_node, replaced_case}
 
--- the last end of a node's lives stays, or it's this event, which spends a linked node
+-- the last end of a node's lives stays, or it's this event, which spends the node
 abbrev pub EndsAs : State → Node → Node → Type 0
-EndsAs s v v' = ((v'.ended ≡ v.ended) × (v'.epoch ≡ v.epoch)) ⊎ ((v'.ended ≡ s.count + 1) × (v'.epoch ≡ s.epoch) × (v'.mode ≡ Spent) × (v.mode ≡ Linked))
+EndsAs s v v' = ((v'.ended ≡ v.ended) × (v'.epoch ≡ v.epoch)) ⊎ ((v'.ended ≡ s.count + 1) × (v'.epoch ≡ s.epoch) × (v'.mode ≡ Spent))
 
 end_put : (s : State) (i : ℕ) (v : Node) (x : ℕ) → EndsAs s (s.node i) v → EndsAs s (s.node x) (put i v s.node x)
 end_put s i v x h = put_case (λ (u : Node). EndsAs s (s.node x) u) i v s.node x (λ same. subst (λ (y : ℕ). EndsAs s (s.node y) v) (sym same) h) (λ _. inl (refl, refl))
 
+-- a mark ends no life
+end_mark : (s : State) (v v' : Node) → EndsAs s v v' → EndsAs s v (record v' { marked = true })
+end_mark s v v' h = h
+
 end_marked : (s : State) (i v x : ℕ) → EndsAs s (s.node x) ((handed v (marked_state s i)).node x)
 end_marked s i v x = handed_case (λ (u : Node). EndsAs s (s.node x) u) (marked_state s i) v x (end_put s i (record (s.node i) { marked = true }) x (inl (refl, refl)))
-    (λ m _ _. inr (refl, refl, refl, put_case (λ (u : Node). u.mode ≡ Linked → (s.node x).mode ≡ Linked) i (record (s.node i) { marked = true }) s.node x (λ same l. ap (λ (y : ℕ). (s.node y).mode) same ∙ l) (λ _ l. l) m))
+    (λ _ _ _. inr (refl, refl, refl))
 
 pub end_by : (k : Kind) (sizes : Sizes) (past : List Event) (e : Event) → AllowedAs k sizes past e → (x : ℕ) → EndsAs (state sizes past) (node_in sizes past x) ((state_by k sizes e (state sizes past)).node x)
 end_by PopFree sizes past e ok x = end_put (state sizes past) e.life.index _ x (inl (refl, refl))
 end_by LinkVertex sizes past e ok x = end_put (state sizes past) e.life.index _ x (inl (refl, refl))
 end_by MarkVertex sizes past e ok x = end_put (state sizes past) e.life.index _ x (inl (refl, refl))
-end_by UnlinkVertex sizes past e ok x = end_put (state sizes past) e.life.index _ x (inr (refl, refl, refl, ok.linked.linked))
+end_by UnlinkVertex sizes past e ok x = end_put (state sizes past) e.life.index _ x (inr (refl, refl, refl))
 end_by LinkEdge sizes past e ok x = end_put (state sizes past) e.life.index _ x (inl (refl, refl))
-end_by UnlinkEdge sizes past e ok x = end_put (state sizes past) e.life.index _ x (inr (refl, refl, refl, ok.linked.linked))
+end_by UnlinkEdge sizes past e ok x = end_put (state sizes past) e.life.index _ x (inr (refl, refl, refl))
 end_by StoreFree sizes past e ok x = end_put (state sizes past) e.life.index _ x (inl (refl, refl))
 end_by PushFree sizes past e ok x = end_put (state sizes past) e.life.index _ x (inl (refl, refl))
+end_by ReplaceEdge sizes past e ok x =
+    let s : State = state sizes past in
+    let j : State = joined_edge sizes e s in
+    let joined : EndsAs s (s.node x) (j.node x) = end_put s e.life.index (new_edge_node (s.node e.life.index) e s.count) x (inl (refl, refl)) in
+    handed_case (λ (u : Node). EndsAs s (s.node x) u) (marked_state j e.old.index) (j.node e.old.index).source.index x
+    (put_case (λ (u : Node). EndsAs s (s.node x) u) e.old.index (record (j.node e.old.index) { marked = true }) j.node x
+    (λ same. end_mark s (s.node x) (j.node e.old.index) (subst (λ (y : ℕ). EndsAs s (s.node x) (j.node y)) same joined)) (λ _. joined))
+    (λ _ _ _. inr (refl, refl, refl))
 end_by MarkEdge sizes past e ok x = end_marked (state sizes past) e.life.index (node_in sizes past e.life.index).source.index x
 end_by FreezeEdge sizes past e ok x = end_marked (state sizes past) e.life.index (node_in sizes past e.life.index).source.index x
-end_by FreezeHead sizes past e ok x = handed_case (λ (u : Node). EndsAs (state sizes past) (node_in sizes past x) u) (closed_state (state sizes past) e.life.index) e.life.index x (inl (refl, refl)) (λ m _ _. inr (refl, refl, refl, m))
+end_by FreezeHead sizes past e ok x = handed_case (λ (u : Node). EndsAs (state sizes past) (node_in sizes past x) u) (closed_state (state sizes past) e.life.index) e.life.index x (inl (refl, refl)) (λ _ _ _. inr (refl, refl, refl))
 end_by _ sizes past e ok x = inl (refl, refl)
 
 -- the ends of lives after an event
@@ -83,6 +96,11 @@ module _ (sizes : Sizes) (z : IsLayout sizes) (x tag end epoch : ℕ) where
   over_step past e kept c MarkVertex by ok w a = over_put (state sizes past) e.life.index _ c (over_mark (node_in sizes past e.life.index))
   over_step past e kept c StoreFree by ok w a = over_put (state sizes past) e.life.index _ c (λ d. record { low = d.low; fresh = d.fresh; linked = d.linked; epoch_is = d.epoch_is })
   over_step past e kept c PushFree by ok w a = over_put (state sizes past) e.life.index _ c (λ d. record { low = d.low; fresh = λ h l. absurd (cc); linked = λ h l. absurd (cc); epoch_is = d.epoch_is })
+  over_step past e kept c ReplaceEdge by ok w a =
+      let s : State = state sizes past in
+      let j : State = joined_edge sizes e s in
+      let joined : IsOver tag end epoch (j.node x) = over_put s e.life.index (new_edge_node (s.node e.life.index) e s.count) c (λ d. record { low = d.low; fresh = λ h l. absurd (cc); linked = λ h. absurd (d.fresh h ok.fresh.fresh); epoch_is = λ h. absurd (d.fresh h ok.fresh.fresh) }) in
+      over_handed (marked_state j e.old.index) (j.node e.old.index).source.index (over_put j e.old.index _ joined (over_mark (j.node e.old.index)))
   over_step past e kept c MarkEdge by ok w a = over_handed (marked_state (state sizes past) e.life.index) (node_in sizes past e.life.index).source.index (over_put (state sizes past) e.life.index _ c (over_mark (node_in sizes past e.life.index)))
   over_step past e kept c FreezeEdge by ok w a = over_handed (marked_state (state sizes past) e.life.index) (node_in sizes past e.life.index).source.index (over_put (state sizes past) e.life.index _ c (over_mark (node_in sizes past e.life.index)))
   over_step past e kept c FreezeHead by ok w a = over_handed (closed_state (state sizes past) e.life.index) e.life.index c
@@ -118,6 +136,10 @@ spent_stays MarkVertex sizes z past e kept ok x m = inl (put_case (λ (u : Node)
 spent_stays StoreFree sizes z past e kept ok x m = inl (put_case (λ (u : Node). u.mode ≡ Spent) e.life.index _ (state sizes past).node x (λ same. ap (λ (y : ℕ). (node_in sizes past y).mode) (sym same) ∙ m) (λ _. m))
 spent_stays UnlinkVertex sizes z past e kept ok x m = inl (put_case (λ (u : Node). u.mode ≡ Spent) e.life.index _ (state sizes past).node x (λ _. refl) (λ _. m))
 spent_stays UnlinkEdge sizes z past e kept ok x m = inl (put_case (λ (u : Node). u.mode ≡ Spent) e.life.index _ (state sizes past).node x (λ _. refl) (λ _. m))
+spent_stays ReplaceEdge sizes z past e kept ok x m = inl (replaced_case sizes z past e kept ok (λ (u : Node). u.mode ≡ Spent) x
+    (λ same. let f = ok.fresh.fresh in let t : (node_in sizes past e.life.index).mode ≡ Spent = ap (λ (y : ℕ). (node_in sizes past y).mode) (sym same) ∙ m in absurd (cc))
+    (λ _. put_case (λ (u : Node). u.mode ≡ Spent) e.old.index (record (node_in sizes past e.old.index) { marked = true }) (state sizes past).node x (λ same. ap (λ (y : ℕ). (node_in sizes past y).mode) (sym same) ∙ m) (λ _. m))
+    (λ _ _ _ _. refl))
 spent_stays MarkEdge sizes z past e kept ok x m = inl (handed_case (λ (u : Node). u.mode ≡ Spent) (marked_state (state sizes past) e.life.index) (node_in sizes past e.life.index).source.index x
     (put_case (λ (u : Node). u.mode ≡ Spent) e.life.index (record (node_in sizes past e.life.index) { marked = true }) (state sizes past).node x (λ same. ap (λ (y : ℕ). (node_in sizes past y).mode) (sym same) ∙ m) (λ _. m)) (λ _ _ _. refl))
 spent_stays FreezeEdge sizes z past e kept ok x m = inl (handed_case (λ (u : Node). u.mode ≡ Spent) (marked_state (state sizes past) e.life.index) (node_in sizes past e.life.index).source.index x

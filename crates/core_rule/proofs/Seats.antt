@@ -7,11 +7,11 @@ use lib.ListN.{get_elem?}
 use Rattle.atomic_table.specs.Table.{State as TableState, keeps, stepped as step_to, opening as opening_table}
 use Rattle.atomic_table.proofs.Lists.{at_set}
 use Rattle.packed_link.specs.Layout.{Sizes}
+use Rattle.core_journal.specs.Event.{draws}
 use Rattle.core_journal.specs.declared.event.Event.{Event}
 use Rattle.core_journal.specs.Machine.{opening_words, machine, word_at}
 use Rattle.core_journal.specs.State.{state}
 use Rattle.core_journal.proofs.Lists.{every_map, prefix_refl, prefix_trans, prefix_snoc, prefix_length}
-use Rattle.core_rule.specs.Counts.{draws}
 use Rattle.core_rule.specs.Kept.{IsKept}
 use Rattle.core_rule.specs.Owes.{Reaches}
 use Rattle.core_rule.specs.Plays.{IsSound, seen}

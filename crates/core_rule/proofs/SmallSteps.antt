@@ -9,14 +9,14 @@ use Rattle.packed_link.specs.Layout.{announce_at, key_at, link_at}
 use Rattle.core_epoch.specs.Steps.{IsFoundClear}
 use Rattle.core_journal.specs.declared.event.Event.{Event}
 use Rattle.core_journal.specs.declared.event.Kind.TheVariants.{Announce}
-use Rattle.core_journal.specs.Event.{blank}
+use Rattle.core_journal.specs.Event.{blank, moves}
 use Rattle.core_journal.specs.Machine.{word_at}
 use Rattle.core_journal.specs.Prefix.{IsPrefix}
 use Rattle.core_journal.specs.State.{Mode, Fresh, state}
 use Rattle.core_journal.specs.Reuse.{pass_in}
 use Rattle.core_journal.specs.TwoCallers.{fills, withdraws}
 use Rattle.core_journal.specs.Worked.{small}
-use Rattle.core_rule.specs.Counts.{moves, made, most_moves}
+use Rattle.core_rule.specs.Counts.{made, most_moves}
 use Rattle.core_rule.specs.Kept.{Allowed, IsQuiet}
 use Rattle.core_rule.specs.Moments.{clock_in}
 use Rattle.core_rule.specs.Nodes.{node_in, IsFreshWith, IsFrozenToEnd}

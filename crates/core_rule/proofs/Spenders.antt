@@ -1,9 +1,9 @@
 -- The edges of a closed list are spent by the caller who spent its vertex.
 use Rattle.std.proofs.Common.{◌≡◌, ◌≢◌, ℕ, ◌<◌, Bool, true, false, List, [], refl, sym, ap, ◌∙◌, subst, ⊎_elim}
 use Rattle.packed_link.specs.Layout.{Sizes, IsLayout, second_at}
-use Rattle.core_journal.specs.declared.event.Kind.TheVariants.{PopFree, LinkVertex, MarkVertex, UnlinkVertex, LinkEdge, MarkEdge, UnlinkEdge, FreezeHead, FreezeEdge, StoreFree, PushFree}
+use Rattle.core_journal.specs.declared.event.Kind.TheVariants.{PopFree, LinkVertex, MarkVertex, UnlinkVertex, LinkEdge, MarkEdge, UnlinkEdge, FreezeHead, FreezeEdge, StoreFree, PushFree, ReplaceEdge}
 use Rattle.core_journal.specs.declared.event.Event.{Event}
-use Rattle.core_journal.specs.State.{Fresh, Linked, Spent, Node, State, put, handed, state_by, state}
+use Rattle.core_journal.specs.State.{Fresh, Linked, Spent, Node, State, put, handed, joined_edge, state_by, state}
 use Rattle.core_rule.specs.Kept.{IsKept}
 use Rattle.core_rule.specs.Nodes.{node_in, IsUsed, is_frozen}
 use Rattle.core_rule.proofs.Steps.{Keeps, put_case, put_other, handed_case, marked_state, closed_state, holds_all}
@@ -11,8 +11,9 @@ use Rattle.core_rule.proofs.LinkWords.{taken}
 use Rattle.core_rule.proofs.Contents.{contents}
 use Rattle.core_rule.proofs.Meets.{stands}
 use Rattle.core_rule.proofs.ListParts.{unlinked_was, linked_was}
-use Rattle.core_rule.proofs.Listed.{part_listed, handed_split}
-use Rattle.core_rule.proofs.ListSteps.{listing, popped_was}
+use Rattle.core_rule.proofs.Listed.{ListingOf, part_listed, handed_split}
+use Rattle.core_rule.proofs.ListSteps.{listing, joins, replace_joins, popped_was}
+use Rattle.core_rule.proofs.ReplaceCases.{new_edge_node}
 use Rattle.core_rule.proofs.ClosedStays.{part_head, part_spent}
 
 -- a spent edge on the list of a vertex was handed over: the list is closed, and the vertex's spender is the edge's too; and
@@ -150,6 +151,25 @@ spenders_step sizes z past e kept c PushFree by ok w a = spenders_moved (state s
   vertex = λ u t y h. absurd u;
   edge = λ x h g. absurd (cc);
 } c
+spenders_step sizes z past e kept c ReplaceEdge by ok w a =
+    let s : State = state sizes past in
+    let j : State = joined_edge sizes e s in
+    let v : Node = new_edge_node (s.node e.life.index) e s.count in
+    let l : ListingOf sizes j = joins sizes s.node s.edges s.frozen (listing sizes z past kept) e.life.index e.place v (replace_joins sizes z past e kept (listing sizes z past kept) ok) in
+    let cj : Spenders j.node j.edges j.frozen = spenders_moved s.node s.edges j.edges s.frozen s.frozen e.life.index v record {
+      frozen_else = λ x _. refl;
+      frozen_here = λ h. absurd (open_yet sizes z past kept e.life.index ok.there ok.fresh.fresh h);
+      lists = λ x y h ne. ⊎_elim (λ (t : stands y (s.edges x) ≡ true). t) (λ (t : (y ≡ e.life.index) × _). absurd (ne t.0)) (linked_was sizes (second_at sizes x) e.place e.life.index y (s.edges x) h);
+      vertex = λ u t y h. absurd (cc);
+      edge = λ x h g. absurd (cc);
+    } c in
+    spenders_handed (marked_state j e.old.index) (j.node e.old.index).source.index
+    (λ x y h.
+    let d = l.on x y h in
+    put_case (λ (n : Node). (n.vertex ≡ false) × (n.source.index ≡ x)) e.old.index (record (j.node e.old.index) { marked = true }) j.node y
+    (λ same. (ap (λ (i : ℕ). (j.node i).vertex) (sym same) ∙ d.edge, ap (λ (i : ℕ). (j.node i).source.index) (sym same) ∙ d.index))
+    (λ _. (d.edge, d.index)))
+    (spenders_moved j.node j.edges j.edges j.frozen j.frozen e.old.index (record (j.node e.old.index) { marked = true }) (pair_marked j e.old.index (cj.closed e.old.index)) cj)
 spenders_step sizes z past e kept c MarkEdge by ok w a = spenders_handed (marked_state (state sizes past) e.life.index) (node_in sizes past e.life.index).source.index (on_past sizes z past kept e.life.index)
     (spenders_moved (state sizes past).node (state sizes past).edges (state sizes past).edges (state sizes past).frozen (state sizes past).frozen e.life.index _ (pair_marked (state sizes past) e.life.index (c.closed e.life.index)) c)
 spenders_step sizes z past e kept c FreezeEdge by ok w a = spenders_handed (marked_state (state sizes past) e.life.index) (node_in sizes past e.life.index).source.index (on_past sizes z past kept e.life.index)

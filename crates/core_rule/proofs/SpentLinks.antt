@@ -4,7 +4,7 @@ use Rattle.packed_link.specs.Link.{index_of, mark_of, mark_bit}
 use Rattle.packed_link.specs.Layout.{Sizes, IsLayout, link_at, second_at}
 use Rattle.core_journal.specs.declared.event.Event.{Event}
 use Rattle.core_journal.specs.Machine.{word_at}
-use Rattle.core_journal.specs.State.{Free, Linked, Spent, State, state}
+use Rattle.core_journal.specs.State.{Free, Linked, Spent, Node, State, state}
 use Rattle.core_journal.proofs.Lists.{prefix_snoc}
 use Rattle.core_journal.proofs.States.{state-nil, count-length}
 use Rattle.core_rule.specs.Kept.{Allowed, IsKept}
@@ -15,8 +15,9 @@ use Rattle.core_rule.proofs.Induction.{kept_all, kept_snoc}
 use Rattle.core_rule.proofs.LeadsOn.{IsLinkedBehind, IsLinkedIn, leads_same, vertex_leads, edge_leads, head_leads}
 use Rattle.core_rule.proofs.LinkWords.{link_words}
 use Rattle.core_rule.proofs.MarkedWords.{marked_link_stays, marked_head_stays}
-use Rattle.core_rule.proofs.Modes.{Turn, stays, spends, links, takes, frees, turn, closing, unstored_was, ends_on}
+use Rattle.core_rule.proofs.Modes.{Turn, stays, spends, swaps, links, takes, frees, turn, closing, unstored_was, ends_on}
 use Rattle.core_rule.proofs.Placed.{used_there}
+use Rattle.core_rule.proofs.ReplaceCases.{leads_new, new_after}
 use Rattle.core_rule.proofs.Ripe.{ended}
 use Rattle.core_rule.proofs.ListParts.{yes_no}
 
@@ -31,9 +32,10 @@ unclosed_step sizes z past e kept c ok x linked = yes_no ((state sizes (past ++ 
     not_spent : (state sizes past).frozen x ≡ false → (state sizes (past ++ e ∷ [])).frozen x ≡ true → (node_in sizes past x).mode ≢ Spent → ⊥
     not_spent open_ h ne = ne (closing sizes z past e kept ok x open_ h).spent
 
-    by : (state sizes (past ++ e ∷ [])).frozen x ≡ true → Turn sizes past (word_at sizes (past ++ e ∷ [])) x (node_in sizes (past ++ e ∷ []) x) → ⊥
+    by : (state sizes (past ++ e ∷ [])).frozen x ≡ true → Turn sizes past e (word_at sizes (past ++ e ∷ [])) x (node_in sizes (past ++ e ∷ []) x) → ⊥
     by h (stays m _ _ _) = let was : (node_in sizes past x).mode ≡ Linked = sym m ∙ linked in not_spent (c x was) h (λ s. absurd (cc))
     by h (spends _ m _ _) = absurd (cc)
+    by h (swaps _ _ _ _ m _ _) = absurd (cc)
     by h (links m _) =
         let there = used_there sizes past x kept (λ f. absurd (cc)) in
         not_spent (((contents sizes z past kept).each x there).fresh m) h (λ s. absurd (cc))
@@ -70,9 +72,10 @@ module _ (sizes : Sizes) (z : IsLayout sizes) (past : List Event) (e : Event) (k
   linked_later : (x y : ℕ) → y < sizes.nodes → (node_in sizes past y).mode ≡ Linked → IsNoEarlier sizes after x y
   linked_later x y there was = record { there = there; later = by (turn sizes z past e kept ok y) }
     where
-      by : Turn sizes past (word_at sizes after) y (node_in sizes after y) → ((node_in sizes after y).mode ≡ Linked) ⊎ ((node_in sizes after x).ended ≤ (node_in sizes after y).ended)
+      by : Turn sizes past e (word_at sizes after) y (node_in sizes after y) → ((node_in sizes after y).mode ≡ Linked) ⊎ ((node_in sizes after x).ended ≤ (node_in sizes after y).ended)
       by (stays m _ _ _) = inl (m ∙ was)
       by (spends _ _ q _) = inr (omega (arith, q, ends_last x))
+      by (swaps _ _ _ _ _ q _) = inr (omega (arith, q, ends_last x))
       by (links m _) = absurd (cc)
       by (takes m _) = absurd (cc)
       by (frees m _) = absurd (cc)
@@ -86,12 +89,14 @@ module _ (sizes : Sizes) (z : IsLayout sizes) (past : List Event) (e : Event) (k
   spent_link : SpentLinks sizes past → (x : ℕ) → x < sizes.nodes → (node_in sizes after x).mode ≡ Spent → (node_in sizes after x).stored ≡ false → LeadsTo (word_at sizes after (link_at sizes x)) (IsNoEarlier sizes after x)
   spent_link c x within spent unstored = by (turn sizes z past e kept ok x)
     where
-      by : Turn sizes past (word_at sizes after) x (node_in sizes after x) → LeadsTo (word_at sizes after (link_at sizes x)) (IsNoEarlier sizes after x)
+      by : Turn sizes past e (word_at sizes after) x (node_in sizes after x) → LeadsTo (word_at sizes after (link_at sizes x)) (IsNoEarlier sizes after x)
       by (stays m q t _) =
           let was : (node_in sizes past x).mode ≡ Spent = sym m ∙ spent in
           let same = marked_link_stays sizes z x past after (prefix_snoc past e) kept_after (λ f. absurd (cc)) (((link_words sizes z past kept).each x within).spent was).marked t unstored in
           leads_same (word_at sizes past (link_at sizes x)) (word_at sizes after (link_at sizes x)) (IsNoEarlier sizes past x) (IsNoEarlier sizes after x) (ap index_of same) (λ y d. still_later x y q d) (c.link x within was (unstored_was sizes z past e kept ok x was unstored))
       by (spends m _ _ same) = leads_same (word_at sizes past (link_at sizes x)) (word_at sizes after (link_at sizes x)) (IsLinkedBehind sizes past x) (IsNoEarlier sizes after x) same (λ y d. linked_later x y d.there d.linked) (linked_leads sizes z past kept x within m)
+      by (swaps is r _ _ _ _ here) = inr (subst (IsNoEarlier sizes after x) (sym (ap index_of here ∙ leads_new sizes z past e kept r))
+          record { there = r.there; later = inl (ap (λ (v : Node). v.mode) (new_after sizes z past e kept r is)) })
       by (links _ m) = absurd (cc)
       by (takes _ m) = absurd (cc)
       by (frees _ m) = absurd (cc)
@@ -107,7 +112,7 @@ module _ (sizes : Sizes) (z : IsLayout sizes) (past : List Event) (e : Event) (k
       (λ h. by h (turn sizes z past e kept ok x))
       (λ open_. leads_same (word_at sizes after (second_at sizes x)) (word_at sizes after (second_at sizes x)) (IsLinkedIn sizes after x) (IsNoEarlier sizes after x) refl (λ y d. record { there = d.there; later = inl d.linked }) (head_leads sizes z after kept_after x within (subst IsUsed (sym spent) tt) vertex open_))
     where
-      by : (state sizes after).frozen x ≡ true → Turn sizes past (word_at sizes after) x (node_in sizes after x) → LeadsTo (word_at sizes after (second_at sizes x)) (IsNoEarlier sizes after x)
+      by : (state sizes after).frozen x ≡ true → Turn sizes past e (word_at sizes after) x (node_in sizes after x) → LeadsTo (word_at sizes after (second_at sizes x)) (IsNoEarlier sizes after x)
       by h (stays m q t v) =
           let was : (node_in sizes past x).mode ≡ Spent = sym m ∙ spent in
           let kind : (node_in sizes past x).vertex ≡ true = sym v ∙ vertex in
@@ -117,6 +122,7 @@ module _ (sizes : Sizes) (z : IsLayout sizes) (past : List Event) (e : Event) (k
           leads_same (word_at sizes past (second_at sizes x)) (word_at sizes after (second_at sizes x)) (IsNoEarlier sizes past x) (IsNoEarlier sizes after x) (ap index_of same) (λ y d. still_later x y q d) (c.list x within was kind))
           (λ open_. closed_now x within kind open_ h)
       by h (spends m _ _ _) = let d = (closing sizes z past e kept ok x (unclosed sizes z past kept x m) h).spent in absurd (cc)
+      by h (swaps _ _ _ m _ _ _) = let d = (closing sizes z past e kept ok x (unclosed sizes z past kept x m) h).spent in absurd (cc)
       by h (links _ m) = absurd (cc)
       by h (takes _ m) = absurd (cc)
       by h (frees _ m) = absurd (cc)

@@ -2,10 +2,10 @@
 use Rattle.std.proofs.Common.{◌≡◌, ◌≢◌, ℕ, ◌<◌, List, true, refl, subst, arith}
 use Rattle.packed_link.specs.Layout.{Sizes, IsLayout}
 use Rattle.core_journal.specs.declared.event.Kind.{Kind}
-use Rattle.core_journal.specs.declared.event.Kind.TheVariants.{PopFree, LinkVertex, MarkVertex, UnlinkVertex, LinkEdge, MarkEdge, UnlinkEdge, Announce, Withdraw, FreezeHead, FreezeEdge, StoreFree, PushFree}
+use Rattle.core_journal.specs.declared.event.Kind.TheVariants.{PopFree, LinkVertex, MarkVertex, UnlinkVertex, LinkEdge, MarkEdge, UnlinkEdge, Announce, Withdraw, FreezeHead, FreezeEdge, StoreFree, PushFree, ReplaceEdge}
 use Rattle.core_journal.specs.declared.event.Event.{Event}
 use Rattle.core_journal.specs.Prefix.{IsPrefix}
-use Rattle.core_journal.specs.State.{Free, Fresh, Spent, Pass, Node, State, put, handed, state_by, state}
+use Rattle.core_journal.specs.State.{Free, Fresh, Spent, Pass, Node, State, put, handed, joined_edge, state_by, state}
 use Rattle.core_journal.specs.Reuse.{pass_in}
 use Rattle.core_rule.specs.Kept.{AllowedAs, IsKept}
 use Rattle.core_rule.specs.Nodes.{node_in}
@@ -15,6 +15,7 @@ use Rattle.core_rule.proofs.Steps.{Keeps, put_case, handed_case, marked_state, c
 use Rattle.core_rule.proofs.Announcements.{announcements}
 use Rattle.core_rule.proofs.LinkWords.{taken}
 use Rattle.core_rule.proofs.Ripe.{ripe_before}
+use Rattle.core_rule.proofs.ReplaceCases.{new_edge_node}
 use Rattle.core_journal.proofs.States.{counted_by}
 
 -- a node says what another says of a life: its tag, and what was linked in it
@@ -62,6 +63,11 @@ module _ (n : Node) (since : ℕ) where
   here_by UnlinkEdge sizes z past e kept ok caller x o is low c = here_put (state sizes past) e.life.index x _ c (λ d. record { same = same_spent (node_in sizes past e.life.index) _ _ _ d.same; free = λ h. absurd (cc); fresh = λ h. absurd (cc); spent = λ _. omega (arith, low) })
   here_by StoreFree sizes z past e kept ok caller x o is low c = here_put (state sizes past) e.life.index x _ c (λ d. record { same = same_stored (node_in sizes past e.life.index) d.same; free = d.free; fresh = d.fresh; spent = d.spent })
   here_by PushFree sizes z past e kept ok caller x o is low c = here_put (state sizes past) e.life.index x _ c (λ d. absurd (omega (arith, d.spent ok.ripe.stamped.spent.spent, is, ripe_before sizes z past kept e.caller e.life.index caller ok.ripe o)))
+  here_by ReplaceEdge sizes z past e kept ok caller x o is low c =
+      let s : State = state sizes past in
+      let j : State = joined_edge sizes e s in
+      let cj : IsHere n since (j.node x) = here_put s e.life.index x (new_edge_node (s.node e.life.index) e s.count) c (λ d. absurd (d.fresh ok.fresh.fresh)) in
+      here_handed (marked_state j e.old.index) (j.node e.old.index).source.index x (omega (arith, low)) (here_put j e.old.index x (record (j.node e.old.index) { marked = true }) cj (here_mark (j.node e.old.index)))
   here_by MarkEdge sizes z past e kept ok caller x o is low c = here_handed (marked_state (state sizes past) e.life.index) (node_in sizes past e.life.index).source.index x (omega (arith, low)) (here_put (state sizes past) e.life.index x _ c (here_mark (node_in sizes past e.life.index)))
   here_by FreezeEdge sizes z past e kept ok caller x o is low c = here_handed (marked_state (state sizes past) e.life.index) (node_in sizes past e.life.index).source.index x (omega (arith, low)) (here_put (state sizes past) e.life.index x _ c (here_mark (node_in sizes past e.life.index)))
   here_by FreezeHead sizes z past e kept ok caller x o is low c = here_handed (closed_state (state sizes past) e.life.index) e.life.index x (omega (arith, low)) c

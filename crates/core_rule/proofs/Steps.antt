@@ -7,6 +7,7 @@ use mathlib.Core.Logic.{dite}
 use native.Mathlib.Decide.{ℕ_discrete}
 use Rattle.core_chain.specs.Table.{Writes}
 use Rattle.packed_link.specs.Layout.{Sizes, word_count}
+use Rattle.core_journal.specs.Event.{draws}
 use Rattle.core_journal.specs.declared.event.Kind.{Kind}
 use Rattle.core_journal.specs.declared.event.Event.{Event}
 use Rattle.core_journal.specs.Prefix.{IsPrefix}
@@ -14,7 +15,6 @@ use Rattle.core_journal.specs.Machine.{word_at}
 use Rattle.core_journal.specs.State.{Mode, Spent, Linked, Node, State, is_linked, put, handed, frozen_part, state_by, opening, state}
 use Rattle.core_journal.proofs.MachineWords.{word_here, word_else}
 use Rattle.core_journal.proofs.States.{state-nil, state-snoc}
-use Rattle.core_rule.specs.Counts.{draws}
 use Rattle.core_rule.specs.Kept.{Allowed, AllowedAs, IsKept}
 use Rattle.core_rule.proofs.Induction.{kept_all, kept_onward}
 

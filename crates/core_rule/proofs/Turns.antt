@@ -8,12 +8,12 @@ use Rattle.atomic_table.proofs.Lists.{at_set}
 use Rattle.graph_kinds.specs.History.{Every}
 use Rattle.graph_kinds.specs.declared.entry.Entry.{Entry}
 use Rattle.packed_link.specs.Layout.{Sizes, IsLayout}
+use Rattle.core_journal.specs.Event.{draws}
 use Rattle.core_journal.specs.declared.event.Event.{Event}
 use Rattle.core_journal.specs.Machine.{machine}
 use Rattle.core_journal.specs.State.{state}
 use Rattle.core_journal.proofs.Lists.{every_map, every_both, every_append, prefix_refl, prefix_trans, prefix_snoc, prefix_length}
 use Rattle.core_journal.proofs.MachineWords.{machine-snoc}
-use Rattle.core_rule.specs.Counts.{draws}
 use Rattle.core_rule.specs.Kept.{Allowed, AllowedAs}
 use Rattle.core_rule.specs.Passes.{IsDrawNumber}
 use Rattle.core_rule.specs.Owes.{Owes, OwesStore}

@@ -4,12 +4,12 @@ use Rattle.std.proofs.Math.Nat.{mod-lt}
 use Rattle.packed_link.specs.Link.{pack, index_of, mark_of, tag_of, nowhere}
 use Rattle.packed_link.specs.Layout.{IsLayout, bucket_at, key_at, link_at, third_at}
 use Rattle.packed_link.specs.declared.link.Life.{Life}
+use Rattle.core_journal.specs.Event.{raises}
 use Rattle.core_journal.specs.declared.event.Event.{Event}
 use Rattle.core_journal.specs.Machine.{word_at}
 use Rattle.core_journal.specs.Reuse.{pass_in}
 use Rattle.core_journal.specs.State.{Node, Pass}
 use Rattle.core_journal.proofs.Lists.{prefix_trans}
-use Rattle.core_rule.specs.Counts.{raises}
 use Rattle.core_rule.specs.Nodes.{node_in, IsLinkedVertex, IsVertex}
 use Rattle.core_rule.specs.Vertices.{IsFilledVertex, IsLinkVertex, IsMarkVertex}
 use Rattle.core_rule.specs.Edges.{IsRaise}

@@ -4,6 +4,7 @@ use Rattle.std.specs.Prelude.{slice_get, is_some}
 use Rattle.packed_link.specs.Link.{pack, index_of, mark_of, tag_of, mark_bit}
 use Rattle.packed_link.specs.Layout.{Sizes, IsLayout, bucket_at, link_at, second_at, third_at}
 use Rattle.packed_link.specs.declared.link.Life.{Life}
+use Rattle.core_journal.specs.Event.{raises}
 use Rattle.core_journal.specs.declared.event.Kind.TheVariants.{Announce, Withdraw, Raise}
 use Rattle.core_journal.specs.declared.event.Event.{Event}
 use Rattle.core_journal.specs.GraphOf.{present_key}
@@ -16,7 +17,7 @@ use Rattle.core_journal.proofs.KeptLives.{linked-link}
 use Rattle.core_journal.proofs.Lists.{get_front, get_here, get_short, take_front, take_here, prefix_refl, prefix_snoc, prefix_trans}
 use Rattle.core_journal.proofs.States.{count-length}
 use Rattle.core_rule.specs.Chains.{life_in}
-use Rattle.core_rule.specs.Counts.{raises, made, most_raises}
+use Rattle.core_rule.specs.Counts.{made, most_raises}
 use Rattle.core_rule.specs.Edges.{IsRaisedFor}
 use Rattle.core_rule.specs.Facts.{HasMet, IsSamePass}
 use Rattle.core_rule.specs.Fronts.{IsLifeAt, MetVertex, MetEdge, key_in, IsVertexBelow, IsVertexAbove, IsEdgeBelow, IsEdgeAbove, IsBeforeVertex, IsBeforeEdge, IsVertexLink, IsEdgeLink, LeadsToVertex, LeadsToEdge, MayRaise}
@@ -257,12 +258,12 @@ module _ (v : View) (z : IsLayout v.sizes) (kept : IsKept v.sizes v.front) where
 
   pub vertex_link_shown : (x : Life) → MetVertex v x → LeadsTo (word_at v.sizes v.front (link_at v.sizes x.index)) (IsVertexBehind v x)
   vertex_link_shown x m = leads_map (word_at v.sizes v.front (link_at v.sizes x.index)) (IsMetBehind v.sizes v.front v.number x.index) (IsVertexBehind v x)
-      (λ y d. record { met = record { life = record { there = d.there; tag = refl }; met = d.met; vertex = d.kind ∙ m.vertex }; rising = d.rising; bucket = d.bucket m.vertex })
+      (λ y d. record { met = record { life = record { there = d.there; tag = refl }; met = d.met; vertex = d.kind ∙ m.vertex }; rising = d.strictly (inl m.vertex); bucket = d.bucket m.vertex })
       (walk_link v.sizes z v.front kept v.number x.index m.life.there m.met)
 
   pub edge_link_shown : (source x : Life) → MetEdge v source x → LeadsTo (word_at v.sizes v.front (link_at v.sizes x.index)) (IsEdgeBehind v source x)
   edge_link_shown source x m = leads_map (word_at v.sizes v.front (link_at v.sizes x.index)) (IsMetBehind v.sizes v.front v.number x.index) (IsEdgeBehind v source x)
-      (λ y d. record { met = record { life = record { there = d.there; tag = refl }; met = d.met; edge = d.kind ∙ m.edge; from = d.source m.edge ∙ m.from }; rising = d.rising })
+      (λ y d. record { met = record { life = record { there = d.there; tag = refl }; met = d.met; edge = d.kind ∙ m.edge; from = d.source m.edge ∙ m.from }; rising = d.rising; strictly = λ live. d.strictly (inr live) })
       (walk_link v.sizes z v.front kept v.number x.index m.life.there m.met)
 
   pub list_shown : (x : Life) → MetVertex v x → LeadsTo (word_at v.sizes v.front (second_at v.sizes x.index)) (IsEdgeIn v x)

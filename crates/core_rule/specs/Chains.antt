@@ -7,7 +7,7 @@ use Rattle.core_chain.specs.Chain.{Chain, Position, Head, Node}
 use Rattle.core_chain.specs.Met.{IsMet}
 use Rattle.core_chain.specs.Table.{Places, chain_in}
 use Rattle.core_journal.specs.declared.event.Event.{Event}
-use Rattle.core_journal.specs.Life.{key_of, link_of, unlinked}
+use Rattle.core_journal.specs.Life.{key_of, link_of, edge_marked, unlinked}
 use Rattle.core_journal.specs.Machine.{word_at}
 use Rattle.core_journal.specs.State.{Linked, Spent, State, is_linked, state}
 use Rattle.core_rule.specs.Nodes.{node_in, is_listed, is_frozen, IsUsed, IsLinkedEdge, IsFrozenToEnd}
@@ -38,11 +38,13 @@ is_of_bucket sizes s j x = is_linked (s.node x).mode && ((s.node x).vertex && ((
 -- the chain of a bucket: its linked vertices, marked or not
 abbrev pub bucket_chain : Sizes → List Event → ℕ → Chain
 bucket_chain sizes journal j =
-    chain_in (word_at sizes journal) (bucket_places sizes j) (is_of_bucket sizes (state sizes journal) j)
+    chain_in (word_at sizes journal) (bucket_places sizes j) (is_of_bucket sizes (state sizes journal) j) (λ x. 0)
 
 -- the chain of a vertex's edges
 abbrev pub edge_chain : Sizes → List Event → ℕ → Chain
-edge_chain sizes journal x = chain_in (word_at sizes journal) (list_places sizes x) (is_listed (state sizes journal) x)
+edge_chain sizes journal x =
+    chain_in (word_at sizes journal) (list_places sizes x) (is_listed (state sizes journal) x)
+    (λ y. (node_in sizes journal y).since)
 
 -- the life that a node is in
 abbrev pub life_in : Sizes → List Event → ℕ → Life
@@ -68,6 +70,11 @@ pub record IsEdgeOf (journal : List Event) (source x : Life) : Type 0 where
   pub is : link_of journal x ≡ Some link
   pub from : link.source ≡ source
   pub stays : unlinked journal x ≡ false
+
+-- an edge is marked, and it was linked before another
+pub record IsOlder (sizes : Sizes) (journal : List Event) (x y : Life) : Type 0 where
+  pub marked : edge_marked journal x ≡ true
+  pub before : (node_in sizes journal x.index).since < (node_in sizes journal y.index).since
 
 -- a life is its node's still, which is linked or spent and isn't stored for the free list
 pub record IsUnstored (sizes : Sizes) (journal : List Event) (x : Life) : Type 0 where
@@ -99,8 +106,8 @@ pub record IsInList (sizes : Sizes) (journal : List Event) (vertex : ℕ) (x : L
 pub record BucketChains (sizes : Sizes) (journal : List Event) : Type 0 where
   pub each : (j : ℕ) → j < sizes.buckets → IsMet (bucket_chain sizes journal j) ((state sizes journal).bucket j)
 
--- from the second word of a vertex, link after link, one meets the edges of its list, each once, by strictly rising
--- keys
+-- from the second word of a vertex, link after link, one meets the edges of its list, each once, by rising keys: two
+-- neighbours have one key only where the first is marked
 pub record EdgeLists (sizes : Sizes) (journal : List Event) : Type 0 where
   pub each : (x : ℕ) → HasList sizes journal x → IsMet (edge_chain sizes journal x) ((state sizes journal).edges x)
 

@@ -1,31 +1,9 @@
 -- How many events of a kind a caller made, and how often the counter of a life was raised.
-use Rattle.std.specs.Prelude.{ℕ, Bool, true, false, ◌&&◌, ◌==◌, List, length, filter}
+use Rattle.std.specs.Prelude.{ℕ, Bool, ◌&&◌, ◌==◌, List, length, filter}
 use Rattle.packed_link.specs.declared.link.Life.{Life}
 use Rattle.core_journal.specs.declared.event.Kind.{Kind}
-use Rattle.core_journal.specs.declared.event.Kind.TheVariants.{DrawNumber, PopFree, LinkVertex, LinkEdge, Raise}
-use Rattle.core_journal.specs.declared.event.Kind.TheVariants.{MoveEpoch}
 use Rattle.core_journal.specs.declared.event.Event.{Event}
-use Rattle.core_journal.specs.Event.{same_life}
-
--- a number is drawn
-abbrev pub draws : Kind → Bool
-draws DrawNumber = true
-draws _ = false
-
--- a node is taken
-abbrev pub pops : Kind → Bool
-pops PopFree = true
-pops _ = false
-
--- a counter is raised
-abbrev pub raises : Kind → Bool
-raises Raise = true
-raises _ = false
-
--- the epoch is moved on
-abbrev pub moves : Kind → Bool
-moves MoveEpoch = true
-moves _ = false
+use Rattle.core_journal.specs.Event.{same_life, raises}
 
 -- how many events of some kinds a caller made
 abbrev pub made : (Kind → Bool) → ℕ → List Event → ℕ
@@ -34,12 +12,6 @@ made test caller journal = length (filter (λ (e : Event). test e.kind && (e.cal
 -- how many events of some kinds are about a life
 abbrev pub about : (Kind → Bool) → Life → List Event → ℕ
 about test x journal = length (filter (λ (e : Event). test e.kind && same_life x e.life) journal)
-
--- a node is linked
-abbrev pub links : Kind → Bool
-links LinkVertex = true
-links LinkEdge = true
-links _ = false
 
 -- how often the counter of a life was raised
 abbrev pub raised : Life → List Event → ℕ

@@ -3,13 +3,14 @@ use Rattle.std.specs.Prelude.{◌≡◌, ◌≢◌, ℕ, ◌+◌, ◌<◌, ◌�
 use Rattle.packed_link.specs.Link.{pack, with_mark, index_of, mark_of, tag_of, nowhere}
 use Rattle.packed_link.specs.Layout.{Sizes, key_at, link_at, second_at, third_at}
 use Rattle.packed_link.specs.declared.link.Life.{Life}
+use Rattle.core_journal.specs.Event.{raises}
 use Rattle.core_journal.specs.declared.event.Kind.TheVariants.{Raise}
 use Rattle.core_journal.specs.declared.event.Event.{Event}
 use Rattle.core_journal.specs.Prefix.{IsPrefix}
 use Rattle.core_journal.specs.Machine.{word_at}
 use Rattle.core_journal.specs.Life.{key_of, link_of, edge_linked, edge_marked}
 use Rattle.core_journal.specs.Reuse.{pass_in}
-use Rattle.core_rule.specs.Counts.{raises, made, most_raises}
+use Rattle.core_rule.specs.Counts.{made, most_raises}
 use Rattle.core_rule.specs.Nodes.{node_in, IsFreshWith, IsVertex, IsLinkedEdge, IsListWord}
 use Rattle.core_rule.specs.Facts.{HasMet}
 
@@ -112,4 +113,24 @@ pub record IsUnlinkEdge (sizes : Sizes) (past : List Event) (e : Event) : Type 0
   pub dead : mark_of (word_at sizes past (link_at sizes e.life.index)) ≡ 1
   pub word : e.word ≡ pack (index_of (word_at sizes past (link_at sizes e.life.index))) 0
       (tag_of (word_at sizes past e.place))
+  pub pass : (pass_in sizes past e.caller).is_open ≡ true
+
+-- in its pass a caller marks an unmarked edge and links the one that it filled behind it, which has its key, source and
+-- target and another weight, after it raised the counter of the source
+pub record IsReplaceEdge (sizes : Sizes) (past : List Event) (e : Event) : Type 0 where
+  pub life : e.life.tag ≡ (node_in sizes past e.life.index).tag
+  pub there : e.life.index < sizes.nodes
+  pub old_life : e.old.tag ≡ (node_in sizes past e.old.index).tag
+  pub old_there : e.old.index < sizes.nodes
+  pub place : e.place ≡ link_at sizes e.old.index
+  pub linked : IsLinkedEdge sizes past e.old.index
+  pub unmarked : mark_of (word_at sizes past e.place) ≡ 0
+  pub word : e.word ≡ pack e.life.index 1 (tag_of (word_at sizes past e.place))
+  pub fresh : IsFreshWith sizes past e.caller e.life.index
+  pub filled : IsFilledEdge sizes past e.life.index e.key (index_of (word_at sizes past e.place)) e.target e.weight
+  pub key : e.key ≡ (node_in sizes past e.old.index).key
+  pub source : e.source ≡ (node_in sizes past e.old.index).source
+  pub target : e.target ≡ (node_in sizes past e.old.index).target
+  pub other : e.weight ≢ (node_in sizes past e.old.index).weight
+  pub raised : IsRaisedFor sizes past e.caller e.old (node_in sizes past e.old.index).source
   pub pass : (pass_in sizes past e.caller).is_open ≡ true

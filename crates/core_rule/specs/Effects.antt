@@ -3,10 +3,12 @@ use Rattle.std.specs.Prelude.{◌≡◌, ◌≢◌, ℕ, ◌%◌, ◌<◌, List,
 use Rattle.packed_link.specs.Layout.{Sizes}
 use Rattle.graph_kinds.specs.declared.call.Call.TheVariants.{AddVertex, RemoveVertex, AddEdge, RemoveEdge}
 use Rattle.core_chain.specs.Chain.{Position, Head}
-use Rattle.core_chain.specs.Steps.{Inserts, Marks, Unlinks, SetsMark, Freezes, Untouched}
+use Rattle.core_chain.specs.Steps.{Inserts, Replaces, Marks, Unlinks, SetsMark, Freezes, Untouched}
 use Rattle.core_journal.specs.declared.event.Kind.{Kind}
-use Rattle.core_journal.specs.declared.event.Kind.TheVariants.{LinkVertex, MarkVertex, UnlinkVertex, LinkEdge, MarkEdge}
-use Rattle.core_journal.specs.declared.event.Kind.TheVariants.{UnlinkEdge, FreezeHead, FreezeEdge}
+use Rattle.core_journal.specs.declared.event.Kind.TheVariants.{DrawNumber, PopFree, StorePrivate, LinkVertex}
+use Rattle.core_journal.specs.declared.event.Kind.TheVariants.{MarkVertex, UnlinkVertex, LinkEdge, Raise, MarkEdge}
+use Rattle.core_journal.specs.declared.event.Kind.TheVariants.{UnlinkEdge, ReplaceEdge, Announce, Withdraw, MoveEpoch}
+use Rattle.core_journal.specs.declared.event.Kind.TheVariants.{FreezeHead, FreezeEdge, StoreFree, PushFree}
 use Rattle.core_journal.specs.declared.event.Event.{Event}
 use Rattle.core_journal.specs.GraphOf.{graph_of, call_of, present_key, present_pair, pair_between, CarriesOut}
 use Rattle.core_rule.specs.Nodes.{node_in}
@@ -78,6 +80,17 @@ pub record RemovesEdge (sizes : Sizes) (past : List Event) (e : Event) : Type 0 
   pub graph : (a b w : ℕ) → present_pair past e.life ≡ Some ((a, b), w) → CarriesOut past e
   pub none : present_pair past e.life ≡ None → graph_of (past ++ e ∷ []) ≡ graph_of past
 
+-- an edge is replaced: it is marked, and the new one joins the list of its source behind it; where both ends are
+-- present the graph, which had the pair with another weight, has it with the new one; else the graph stays
+pub record ReplacesEdge (sizes : Sizes) (past : List Event) (e : Event) : Type 0 where
+  pub of_source : e.source ≡ (node_in sizes past e.old.index).source
+  pub chain : Replaces (edge_chain sizes past e.source.index)
+      (edge_chain sizes (past ++ e ∷ []) e.source.index) e.old.index e.life.index
+  pub others : OthersThanList sizes past e e.source.index
+  pub call : (a b w : ℕ) → present_pair past e.old ≡ Some ((a, b), w) → call_of past e ≡ Some (AddEdge a b e.weight)
+  pub graph : (a b w : ℕ) → present_pair past e.old ≡ Some ((a, b), w) → CarriesOut past e
+  pub none : present_pair past e.old ≡ None → graph_of (past ++ e ∷ []) ≡ graph_of past
+
 -- a marked edge leaves the list of its source, and the graph stays
 pub record UnlinksEdge (sizes : Sizes) (past : List Event) (e : Event) : Type 0 where
   pub source : ℕ
@@ -117,7 +130,16 @@ EffectAs MarkVertex sizes past e = RemovesVertex sizes past e
 EffectAs UnlinkVertex sizes past e = UnlinksVertex sizes past e
 EffectAs LinkEdge sizes past e = AddsEdge sizes past e
 EffectAs MarkEdge sizes past e = RemovesEdge sizes past e
+EffectAs ReplaceEdge sizes past e = ReplacesEdge sizes past e
 EffectAs UnlinkEdge sizes past e = UnlinksEdge sizes past e
 EffectAs FreezeHead sizes past e = ClosesList sizes past e
 EffectAs FreezeEdge sizes past e = FreezesEdge sizes past e
-EffectAs _ sizes past e = ChangesNone sizes past e
+EffectAs DrawNumber sizes past e = ChangesNone sizes past e
+EffectAs PopFree sizes past e = ChangesNone sizes past e
+EffectAs StorePrivate sizes past e = ChangesNone sizes past e
+EffectAs Raise sizes past e = ChangesNone sizes past e
+EffectAs Announce sizes past e = ChangesNone sizes past e
+EffectAs Withdraw sizes past e = ChangesNone sizes past e
+EffectAs MoveEpoch sizes past e = ChangesNone sizes past e
+EffectAs StoreFree sizes past e = ChangesNone sizes past e
+EffectAs PushFree sizes past e = ChangesNone sizes past e

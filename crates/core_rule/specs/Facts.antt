@@ -3,6 +3,7 @@ use Rattle.std.specs.Prelude.{List, ◌≡◌, ◌≢◌, ℕ, ◌+◌, ◌<◌,
 use Rattle.packed_link.specs.Link.{pack, index_of, mark_of, tag_of, mark_bit, nowhere}
 use Rattle.packed_link.specs.Layout.{Sizes, number_at, epoch_at, key_at, link_at, second_at, third_at}
 use Rattle.packed_link.specs.declared.link.Life.{Life}
+use Rattle.core_journal.specs.Event.{links}
 use Rattle.core_journal.specs.State.{Free, Fresh, Linked, Spent, Node, State, state}
 use Rattle.core_journal.specs.declared.event.Kind.{Kind}
 use Rattle.core_journal.specs.declared.event.Event.{Event}
@@ -10,7 +11,7 @@ use Rattle.core_journal.specs.Life.{key_of, link_of, vertex_marked, edge_marked}
 use Rattle.core_journal.specs.Machine.{word_at}
 use Rattle.core_journal.specs.Prefix.{IsPrefix}
 use Rattle.core_journal.specs.Reuse.{pass_in}
-use Rattle.core_rule.specs.Counts.{about, links, raised}
+use Rattle.core_rule.specs.Counts.{about, raised}
 use Rattle.core_rule.specs.Nodes.{node_in, IsUsed}
 
 -- the first words count: how many numbers are drawn, and the epoch
@@ -85,9 +86,10 @@ pub record IsCounter (sizes : Sizes) (journal : List Event) (v : Node) (x : ℕ)
 pub record Counters (sizes : Sizes) (journal : List Event) (s : State) (w : ℕ → ℕ) : Type 0 where
   pub each : (x : ℕ) → x < sizes.nodes → IsCounter sizes journal (s.node x) x w
 
--- no event is about a later life of a node than the one that it's in
+-- no event is about a later life of a node than the one that it's in, nor marks such a life as an edge
 pub record Lives (journal : List Event) (s : State) : Type 0 where
   pub later : (test : Kind → Bool) (x : Life) → (s.node x.index).tag < x.tag → about test x journal ≡ 0
+  pub cut : (x : Life) → (s.node x.index).tag < x.tag → edge_marked journal x ≡ false
 
 -- each life is linked at most once, and that of a fresh node not yet
 pub record LinkedOnce (journal : List Event) (s : State) : Type 0 where

@@ -2,10 +2,11 @@
 use Rattle.std.specs.Prelude.{◌≡◌, ℕ, ◌+◌, ◌<◌, ◌^◌, ◌⊎◌, true, List}
 use Rattle.packed_link.specs.Link.{pack, index_of, mark_of, tag_of, nowhere}
 use Rattle.packed_link.specs.Layout.{Sizes, free_at, key_at, link_at}
+use Rattle.core_journal.specs.Event.{pops}
 use Rattle.core_journal.specs.declared.event.Event.{Event}
 use Rattle.core_journal.specs.Machine.{word_at}
 use Rattle.core_journal.specs.State.{state}
-use Rattle.core_rule.specs.Counts.{pops, made, most_pops}
+use Rattle.core_rule.specs.Counts.{made, most_pops}
 use Rattle.core_rule.specs.Nodes.{node_in, is_listed, IsFreshWith, IsFrozenToEnd, IsRipe}
 
 -- a caller that holds no fresh node takes the first free one, for its next life, and the free list then begins with

@@ -1,17 +1,19 @@
 -- What a token must know by its front, so that its next step of a kind is allowed wherever it wins: one condition a
 -- kind. "Met" is what an open pass has met (`HasMet`). An earlier moment, at which the token loaded a word, stands only
--- in those for taking a node, announcing, moving the epoch on, raising, marking an edge, and where the node is ripe.
+-- in those for taking a node, announcing, moving the epoch on, raising, marking and replacing an edge, and where the
+-- node is ripe.
 use Rattle.std.specs.Prelude.{◌≡◌, ◌≢◌, ℕ, ◌+◌, ◌%◌, ◌<◌, ◌^◌, ◌⊎◌, true, false, List, Some, length}
 use Rattle.packed_link.specs.Link.{index_of, mark_of, tag_of, nowhere}
 use Rattle.packed_link.specs.Layout.{free_at, epoch_at, bucket_at, key_at, link_at, second_at}
 use Rattle.packed_link.specs.declared.link.Life.{Life}
+use Rattle.core_journal.specs.Event.{pops, raises, moves}
 use Rattle.core_journal.specs.declared.event.Event.{Event}
 use Rattle.core_journal.specs.Prefix.{IsPrefix}
 use Rattle.core_journal.specs.Machine.{word_at}
 use Rattle.core_journal.specs.Life.{link_of, edge_marked}
 use Rattle.core_journal.specs.Reuse.{pass_in}
 use Rattle.core_journal.specs.State.{state}
-use Rattle.core_rule.specs.Counts.{pops, raises, moves, made, most_pops, most_raises, most_moves}
+use Rattle.core_rule.specs.Counts.{made, most_pops, most_raises, most_moves}
 use Rattle.core_rule.specs.Nodes.{node_in, is_listed, IsFreshWith, IsFrozenToEnd, IsRipe}
 use Rattle.core_rule.specs.Chains.{KeepsList}
 use Rattle.core_rule.specs.Passes.{IsChecked}
@@ -167,6 +169,22 @@ pub record MayRaise (v : View) (x : Life) : Type 0 where
 pub record MayMarkEdge (v : View) (source x : Life) : Type 0 where
   pub edge : MetEdge v source x
   pub raised : IsRaisedFor v.sizes v.front v.number x source
+
+-- the edge was met, and in this pass the token raised the counter of its source when the edge was linked; the word seen
+-- is unmarked, and the fresh node is filled with where it leads, with the edge's key and target, and with another
+-- weight
+pub record MayReplaceEdge (v : View) (seen key : ℕ) (source target : Life) (weight : ℕ) (old x : Life) : Type 0 where
+  pub life : IsLifeAt v x
+  pub edge : MetEdge v source old
+  pub raised : IsRaisedFor v.sizes v.front v.number old source
+  pub unmarked : mark_of seen ≡ 0
+  pub fresh : IsFreshWith v.sizes v.front v.number x.index
+  pub filled : IsFilledEdge v.sizes v.front x.index key (index_of seen) target weight
+  pub link : Event
+  pub link_is : link_of v.front old ≡ Some link
+  pub same_key : link.key ≡ key
+  pub same_target : link.target ≡ target
+  pub other_weight : link.weight ≢ weight
 
 -- an edge of this source that was met, and this place is its link
 pub record IsEdgeLink (v : View) (source : Life) (place : ℕ) (x : Life) : Type 0 where

@@ -1,18 +1,19 @@
 -- The journals of the core: each event was allowed after those before it. One condition a kind, over the journal alone.
 use Rattle.std.specs.Prelude.{◌≡◌, ◌≢◌, ℕ, ◌<◌, ◌≤◌, false, List, [], ◌∷◌, ◌++◌, Some, slice_get}
 use Rattle.packed_link.specs.Layout.{Sizes}
+use Rattle.core_journal.specs.Event.{draws}
 use Rattle.core_journal.specs.declared.event.Kind.{Kind}
 use Rattle.core_journal.specs.declared.event.Kind.TheVariants.{DrawNumber, PopFree, StorePrivate, LinkVertex}
 use Rattle.core_journal.specs.declared.event.Kind.TheVariants.{MarkVertex, UnlinkVertex, LinkEdge, Raise, MarkEdge}
-use Rattle.core_journal.specs.declared.event.Kind.TheVariants.{UnlinkEdge, Announce, Withdraw, MoveEpoch, FreezeHead}
+use Rattle.core_journal.specs.declared.event.Kind.TheVariants.{UnlinkEdge, ReplaceEdge, Announce, Withdraw, MoveEpoch}
+use Rattle.core_journal.specs.declared.event.Kind.TheVariants.{FreezeHead}
 use Rattle.core_journal.specs.declared.event.Kind.TheVariants.{FreezeEdge, StoreFree, PushFree}
 use Rattle.core_journal.specs.declared.event.Event.{Event}
 use Rattle.core_journal.specs.State.{state}
-use Rattle.core_rule.specs.Counts.{draws}
 use Rattle.core_rule.specs.Passes.{IsDrawNumber, IsAnnounce, IsWithdraw, IsMoveEpoch}
 use Rattle.core_rule.specs.FreeNodes.{IsPopFree, IsStorePrivate, IsStoreFree, IsPushFree}
 use Rattle.core_rule.specs.Vertices.{IsLinkVertex, IsMarkVertex, IsUnlinkVertex}
-use Rattle.core_rule.specs.Edges.{IsLinkEdge, IsRaise, IsMarkEdge, IsUnlinkEdge}
+use Rattle.core_rule.specs.Edges.{IsLinkEdge, IsRaise, IsMarkEdge, IsUnlinkEdge, IsReplaceEdge}
 use Rattle.core_rule.specs.Freezing.{IsFreezeHead, IsFreezeEdge}
 
 -- the condition of each kind
@@ -27,6 +28,7 @@ AllowedAs LinkEdge sizes past e = IsLinkEdge sizes past e
 AllowedAs Raise sizes past e = IsRaise sizes past e
 AllowedAs MarkEdge sizes past e = IsMarkEdge sizes past e
 AllowedAs UnlinkEdge sizes past e = IsUnlinkEdge sizes past e
+AllowedAs ReplaceEdge sizes past e = IsReplaceEdge sizes past e
 AllowedAs Announce sizes past e = IsAnnounce sizes past e
 AllowedAs Withdraw sizes past e = IsWithdraw sizes past e
 AllowedAs MoveEpoch sizes past e = IsMoveEpoch sizes past e

@@ -6,6 +6,7 @@ use Rattle.core_journal.specs.TwoCallers.{callers_journal}
 use Rattle.core_journal.specs.Worked.{small}
 use Rattle.core_rule.specs.Beside.{beside_others}
 use Rattle.core_rule.specs.Owes.{Reaches}
+use Rattle.core_rule.specs.Replacing.{replacing}
 use Rattle.core_rule.specs.TwoLives.{two_lives}
 use Rattle.core_rule.specs.declared.view.View.{View}
 
@@ -36,6 +37,10 @@ view_among caller n = view_of callers_journal caller n
 -- the same of the worked journal with links in front of others and behind others
 abbrev pub view_beside : ℕ → ℕ → View
 view_beside caller n = view_of beside_others caller n
+
+-- the same of the worked journal in which edges are replaced
+abbrev pub view_replacing : ℕ → ℕ → View
+view_replacing caller n = view_of replacing caller n
 
 -- a token's step makes event n of a journal: the token may meet the events before it, the step finds this word at its
 -- place, and its event is the next one

@@ -24,3 +24,5 @@ pub mod TwoLives
 pub mod Refused
 pub mod Beside
 pub mod KnownSteps
+pub mod Replacements
+pub mod Replacing

@@ -1,9 +1,9 @@
 -- What a step owes, so that it keeps the rule of the one table: where it wins, its event is allowed.
 use Rattle.std.specs.Prelude.{◌≡◌, ℕ, ◌≤◌, Bool, true, false, List, length}
+use Rattle.core_journal.specs.Event.{draws}
 use Rattle.core_journal.specs.declared.event.Event.{Event}
 use Rattle.core_journal.specs.Prefix.{IsPrefix}
 use Rattle.core_journal.specs.Machine.{word_at}
-use Rattle.core_rule.specs.Counts.{draws}
 use Rattle.core_rule.specs.Kept.{AllowedAs, IsKept, IsQuiet}
 use Rattle.core_rule.specs.declared.view.View.{View}
 

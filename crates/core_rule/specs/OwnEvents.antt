@@ -6,7 +6,7 @@ use Rattle.packed_link.specs.declared.link.Life.{Life}
 use Rattle.core_journal.specs.declared.event.Kind.TheVariants.{PopFree, StorePrivate, LinkVertex, MarkVertex}
 use Rattle.core_journal.specs.declared.event.Kind.TheVariants.{UnlinkVertex, LinkEdge, Raise, MarkEdge, UnlinkEdge}
 use Rattle.core_journal.specs.declared.event.Kind.TheVariants.{Announce, Withdraw, MoveEpoch, FreezeHead, FreezeEdge}
-use Rattle.core_journal.specs.declared.event.Kind.TheVariants.{StoreFree, PushFree}
+use Rattle.core_journal.specs.declared.event.Kind.TheVariants.{StoreFree, PushFree, ReplaceEdge}
 use Rattle.core_journal.specs.declared.event.Event.{Event}
 use Rattle.core_journal.specs.Event.{blank}
 use Rattle.core_rule.specs.declared.view.View.{View}
@@ -91,6 +91,23 @@ mark_edge_event v x found =
       place = link_at v.sizes x.index;
       word = with_mark found;
       life = x;
+    }
+
+-- an edge is replaced: the word seen of its link, marked, then leads to the new one, which has its key, source and
+-- target and this weight
+abbrev pub replace_event : View → ℕ → ℕ → Life → Life → ℕ → Life → Life → Event
+replace_event v seen key source target weight old x =
+    record blank {
+      caller = v.number;
+      kind = ReplaceEdge;
+      place = link_at v.sizes old.index;
+      word = pack x.index 1 (tag_of seen);
+      life = x;
+      key = key;
+      source = source;
+      target = target;
+      weight = weight;
+      old = old;
     }
 
 -- an edge is unlinked: the word seen then leads to the next one

@@ -3,12 +3,12 @@ use Rattle.std.specs.Prelude.{◌≡◌, ℕ, ◌+◌, ◌<◌, true, false, Lis
 use Rattle.packed_link.specs.Layout.{Sizes, number_at, epoch_at, announce_at}
 use Rattle.core_epoch.specs.Steps.{IsFoundClear}
 use Rattle.core_journal.specs.declared.event.Event.{Event}
-use Rattle.core_journal.specs.Event.{no_life}
+use Rattle.core_journal.specs.Event.{no_life, moves}
 use Rattle.core_journal.specs.Prefix.{IsPrefix}
 use Rattle.core_journal.specs.Machine.{word_at}
 use Rattle.core_journal.specs.State.{state}
 use Rattle.core_journal.specs.Reuse.{pass_in}
-use Rattle.core_rule.specs.Counts.{moves, made, most_moves}
+use Rattle.core_rule.specs.Counts.{made, most_moves}
 use Rattle.core_rule.specs.Moments.{clock_in}
 
 -- a caller draws the next number, which is its own from then on, while there are some left

@@ -1,7 +1,7 @@
--- A worked journal with all seventeen kinds of events, and the words after it. Behind two vertices that caller 0 added,
--- it adds an edge between them, removes it, adds it again with another node, and removes its source, whose list is
--- closed. Caller 1 moves the epoch on twice. Then caller 0 gives the nodes of the second edge and of its source back,
--- and takes the latter for a second life.
+-- A worked journal with all kinds of events but the replacing of an edge, and the words after it. Behind two vertices
+-- that caller 0 added, it adds an edge between them, removes it, adds it again with another node, and removes its
+-- source, whose list is closed. Caller 1 moves the epoch on twice. Then caller 0 gives the nodes of the second edge and
+-- of its source back, and takes the latter for a second life.
 use Rattle.std.specs.Prelude.{ℕ, ◌+◌, List, [], ◌∷◌, ◌++◌, take}
 use Rattle.std.specs.FinMap as map
 use Rattle.std.specs.FinSet as set

@@ -1,7 +1,7 @@
 -- What a token's view shows: how it goes on by a step, and where a word leads that it loaded.
 use Rattle.std.specs.Prelude.{◌≡◌, ℕ, ◌%◌, ◌<◌, ◌≤◌, ◌^◌, List, [], ◌∷◌, ◌++◌, Option, Some, None}
-use Rattle.packed_link.specs.Link.{pack}
-use Rattle.packed_link.specs.Layout.{second_at, third_at}
+use Rattle.packed_link.specs.Link.{pack, mark_of}
+use Rattle.packed_link.specs.Layout.{link_at, second_at, third_at}
 use Rattle.packed_link.specs.declared.link.Life.{Life}
 use Rattle.core_journal.specs.declared.event.Event.{Event}
 use Rattle.core_journal.specs.Life.{key_of, link_of}
@@ -59,10 +59,12 @@ pub record IsVertexBehind (v : View) (x : Life) (index : ℕ) : Type 0 where
 abbrev pub IsEdgeIn : View → Life → ℕ → Type 0
 IsEdgeIn v source index = MetEdge v source (life_in v.sizes v.front index)
 
--- the node of this index is an edge of the source that was met, with a greater key than that of another
+-- the node of this index is an edge of the source that was met, with no smaller key than that of another, and with a
+-- greater one where the link of the other is unmarked
 pub record IsEdgeBehind (v : View) (source x : Life) (index : ℕ) : Type 0 where
   pub met : MetEdge v source (life_in v.sizes v.front index)
-  pub rising : key_in v x.index < key_in v index
+  pub rising : key_in v x.index ≤ key_in v index
+  pub strictly : mark_of (word_at v.sizes v.front (link_at v.sizes x.index)) ≡ 0 → key_in v x.index < key_in v index
 
 -- the words of a node are those with which it was linked as an edge of the source: its key, that of its target, its
 -- target and its weight

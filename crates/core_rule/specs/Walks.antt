@@ -1,7 +1,7 @@
 -- What a walk meets: where the words of linked and of spent nodes lead.
 use Rattle.std.specs.Prelude.{◌≡◌, ◌≢◌, ℕ, ◌%◌, ◌<◌, ◌≤◌, ◌⊎◌, true, false, List, [], ◌∷◌}
 use Rattle.graph_kinds.specs.History.{Every}
-use Rattle.packed_link.specs.Link.{index_of, nowhere}
+use Rattle.packed_link.specs.Link.{index_of, mark_of, nowhere}
 use Rattle.packed_link.specs.Layout.{Sizes, bucket_at, key_at, link_at, second_at}
 use Rattle.core_journal.specs.declared.event.Event.{Event}
 use Rattle.core_journal.specs.Machine.{word_at}
@@ -32,13 +32,15 @@ pub record SpentLinks (sizes : Sizes) (journal : List Event) : Type 0 where
       → (node_in sizes journal x).mode ≡ Spent → (node_in sizes journal x).vertex ≡ true
       → LeadsTo (word_at sizes journal (second_at sizes x)) (IsNoEarlier sizes journal x)
 
--- the pass of a caller has met y, which is of the kind of x and has a greater key: a vertex of the same bucket, or an
--- edge of the same source
+-- the pass of a caller has met y, which is of the kind of x: a vertex of the same bucket, or an edge of the same
+-- source. Its key isn't smaller, and it's greater where x is a vertex or its link is unmarked
 pub record IsMetBehind (sizes : Sizes) (journal : List Event) (caller x y : ℕ) : Type 0 where
   pub there : y < sizes.nodes
   pub met : HasMet sizes journal caller y
   pub kind : (node_in sizes journal y).vertex ≡ (node_in sizes journal x).vertex
-  pub rising : word_at sizes journal (key_at sizes x) < word_at sizes journal (key_at sizes y)
+  pub rising : word_at sizes journal (key_at sizes x) ≤ word_at sizes journal (key_at sizes y)
+  pub strictly : ((node_in sizes journal x).vertex ≡ true) ⊎ (mark_of (word_at sizes journal (link_at sizes x)) ≡ 0)
+      → word_at sizes journal (key_at sizes x) < word_at sizes journal (key_at sizes y)
   pub bucket : (node_in sizes journal x).vertex ≡ true
       → word_at sizes journal (key_at sizes y) % sizes.buckets ≡ word_at sizes journal (key_at sizes x) % sizes.buckets
   pub source : (node_in sizes journal x).vertex ≡ false

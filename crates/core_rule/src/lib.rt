@@ -12,6 +12,7 @@ mod lifts;
 mod lists;
 mod own;
 mod raises;
+mod replacements;
 mod reuse;
 mod rule;
 mod view;
@@ -46,6 +47,10 @@ pub use own::{
 pub use raises::{
     a_raise_is_for_edges_linked_before, few_edges_are_linked,
     marked_edges_were_linked_at_a_lower_counter,
+};
+pub use replacements::{
+    a_marked_link_tells_whether_its_edge_was_replaced, an_edge_is_replaced,
+    wrong_replacements_are_refused,
 };
 pub use reuse::{
     each_node_has_one_standing, nodes_are_given_again_safely, ripe_nodes_are_not_met,

@@ -6,8 +6,8 @@
 //! event of the token's own (`Reaches` of `specs/Owes.antt`). That is all that a step owes by `Owes` beside the word
 //! that it writes. "In this pass" is one word: what an open pass has met (`HasMet`) stays met, so these speak of no
 //! load. Where a load matters all the same, the condition has the earlier moment: for taking a node, announcing a pass
-//! and moving the epoch, for raising a counter and marking an edge, and for the two kinds that need a ripe node. The
-//! draw of a number is `a_draw_keeps_the_rule`, since it changes what its token is.
+//! and moving the epoch, for raising a counter, marking and replacing an edge, and for the two kinds that need a ripe
+//! node. The draw of a number is `a_draw_keeps_the_rule`, since it changes what its token is.
 
 ghost use Rattle.std.specs.Prelude.{◌≡◌, ℕ, List};
 ghost use Rattle.packed_link.specs.Link.{pack, mark_of, nowhere};
@@ -18,7 +18,8 @@ ghost use Rattle.core_journal.specs.declared.event.Kind.TheVariants.{Announce, L
 ghost use Rattle.core_journal.specs.declared.event.Kind.TheVariants.{MarkVertex};
 ghost use Rattle.core_journal.specs.declared.event.Kind.TheVariants.{FreezeEdge, FreezeHead, MoveEpoch, PopFree};
 ghost use Rattle.core_journal.specs.declared.event.Kind.TheVariants.{PushFree};
-ghost use Rattle.core_journal.specs.declared.event.Kind.TheVariants.{Raise, StoreFree, StorePrivate, UnlinkEdge};
+ghost use Rattle.core_journal.specs.declared.event.Kind.TheVariants.{Raise, ReplaceEdge, StoreFree, StorePrivate};
+ghost use Rattle.core_journal.specs.declared.event.Kind.TheVariants.{UnlinkEdge};
 ghost use Rattle.core_journal.specs.declared.event.Kind.TheVariants.{UnlinkVertex, Withdraw};
 ghost use Rattle.core_journal.specs.Machine.{word_at};
 ghost use Rattle.core_journal.specs.TwoCallers.{callers_journal};
@@ -26,19 +27,21 @@ ghost use Rattle.core_journal.specs.Worked.{small, first_life};
 ghost use Rattle.core_rule.specs.Nodes.{IsSpentWith};
 ghost use Rattle.core_rule.specs.declared.view.View.{View};
 ghost use Rattle.core_rule.specs.Fronts.{MayAnnounce, MayFreezeEdge, MayFreezeHead, MayLinkEdge, MayLinkVertex};
-ghost use Rattle.core_rule.specs.Fronts.{MayMarkEdge, MayMarkVertex};
+ghost use Rattle.core_rule.specs.Fronts.{MayMarkEdge, MayMarkVertex, MayReplaceEdge};
 ghost use Rattle.core_rule.specs.Fronts.{MayMoveEpoch, MayPopFree, MayPushFree, MayRaise, MayStoreFree};
 ghost use Rattle.core_rule.specs.Fronts.{MayStorePrivate};
 ghost use Rattle.core_rule.specs.Fronts.{MayUnlinkEdge, MayUnlinkVertex, MayWithdraw};
 ghost use Rattle.core_rule.specs.Beside.{beside_others};
 ghost use Rattle.core_rule.specs.Kept.{AllowedAs};
-ghost use Rattle.core_rule.specs.KnownSteps.{Makes, view_among, view_at, view_beside};
+ghost use Rattle.core_rule.specs.KnownSteps.{Makes, view_among, view_at, view_beside, view_replacing};
 ghost use Rattle.core_rule.specs.OwnEvents.{announce_event, freeze_edge_event, freeze_head_event, link_edge_event};
 ghost use Rattle.core_rule.specs.OwnEvents.{link_vertex_event, store_free_event};
 ghost use Rattle.core_rule.specs.OwnEvents.{mark_edge_event, mark_vertex_event, move_event, pop_event, push_event};
-ghost use Rattle.core_rule.specs.OwnEvents.{raise_event, store_event, unlink_edge_event, unlink_vertex_event};
+ghost use Rattle.core_rule.specs.OwnEvents.{raise_event, replace_event, store_event, unlink_edge_event};
+ghost use Rattle.core_rule.specs.OwnEvents.{unlink_vertex_event};
 ghost use Rattle.core_rule.specs.OwnEvents.{withdraw_event};
 ghost use Rattle.core_rule.specs.Owes.{Reaches};
+ghost use Rattle.core_rule.specs.Replacing.{replacing};
 ghost use Rattle.core_rule.specs.TwoLives.{two_lives};
 
 /// A node is taken where the word of the free list is the one seen; a word of a fresh node is stored; the link of a
@@ -85,8 +88,8 @@ pub fn steps_on_vertices_are_allowed()
         → AllowedAs UnlinkVertex v.sizes journal (unlink_vertex_event v place seen next x) }
 {}
 
-/// An edge is linked and unlinked where the word before it is the one seen, and marked where its link is unmarked; the
-/// counter of a vertex is raised, whatever it is.
+/// An edge is linked and unlinked where the word before it is the one seen, marked where its link is unmarked, and
+/// replaced where its link is the word seen; the counter of a vertex is raised, whatever it is.
 pub fn steps_on_edges_are_allowed()
     ensures link { (v : View) → IsLayout v.sizes → (place seen key : ℕ) (source target : Life) (weight : ℕ) (x : Life)
         → MayLinkEdge v place seen key source target weight x → (journal : List Event) → Reaches v journal
@@ -98,6 +101,10 @@ pub fn steps_on_edges_are_allowed()
     ensures mark { (v : View) → IsLayout v.sizes → (source x : Life) → MayMarkEdge v source x → (journal : List Event)
         → Reaches v journal → mark_of (word_at v.sizes journal (link_at v.sizes x.index)) ≡ 0
         → AllowedAs MarkEdge v.sizes journal (mark_edge_event v x (word_at v.sizes journal (link_at v.sizes x.index))) }
+    ensures replace { (v : View) → IsLayout v.sizes → (seen key : ℕ) (source target : Life) (weight : ℕ) (old x : Life)
+        → MayReplaceEdge v seen key source target weight old x → (journal : List Event) → Reaches v journal
+        → word_at v.sizes journal (link_at v.sizes old.index) ≡ seen
+        → AllowedAs ReplaceEdge v.sizes journal (replace_event v seen key source target weight old x) }
     ensures unlink { (v : View) → IsLayout v.sizes → (place seen next : ℕ) (source x : Life)
         → MayUnlinkEdge v place seen next source x → (journal : List Event) → Reaches v journal
         → word_at v.sizes journal place ≡ seen
@@ -123,11 +130,11 @@ pub fn steps_on_closed_lists_are_allowed()
         → IsSpentWith v.sizes journal v.number x.index }
 {}
 
-/// None of these conditions is empty: for each there is an event of the worked journal with all kinds of events
-/// (`two_lives` of `specs/TwoLives.antt`) before which a token met it by its front, and the token's step makes just
-/// that event of the word that it finds. The front is the whole journal before the event, but where the epoch is moved:
-/// caller 1 looked at it and at the announcements, then caller 0 made 43 events, and behind these caller 1 moves the
-/// epoch on.
+/// None of these conditions is empty: for each there is an event of a worked journal (`two_lives` of
+/// `specs/TwoLives.antt`, and `replacing` of `specs/Replacing.antt` where an edge is replaced) before which a token met
+/// it by its front, and the token's step makes just that event of the word that it finds. The front is the whole
+/// journal before the event, but where the epoch is moved: caller 1 looked at it and at the announcements, then caller
+/// 0 made 43 events, and behind these caller 1 moves the epoch on.
 pub fn a_token_may_make_each_step()
     ensures pop { MayPopFree (view_at 0 52) (pack 0 0 6) (pack 3 1 1)
         × Makes two_lives (view_at 0 52) 52 (pack 0 0 6) (pop_event (view_at 0 52) (pack 0 0 6) (pack 3 1 1)) }
@@ -153,6 +160,11 @@ pub fn a_token_may_make_each_step()
     ensures mark_edge { MayMarkEdge (view_at 0 28) (first_life 0) (first_life 2)
         × Makes two_lives (view_at 0 28) 28 (pack nowhere 0 1)
         (mark_edge_event (view_at 0 28) (first_life 2) (pack nowhere 0 1)) }
+    ensures replace_edge { MayReplaceEdge (view_replacing 0 33) (pack nowhere 0 1) 2 (first_life 0) (first_life 1) 6
+        (first_life 2) (first_life 3)
+        × Makes replacing (view_replacing 0 33) 33 (pack nowhere 0 1)
+        (replace_event (view_replacing 0 33) (pack nowhere 0 1) 2 (first_life 0) (first_life 1) 6 (first_life 2)
+        (first_life 3)) }
     ensures unlink_edge { MayUnlinkEdge (view_at 0 29) (second_at small 0) (pack 2 0 1) nowhere (first_life 0)
         (first_life 2)
         × Makes two_lives (view_at 0 29) 29 (pack 2 0 1)

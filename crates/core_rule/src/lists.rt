@@ -2,20 +2,24 @@
 //!
 //! A vertex has a list while it is linked or spent and its list isn't frozen to its end (`HasList` of
 //! `specs/Chains.antt`). An edge joins the list of its source with its link and leaves it when it's unlinked; marked,
-//! or handed over with the frozen part, it's on it in between. Since keys rise strictly along a list, it has one edge a
+//! or handed over with the frozen part, it's on it in between. Keys rise along a list, and two
+//! neighbours have one key only where the first is marked and was replaced by the second; so it has one unmarked edge a
 //! key.
 
 ghost use Rattle.std.specs.Prelude.{◌≡◌, ◌≢◌, ◌⊎◌, ◌↔◌, ℕ, ◌<◌, ◌≤◌, false, true, List, [], ◌∷◌, ◌++◌, Some, length};
+ghost use Rattle.graph_kinds.specs.Graph.{weight_of};
 ghost use Rattle.packed_link.specs.Link.{index_of, mark_of, nowhere};
 ghost use Rattle.packed_link.specs.Layout.{IsLayout, Sizes, link_at, second_at};
 ghost use Rattle.packed_link.specs.declared.link.Life.{Life};
 ghost use Rattle.core_chain.specs.Met.{IsMet};
 ghost use Rattle.core_journal.specs.declared.event.Event.{Event};
+ghost use Rattle.core_journal.specs.GraphOf.{graph_of, present_pair};
 ghost use Rattle.core_journal.specs.Life.{edge_marked, link_of};
 ghost use Rattle.core_journal.specs.Machine.{word_at};
 ghost use Rattle.core_journal.specs.Prefix.{IsPrefix};
 ghost use Rattle.core_journal.specs.State.{Fresh, Spent, state};
-ghost use Rattle.core_rule.specs.Chains.{EdgeLists, FrozenParts, HasList, IsAtSource, IsEdgeOf, IsInList, KeepsList};
+ghost use Rattle.core_rule.specs.Chains.{EdgeLists, FrozenParts, HasList, IsAtSource, IsEdgeOf, IsInList, IsOlder};
+ghost use Rattle.core_rule.specs.Chains.{KeepsList};
 ghost use Rattle.core_rule.specs.Chains.{Sources, edge_chain, life_in};
 ghost use Rattle.core_rule.specs.Freezing.{IsFrozenWord, IsSpentVertex};
 ghost use Rattle.core_rule.specs.Kept.{IsKept, IsQuiet};
@@ -24,10 +28,10 @@ ghost use Rattle.core_rule.specs.Nodes.{IsFrozenToEnd, IsLinkedEdge, IsLinkedVer
 ghost use Rattle.core_rule.specs.Nodes.{is_frozen, is_listed, node_in};
 
 /// From the second word of each vertex that has a list, link after link, one meets the edges of its list, each once, by
-/// strictly rising keys. They are the lives that were linked as edges of the vertex's life, and not unlinked. Each
-/// linked vertex has a list, and so has each vertex that is linked or spent and whose second word is unmarked. What
-/// stands on any list, also one that is frozen to its end, was linked so and not unlinked; it's an edge node whose
-/// source is the vertex, and stands on no other list.
+/// rising keys: two neighbours have one key only where the first is marked. They are the lives that were linked as
+/// edges of the vertex's life, and not unlinked. Each linked vertex has a list, and so has each vertex that is linked
+/// or spent and whose second word is unmarked. What stands on any list, also one that is frozen to its end, was linked
+/// so and not unlinked; it's an edge node whose source is the vertex, and stands on no other list.
 pub fn lists_hold_their_edges()
     ensures lists { (sizes : Sizes) → IsLayout sizes → (journal : List Event) → IsKept sizes journal
         → EdgeLists sizes journal }
@@ -179,18 +183,25 @@ pub fn a_present_edge_is_on_its_list()
         → IsAtSource sizes journal x.index }
 {}
 
-/// No two edges have one pair of source and key: two of one source and one key are one, where neither was unlinked, and
-/// the source has a list or one of them isn't marked; and so are two that aren't marked.
+/// No two edges that aren't marked have one pair of source and key. Of two edges of one source and one key of which
+/// neither was unlinked, where the source has a list, or one of them isn't marked, the one that was linked first is
+/// marked. So one present edge has a pair of keys (`pair`), and the graph has the pair with its weight (`weight`).
 pub fn one_edge_has_a_pair()
     ensures listed { (sizes : Sizes) → IsLayout sizes → (journal : List Event) → IsKept sizes journal
         → (source : ℕ) → HasList sizes journal source → (x y : Life)
         (a : IsEdgeOf journal (life_in sizes journal source) x) (b : IsEdgeOf journal (life_in sizes journal source) y)
-        → a.link.key ≡ b.link.key → x ≡ y }
+        → a.link.key ≡ b.link.key → (x ≡ y) ⊎ IsOlder sizes journal x y ⊎ IsOlder sizes journal y x }
     ensures unmarked { (sizes : Sizes) → IsLayout sizes → (journal : List Event) → IsKept sizes journal
         → (source x y : Life) (a : IsEdgeOf journal source x) (b : IsEdgeOf journal source y)
-        → a.link.key ≡ b.link.key → edge_marked journal x ≡ false → x ≡ y }
+        → a.link.key ≡ b.link.key → edge_marked journal x ≡ false → (x ≡ y) ⊎ IsOlder sizes journal y x }
     ensures present { (sizes : Sizes) → IsLayout sizes → (journal : List Event) → IsKept sizes journal
         → (x y : Life) (a b : Event) → link_of journal x ≡ Some a → link_of journal y ≡ Some b
         → a.source ≡ b.source → a.key ≡ b.key → edge_marked journal x ≡ false → edge_marked journal y ≡ false
         → x ≡ y }
+    ensures pair { (sizes : Sizes) → IsLayout sizes → (journal : List Event) → IsKept sizes journal
+        → (x y : Life) (a b v w : ℕ) → present_pair journal x ≡ Some ((a, b), v)
+        → present_pair journal y ≡ Some ((a, b), w) → x ≡ y }
+    ensures weight { (sizes : Sizes) → IsLayout sizes → (journal : List Event) → IsKept sizes journal
+        → (x : Life) (a b w : ℕ) → present_pair journal x ≡ Some ((a, b), w)
+        → weight_of (graph_of journal) a b ≡ Some w }
 {}

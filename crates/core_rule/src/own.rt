@@ -8,7 +8,8 @@ ghost use Rattle.packed_link.specs.Layout.{IsLayout, Sizes};
 ghost use Rattle.core_journal.specs.declared.event.Event.{Event};
 ghost use Rattle.core_journal.specs.declared.event.Kind.{Kind};
 ghost use Rattle.core_journal.specs.declared.event.Kind.TheVariants.{Announce, DrawNumber, LinkEdge, LinkVertex};
-ghost use Rattle.core_journal.specs.declared.event.Kind.TheVariants.{PopFree, PushFree, StoreFree, StorePrivate};
+ghost use Rattle.core_journal.specs.declared.event.Kind.TheVariants.{PopFree, PushFree, ReplaceEdge, StoreFree};
+ghost use Rattle.core_journal.specs.declared.event.Kind.TheVariants.{StorePrivate};
 ghost use Rattle.core_journal.specs.declared.event.Kind.TheVariants.{UnlinkEdge, UnlinkVertex, Withdraw};
 ghost use Rattle.core_journal.specs.Machine.{word_at};
 ghost use Rattle.core_journal.specs.Prefix.{IsPrefix};
@@ -81,8 +82,9 @@ pub fn each_event_keeps_the_rest()
 {}
 
 /// What an event does, by its kind: it writes its word, and its life is that of its node; a node that is taken is fresh
-/// with the caller, one that is filled stays as it is, and one that is linked is a linked vertex, or a linked edge of
-/// its source, and was the caller's only fresh node; a node that is unlinked is spent with the caller, a vertex then
+/// with the caller, one that is filled stays as it is, and one that is linked, in the place of another or not, is a
+/// linked vertex, or a linked edge of its source, and was the caller's only fresh node; an edge that is replaced is
+/// marked; a node that is unlinked is spent with the caller, a vertex then
 /// has a list, an edge stands on no list, and one whose link is stored for the free list stays spent with it; a pass
 /// that is announced began there, and one that is withdrawn is closed.
 pub fn each_event_changes_its_node()
@@ -100,6 +102,11 @@ pub fn each_event_changes_its_node()
     ensures edge { (sizes : Sizes) (past : List Event) (e : Event) → IsKept sizes (past ++ e ∷ [])
         → e.kind ≡ LinkEdge → IsLinkedEdge sizes (past ++ e ∷ []) e.life.index
         × ((node_in sizes (past ++ e ∷ []) e.life.index).source ≡ e.source)
+        × ((x : ℕ) → x < sizes.nodes → IsFreshWith sizes (past ++ e ∷ []) e.caller x → ⊥) }
+    ensures replaced { (sizes : Sizes) → IsLayout sizes → (past : List Event) (e : Event)
+        → IsKept sizes (past ++ e ∷ []) → e.kind ≡ ReplaceEdge → IsLinkedEdge sizes (past ++ e ∷ []) e.life.index
+        × ((node_in sizes (past ++ e ∷ []) e.life.index).source ≡ e.source)
+        × ((node_in sizes (past ++ e ∷ []) e.old.index).marked ≡ true)
         × ((x : ℕ) → x < sizes.nodes → IsFreshWith sizes (past ++ e ∷ []) e.caller x → ⊥) }
     ensures vertex_spent { (sizes : Sizes) → IsLayout sizes → (past : List Event) (e : Event)
         → IsKept sizes (past ++ e ∷ [])

@@ -1,7 +1,7 @@
 //! The laws of counters: how the counter of a vertex stood when an edge of it was linked, against later.
 //!
-//! A caller raises the counter of an edge's source before it marks the edge. So whoever saw the counter before the edge
-//! was linked, and sees it again after the edge was marked, sees another number.
+//! A caller raises the counter of an edge's source before it marks or replaces the edge. So whoever saw the counter
+//! before the edge was linked, and sees it again after the edge was marked, sees another number.
 
 ghost use Rattle.std.specs.Prelude.{All, AllPairs, ◌^◌};
 ghost use Rattle.std.specs.Prelude.{◌≡◌, ◌≢◌, ℕ, ◌<◌, ◌≤◌, false, List, [], ◌∷◌, ◌++◌, Some, length, slice_get, take};
@@ -10,25 +10,25 @@ ghost use Rattle.packed_link.specs.Layout.{IsLayout, Sizes, third_at};
 ghost use Rattle.packed_link.specs.declared.link.Life.{Life};
 ghost use Rattle.core_journal.specs.declared.event.Event.{Event};
 ghost use Rattle.core_journal.specs.declared.event.Kind.TheVariants.{Raise};
-ghost use Rattle.core_journal.specs.Event.{links_edge, marks_edge};
+ghost use Rattle.core_journal.specs.Event.{cut_life, cuts_edge, links_edge, pops};
 ghost use Rattle.core_journal.specs.Life.{edge_linked, link_of, vertex_marked};
 ghost use Rattle.core_journal.specs.Machine.{word_at};
 ghost use Rattle.core_journal.specs.Prefix.{IsPrefix};
 ghost use Rattle.core_journal.specs.State.{Fresh};
-ghost use Rattle.core_rule.specs.Counts.{made, pops};
+ghost use Rattle.core_rule.specs.Counts.{made};
 ghost use Rattle.core_rule.specs.Edges.{IsRaisedFor};
 ghost use Rattle.core_journal.specs.Reuse.{pass_in};
 ghost use Rattle.core_rule.specs.Kept.{IsKept};
 ghost use Rattle.core_rule.specs.Nodes.{node_in};
 ghost use Rattle.core_rule.specs.Raised.{IsLinkedLower};
 
-/// Each edge that is marked while its source isn't was linked at a lower counter of the source. So was each edge for
-/// which a caller raised that counter in its open pass (`raised`), and the source's node isn't stored for the free list
-/// then (`unstored`). A counter never falls while its node isn't taken again.
+/// Each edge that is marked, by its replacement too, while its source isn't was linked at a lower counter of the
+/// source. So was each edge for which a caller raised that counter in its open pass (`raised`), and the source's node
+/// isn't stored for the free list then (`unstored`). A counter never falls while its node isn't taken again.
 pub fn marked_edges_were_linked_at_a_lower_counter()
     ensures marked { (sizes : Sizes) → IsLayout sizes → (journal : List Event) → IsKept sizes journal
-        → (p : ℕ) (e link : Event) → slice_get journal p ≡ Some e → marks_edge e.kind ≡ true
-        → link_of (take p journal) e.life ≡ Some link → vertex_marked (take p journal) link.source ≡ false
+        → (p : ℕ) (e link : Event) → slice_get journal p ≡ Some e → cuts_edge e.kind ≡ true
+        → link_of (take p journal) (cut_life e) ≡ Some link → vertex_marked (take p journal) link.source ≡ false
         → IsLinkedLower sizes journal p link }
     ensures raised { (sizes : Sizes) → IsLayout sizes → (journal : List Event) → IsKept sizes journal
         → (caller : ℕ) (x : Life) (link : Event) → link_of journal x ≡ Some link

@@ -8,6 +8,7 @@ ghost use Rattle.std.specs.Prelude.{◌≡◌, ◌≢◌, ℕ, ◌<◌, Bool, tr
 ghost use Rattle.packed_link.specs.Link.{index_of, mark_of, nowhere, tag_of};
 ghost use Rattle.packed_link.specs.Layout.{IsLayout, bucket_at, link_at, second_at};
 ghost use Rattle.packed_link.specs.declared.link.Life.{Life};
+ghost use Rattle.core_journal.specs.Event.{raises};
 ghost use Rattle.core_journal.specs.declared.event.Event.{Event};
 ghost use Rattle.core_journal.specs.declared.event.Kind.{Kind};
 ghost use Rattle.core_journal.specs.declared.event.Kind.TheVariants.{Announce, PopFree, PushFree, StoreFree, Withdraw};
@@ -18,7 +19,7 @@ ghost use Rattle.core_journal.specs.Prefix.{IsPrefix};
 ghost use Rattle.core_journal.specs.Reuse.{pass_in};
 ghost use Rattle.core_journal.specs.State.{state};
 ghost use Rattle.core_rule.specs.Chains.{KeepsList};
-ghost use Rattle.core_rule.specs.Counts.{made, most_raises, raises};
+ghost use Rattle.core_rule.specs.Counts.{made, most_raises};
 ghost use Rattle.core_rule.specs.Edges.{IsRaisedFor};
 ghost use Rattle.core_rule.specs.Facts.{HasMet, IsHeld, IsKeptSpent};
 ghost use Rattle.core_rule.specs.Freezing.{IsFrozenWord, IsSpentVertex};

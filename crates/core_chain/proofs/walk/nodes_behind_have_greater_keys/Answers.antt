@@ -1,5 +1,5 @@
 -- Keys rise along a chain.
-use Rattle.core_chain.proofs.Walks.{all_behind, one_of_key}
+use Rattle.core_chain.proofs.Walks.{all_behind, all_greater, one_of_key}
 use Rattle.core_chain.proofs.walk.nodes_behind_have_greater_keys.Goals as goal
 
 pub returns-clause-behind : goal.returns-clause-behind
@@ -7,3 +7,6 @@ returns-clause-behind c = all_behind
 
 pub returns-clause-once : goal.returns-clause-once
 returns-clause-once c = one_of_key
+
+pub returns-clause-greater : goal.returns-clause-greater
+returns-clause-greater c = all_greater

@@ -1,4 +1,4 @@
-use Rattle.core_journal.proofs.GraphRows.{new_vertex_graph, removed_vertex_graph, new_edge_graph, no_edge_graph, removed_edge_graph, hidden_graph, frozen_graph, idle_graph}
+use Rattle.core_journal.proofs.GraphRows.{new_vertex_graph, removed_vertex_graph, new_edge_graph, no_edge_graph, removed_edge_graph, hidden_graph, replaced_edge_graph, hidden_replaced_graph, frozen_graph, idle_graph}
 use Rattle.core_journal.proofs.changes.kinds_change_the_graph.Goals as goal
 
 pub returns-clause-link_vertex : goal.returns-clause-link_vertex
@@ -24,3 +24,9 @@ returns-clause-freeze_edge c = λ past e f. frozen_graph past e f
 
 pub returns-clause-others : goal.returns-clause-others
 returns-clause-others c = λ past e idle. idle_graph past e idle
+
+pub returns-clause-replace_edge : goal.returns-clause-replace_edge
+returns-clause-replace_edge c = λ past e a b r. replaced_edge_graph past e a b r
+
+pub returns-clause-replace_none : goal.returns-clause-replace_none
+returns-clause-replace_none c = λ past e n hidden none. hidden_replaced_graph past e n hidden none

@@ -1,4 +1,4 @@
-use Rattle.core_journal.proofs.Regular.{new_vertex_regular, removed_vertex_regular, new_edge_regular, no_edge_regular, removed_edge_regular, hidden_regular, idle_regular, regular_snoc}
+use Rattle.core_journal.proofs.Regular.{new_vertex_regular, removed_vertex_regular, new_edge_regular, no_edge_regular, removed_edge_regular, replaced_edge_regular, hidden_replaced_regular, hidden_regular, idle_regular, regular_snoc}
 use Rattle.core_journal.proofs.changes.rows_are_regular.Goals as goal
 
 pub returns-clause-link_vertex : goal.returns-clause-link_vertex
@@ -24,3 +24,9 @@ returns-clause-others c = λ past e idle. idle_regular past e idle
 
 pub returns-clause-next : goal.returns-clause-next
 returns-clause-next c = λ past e r k. regular_snoc past e r k
+
+pub returns-clause-replace_edge : goal.returns-clause-replace_edge
+returns-clause-replace_edge c = λ past e a b r only ne. replaced_edge_regular past e a b r only ne
+
+pub returns-clause-replace_none : goal.returns-clause-replace_none
+returns-clause-replace_none c = λ past e n hidden none. hidden_replaced_regular past e n hidden none

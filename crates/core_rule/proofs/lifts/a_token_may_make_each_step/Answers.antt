@@ -1,4 +1,5 @@
 use Rattle.core_rule.proofs.KnownSteps.{may_pop, makes_pop, may_store, makes_store, may_link_vertex, makes_link_vertex, may_mark_vertex, makes_mark_vertex, may_unlink_vertex, makes_unlink_vertex, may_link_edge, makes_link_edge, may_raise, makes_raise, may_mark_edge, makes_mark_edge, may_unlink_edge, makes_unlink_edge, may_announce, makes_announce, may_withdraw, makes_withdraw, may_move, makes_move, may_freeze_head, makes_freeze_head, may_freeze_edge, makes_freeze_edge, may_store_edge, makes_store_edge, may_store_vertex, makes_store_vertex, may_push, makes_push}
+use Rattle.core_rule.proofs.ReplacingSteps.{may_replace, makes_replace}
 use Rattle.core_rule.proofs.lifts.a_token_may_make_each_step.Goals as goal
 
 pub returns-clause-pop : goal.returns-clause-pop
@@ -24,6 +25,9 @@ returns-clause-raise c = (may_raise, makes_raise)
 
 pub returns-clause-mark_edge : goal.returns-clause-mark_edge
 returns-clause-mark_edge c = (may_mark_edge, makes_mark_edge)
+
+pub returns-clause-replace_edge : goal.returns-clause-replace_edge
+returns-clause-replace_edge c = (may_replace, makes_replace)
 
 pub returns-clause-unlink_edge : goal.returns-clause-unlink_edge
 returns-clause-unlink_edge c = (may_unlink_edge, makes_unlink_edge)

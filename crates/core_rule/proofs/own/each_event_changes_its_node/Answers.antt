@@ -1,4 +1,4 @@
-use Rattle.core_rule.proofs.OwnSteps.{written, event_life, node_taken, node_filled, vertex_joined, edge_joined, vertex_spent, edge_spent, link_stored, pass_opened, pass_closed}
+use Rattle.core_rule.proofs.OwnSteps.{written, event_life, node_taken, node_filled, vertex_joined, edge_joined, edge_replaced, vertex_spent, edge_spent, link_stored, pass_opened, pass_closed}
 use Rattle.core_rule.proofs.own.each_event_changes_its_node.Goals as goal
 
 pub returns-clause-written : goal.returns-clause-written
@@ -18,6 +18,9 @@ returns-clause-vertex c = λ sizes past e kept is. vertex_joined sizes past e ke
 
 pub returns-clause-edge : goal.returns-clause-edge
 returns-clause-edge c = λ sizes past e kept is. edge_joined sizes past e kept is
+
+pub returns-clause-replaced : goal.returns-clause-replaced
+returns-clause-replaced c = λ sizes z past e kept is. edge_replaced sizes past e kept z is
 
 pub returns-clause-vertex_spent : goal.returns-clause-vertex_spent
 returns-clause-vertex_spent c = λ sizes z past e kept is. vertex_spent sizes past e kept z is
