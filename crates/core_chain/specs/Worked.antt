@@ -1,5 +1,5 @@
 -- A worked chain: node 7 of key 20, node 2 of key 10 and node 4 of key 30 are inserted, node 7 is marked and
--- unlinked, and the rest is frozen. In another course of it node 4 is replaced by node 9.
+-- unlinked, and the rest is frozen.
 use Rattle.std.specs.Prelude.{ℕ, Bool, true, false, nat_eq, if◌then◌else◌}
 use Rattle.packed_link.specs.Link.{nowhere}
 use Rattle.core_chain.specs.Chain.{Chain, Position, Head, Node}
@@ -37,15 +37,6 @@ unlinked chain at node = record chain {
   next = put at (chain.next (Node node)) chain.next;
 }
 
--- the chain where the link of a node is marked and leads to a node that joins it, by the step of this number
-abbrev pub replaced : Chain → ℕ → ℕ → ℕ → Chain
-replaced chain node fresh number = record chain {
-  on = λ x. if nat_eq x fresh then true else chain.on x;
-  since = λ x. if nat_eq x fresh then number else chain.since x;
-  next = put (Node node) fresh chain.next;
-  mark = put (Node node) 1 chain.mark;
-}
-
 -- at the opening no node is on it; the keys are fixed
 abbrev pub opened : Chain
 opened = record {
@@ -79,14 +70,6 @@ third_filled = filled second_inserted (Node 7) 4
 -- node 4 is inserted at the end, behind node 7
 abbrev pub third_inserted : Chain
 third_inserted = inserted third_filled (Node 7) 4
-
--- node 9 is filled, to replace node 4
-abbrev pub fourth_filled : Chain
-fourth_filled = filled third_inserted (Node 4) 9
-
--- node 4 is replaced by node 9
-abbrev pub four_replaced : Chain
-four_replaced = replaced fourth_filled 4 9 1
 
 -- node 7 is marked
 abbrev pub seven_marked : Chain

@@ -8,8 +8,8 @@ ghost use Rattle.core_chain.specs.Chain.{Chain, Head, IsChain, IsOn, Node, Posit
 ghost use Rattle.core_chain.specs.Met.{IsMet, Meets};
 
 /// The law of a chain's meaning. Where the nodes on a chain are below some number, they are exactly those that
-/// one meets from its head by following the links, each once, in rising order; two neighbours have one
-/// key only where the first is marked; and what is met so is a chain.
+/// one meets from its head by following the links, each once, in strictly rising keys; and what is met so is a
+/// chain.
 pub fn a_chain_is_what_is_met()
     ensures met { (chain : Chain) (size : ℕ) → IsChain chain → ((x : ℕ) → IsOn chain (Node x) → x < size)
         → (nodes : List ℕ) × IsMet chain nodes }

@@ -1,7 +1,7 @@
 //! What a walk along a chain may conclude of the chain at that moment.
 //!
 //! A walk that stands at a word with a smaller key, which leads to a greater key or to none, knows that the key
-//! between is absent: keys rise, so nothing stands in the gap (Harris 2001).
+//! between is absent: keys rise strictly, so nothing stands in the gap (Harris 2001).
 ghost use Rattle.std.specs.Prelude.{◌≡◌, ◌≢◌, ◌↔◌, ℕ, ◌<◌, Contains, List};
 ghost use Rattle.packed_link.specs.Link.{nowhere};
 ghost use Rattle.core_chain.specs.Chain.{Chain, IsChain, IsOn, Node, Position, Precedes};

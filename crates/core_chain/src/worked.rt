@@ -1,14 +1,13 @@
 //! A worked chain, from its opening to its end: three nodes are inserted, one is marked and unlinked, and the
-//! rest is frozen; or one of the three is replaced (`specs/Worked.antt`). Each state shows what the laws say of it.
+//! rest is frozen (`specs/Worked.antt`). Each state shows what the laws say of it.
 ghost use Rattle.std.specs.Prelude.{◌≡◌, [], ◌∷◌};
 ghost use Rattle.packed_link.specs.Link.{nowhere};
 ghost use Rattle.core_chain.specs.Chain.{Head, IsChain, Node};
 ghost use Rattle.core_chain.specs.Met.{IsMet};
-ghost use Rattle.core_chain.specs.Steps.{Freezes, Inserts, IsFrozenTo, Marks, Replaces, SetsMark, Unlinks, Untouched};
+ghost use Rattle.core_chain.specs.Steps.{Freezes, Inserts, IsFrozenTo, Marks, SetsMark, Unlinks, Untouched};
 ghost use Rattle.core_chain.specs.Walk.{Passes};
 ghost use Rattle.core_chain.specs.Worked.{opened, first_filled, first_inserted, second_filled, second_inserted};
-ghost use Rattle.core_chain.specs.Worked.{fourth_filled, four_replaced, third_filled, third_inserted, seven_marked};
-ghost use Rattle.core_chain.specs.Worked.{seven_unlinked};
+ghost use Rattle.core_chain.specs.Worked.{third_filled, third_inserted, seven_marked, seven_unlinked};
 ghost use Rattle.core_chain.specs.Worked.{head_frozen, two_frozen, four_frozen};
 ghost use Rattle.core_chain.specs.Worked.{astray, doubled, falling, lost};
 
@@ -23,9 +22,6 @@ pub fn a_worked_chain()
     ensures inserts_at_the_end { Inserts third_filled third_inserted (Node 7) 4 }
     ensures all_met { IsMet third_inserted (2 ∷ 7 ∷ 4 ∷ []) }
     ensures between { Passes third_inserted (Node 2) 15 }
-    ensures fills_fourth { Untouched third_inserted fourth_filled }
-    ensures replaces { Replaces fourth_filled four_replaced 4 9 }
-    ensures replaced_met { IsMet four_replaced (2 ∷ 7 ∷ 4 ∷ 9 ∷ []) }
     ensures marks { Marks third_inserted seven_marked 7 }
     ensures marked_met { IsMet seven_marked (2 ∷ 7 ∷ 4 ∷ []) }
     ensures unlinks { Unlinks seven_marked seven_unlinked (Node 2) 7 }

@@ -10,19 +10,19 @@ use Rattle.core_journal.specs.Machine.{word_at}
 use Rattle.core_journal.specs.Reuse.{pass_in}
 use Rattle.core_journal.specs.State.{Node, Pass}
 use Rattle.core_journal.proofs.Lists.{get_short, get_front, take_front}
-use Rattle.core_rule.specs.Nodes.{node_in, IsVertex}
-use Rattle.core_rule.specs.Edges.{IsFilledEdge, IsEdgeFrom, IsLinkEdge, IsRaisedFor, IsMarkEdge, IsReplaceEdge}
-use Rattle.core_rule.specs.Freezing.{IsFreezeHead}
+use Rattle.core_kept.specs.Nodes.{node_in, IsVertex}
+use Rattle.core_kept.specs.Edges.{IsFilledEdge, IsEdgeFrom, IsLinkEdge, IsRaisedFor, IsMarkEdge, IsReplaceEdge}
+use Rattle.core_kept.specs.Freezing.{IsFreezeHead}
 use Rattle.core_rule.specs.Fronts.{MetEdge, IsEdgeBelow, MayLinkEdge, MayMarkEdge, MayReplaceEdge, MayFreezeHead, key_in}
 use Rattle.core_rule.specs.OwnEvents.{link_edge_event, mark_edge_event, replace_event, freeze_head_event}
 use Rattle.core_rule.specs.Owes.{Reaches}
 use Rattle.core_rule.specs.declared.view.View.{View}
-use Rattle.core_rule.proofs.Ends.{vertex_key}
-use Rattle.core_rule.proofs.Induction.{kept_front}
-use Rattle.core_rule.proofs.MetWords.{met_used}
-use Rattle.core_rule.proofs.Named.{life_is, named}
+use Rattle.core_kept.proofs.EdgeEnds.{vertex_key}
+use Rattle.core_kept.proofs.Induction.{kept_front}
+use Rattle.core_kept.proofs.MetWords.{met_used}
+use Rattle.core_kept.proofs.Named.{life_is, named}
 use Rattle.core_rule.proofs.OwnLifts.{own_fresh, own_spent, still_fresh}
-use Rattle.core_rule.proofs.OwnMet.{IsMetStill, met_still, met_linked, key_word_is}
+use Rattle.core_kept.proofs.OwnMet.{IsMetStill, met_still, met_linked, key_word_is}
 use Rattle.core_rule.proofs.VertexLifts.{vertex_still, vertex_now, vertex_key_now}
 
 -- what a token raised for it raised for in a longer journal of the same pass

@@ -14,34 +14,34 @@ use Rattle.core_journal.specs.Machine.{word_at}
 use Rattle.core_journal.specs.State.{Mode, Free, Fresh, Linked, Spent, Node as Nodes, State, put, handed, unlinked_from, joined_edge, state_by, state}
 use Rattle.core_journal.proofs.Lists.{prefix_trans, prefix_snoc, prefix_refl}
 use Rattle.core_journal.proofs.States.{state-snoc}
-use Rattle.core_rule.specs.Facts.{IsKeptSpent}
-use Rattle.core_rule.specs.Kept.{AllowedAs, IsKept, IsQuiet}
-use Rattle.core_rule.specs.Nodes.{node_in, IsUsed, IsVertex, IsSpentWith, is_listed, is_frozen}
-use Rattle.core_rule.specs.Edges.{IsUnlinkEdge}
-use Rattle.core_rule.specs.FreeNodes.{IsPushFree, IsStoreFree}
-use Rattle.core_rule.specs.Freezing.{IsSpentVertex, IsFrozenWord, IsFreezeEdge}
-use Rattle.core_rule.specs.Chains.{list_word, edge_chain, life_in, KeepsList}
+use Rattle.core_kept.specs.Facts.{IsKeptSpent}
+use Rattle.core_kept.specs.Kept.{AllowedAs, IsKept, IsQuiet}
+use Rattle.core_kept.specs.Nodes.{node_in, IsUsed, IsVertex, IsSpentWith, is_listed, is_frozen}
+use Rattle.core_kept.specs.Edges.{IsUnlinkEdge}
+use Rattle.core_kept.specs.FreeNodes.{IsPushFree, IsStoreFree}
+use Rattle.core_kept.specs.Freezing.{IsSpentVertex, IsFrozenWord, IsFreezeEdge}
+use Rattle.core_lists.specs.Chains.{list_word, edge_chain, life_in, KeepsList}
 use Rattle.core_rule.specs.Fronts.{MayFreezeEdge, MayStoreFree}
 use Rattle.core_rule.specs.OwnEvents.{freeze_edge_event, store_free_event}
 use Rattle.core_rule.specs.Owes.{Reaches}
 use Rattle.core_rule.specs.declared.view.View.{View}
-use Rattle.core_rule.proofs.Called.{quiet_more, quiet_front}
-use Rattle.core_rule.proofs.ClosedLists.{edge_on, kept_leads}
-use Rattle.core_rule.proofs.ClosedStays.{finished_stays, part_stays, old_finished}
-use Rattle.core_rule.proofs.Contents.{contents}
-use Rattle.core_rule.proofs.EdgeChains.{lists, cut_spot}
-use Rattle.core_rule.proofs.Induction.{kept_beyond, kept_front}
-use Rattle.core_rule.proofs.LinkWords.{link_words, taken}
-use Rattle.core_rule.proofs.Listed.{part_listed}
-use Rattle.core_rule.proofs.ListParts.{unlinked_keeps, linked_keeps}
-use Rattle.core_rule.proofs.ListSteps.{listing, sources, has_open}
-use Rattle.core_rule.proofs.MarkedWords.{marked_head_stays}
-use Rattle.core_rule.proofs.Meets.{stands}
+use Rattle.core_kept.proofs.Callers.{quiet_more, quiet_front}
+use Rattle.core_lists.proofs.FrozenToEndIsList.{edge_on, kept_leads}
+use Rattle.core_lists.proofs.ClosedHeadStays.{finished_stays, part_stays, old_finished}
+use Rattle.core_kept.proofs.Contents.{contents}
+use Rattle.core_lists.proofs.ListChains.{lists, cut_spot}
+use Rattle.core_kept.proofs.Induction.{kept_beyond, kept_front}
+use Rattle.core_kept.proofs.LinkWords.{link_words, taken}
+use Rattle.core_lists.proofs.ListHolds.{part_listed}
+use Rattle.core_kept.proofs.NodesOnLists.{unlinked_keeps, linked_keeps}
+use Rattle.core_lists.proofs.ListHoldsKept.{listing, sources, has_open}
+use Rattle.core_kept.proofs.MarkedWords.{marked_head_stays}
+use Rattle.core_kept.proofs.MetFromHead.{stands}
 use Rattle.core_rule.proofs.OwnLifts.{own_spent, still_ripe}
-use Rattle.core_rule.proofs.OwnSpent.{spent_stays}
-use Rattle.core_rule.proofs.ReplaceCases.{new_edge_node}
-use Rattle.core_rule.proofs.Spenders.{spenders, part_who}
-use Rattle.core_rule.proofs.Steps.{put_case, put_other, handed_case, marked_state, closed_state}
+use Rattle.core_kept.proofs.OwnSpent.{spent_stays}
+use Rattle.core_kept.proofs.ReplaceCases.{new_edge_node}
+use Rattle.core_lists.proofs.PartSpender.{spenders, part_who}
+use Rattle.core_kept.proofs.ByKind.{put_case, put_other, handed_case, marked_state, closed_state}
 
 -- a ripe node's link is stored for the free list
 pub lift_store_free : (v : View) → IsLayout v.sizes → (next : ℕ) (x : Life) → MayStoreFree v next x → (journal : List Event) → Reaches v journal → IsStoreFree v.sizes journal (store_free_event v next x)

@@ -9,19 +9,19 @@ use Rattle.core_journal.specs.Machine.{word_at}
 use Rattle.core_journal.specs.Reuse.{pass_in}
 use Rattle.core_journal.specs.State.{Pass, Node}
 use Rattle.core_journal.proofs.Lists.{prefix_trans}
-use Rattle.core_rule.specs.Nodes.{IsFreshWith, IsRipe, IsSpentWith}
-use Rattle.core_rule.specs.Passes.{IsAnnounce, IsWithdraw, IsMoveEpoch}
-use Rattle.core_rule.specs.FreeNodes.{IsPopFree, IsStorePrivate, IsPushFree}
-use Rattle.core_rule.specs.Facts.{IsHeld, IsKeptSpent}
+use Rattle.core_kept.specs.Nodes.{IsFreshWith, IsRipe, IsSpentWith}
+use Rattle.core_kept.specs.Passes.{IsAnnounce, IsWithdraw, IsMoveEpoch}
+use Rattle.core_kept.specs.FreeNodes.{IsPopFree, IsStorePrivate, IsPushFree}
+use Rattle.core_kept.specs.Facts.{IsHeld, IsKeptSpent}
 use Rattle.core_rule.specs.Fronts.{MayPopFree, MayStorePrivate, MayPushFree, MayAnnounce, MayWithdraw, MayMoveEpoch}
 use Rattle.core_rule.specs.OwnEvents.{pop_event, store_event, push_event, announce_event, withdraw_event, move_event}
 use Rattle.core_rule.specs.Owes.{Reaches}
 use Rattle.core_rule.specs.declared.view.View.{View}
-use Rattle.core_rule.proofs.Called.{made_quiet}
-use Rattle.core_rule.proofs.FreeList.{pop_again}
-use Rattle.core_rule.proofs.OwnFacts.{pass_stays, fresh_stays, none_fresh_stays}
-use Rattle.core_rule.proofs.OwnSpent.{spent_stays}
-use Rattle.core_rule.proofs.Stamps.{ripe_beyond}
+use Rattle.core_kept.proofs.Callers.{made_quiet}
+use Rattle.core_kept.proofs.FreeList.{pop_again}
+use Rattle.core_kept.proofs.OwnFacts.{pass_stays, fresh_stays, none_fresh_stays}
+use Rattle.core_kept.proofs.OwnSpent.{spent_stays}
+use Rattle.core_lists.proofs.RipeningNodes.{ripe_beyond}
 
 -- the token's pass is what it was
 pub own_pass : (v : View) (journal : List Event) → Reaches v journal → pass_in v.sizes journal v.number ≡ pass_in v.sizes v.front v.number

@@ -9,20 +9,20 @@ use Rattle.core_journal.specs.declared.event.Event.{Event}
 use Rattle.core_journal.specs.Machine.{word_at}
 use Rattle.core_journal.specs.Reuse.{pass_in}
 use Rattle.core_journal.specs.State.{Pass, state}
-use Rattle.core_rule.specs.Facts.{HasMet}
-use Rattle.core_rule.specs.Nodes.{node_in, IsLinkedVertex, IsLinkedEdge, IsVertex}
-use Rattle.core_rule.specs.Vertices.{IsUnlinkVertex}
-use Rattle.core_rule.specs.Edges.{IsEdgeFrom, IsUnlinkEdge}
+use Rattle.core_kept.specs.Facts.{HasMet}
+use Rattle.core_kept.specs.Nodes.{node_in, IsLinkedVertex, IsLinkedEdge, IsVertex}
+use Rattle.core_kept.specs.Vertices.{IsUnlinkVertex}
+use Rattle.core_kept.specs.Edges.{IsEdgeFrom, IsUnlinkEdge}
 use Rattle.core_rule.specs.Fronts.{IsVertexLink, MayUnlinkVertex, IsEdgeLink, MayUnlinkEdge}
 use Rattle.core_rule.specs.OwnEvents.{unlink_vertex_event, unlink_edge_event}
 use Rattle.core_rule.specs.Owes.{Reaches}
 use Rattle.core_rule.specs.declared.view.View.{View}
-use Rattle.core_rule.proofs.BucketSteps.{in_is}
+use Rattle.core_lists.proofs.BucketChains.{in_is}
 use Rattle.core_rule.proofs.EdgeLifts.{edge_still, edge_linked_now}
 use Rattle.core_rule.proofs.OwnLifts.{own_pass}
-use Rattle.core_rule.proofs.LinkWords.{link_words}
-use Rattle.core_rule.proofs.LeadsOn.{leads_to_vertex, leads_from_head, leads_from_edge}
-use Rattle.core_rule.proofs.MarkedWords.{marked_link_stays}
+use Rattle.core_kept.proofs.LinkWords.{link_words}
+use Rattle.core_lists.proofs.LinkedWordsLead.{leads_to_vertex, leads_from_head, leads_from_edge}
+use Rattle.core_kept.proofs.MarkedWords.{marked_link_stays}
 use Rattle.core_rule.proofs.VertexLifts.{vertex_still, vertex_now, vertex_linked_now}
 
 module _ (v : View) (z : IsLayout v.sizes) (journal : List Event) (r : Reaches v journal) where

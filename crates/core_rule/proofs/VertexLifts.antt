@@ -10,16 +10,16 @@ use Rattle.core_journal.specs.Machine.{word_at}
 use Rattle.core_journal.specs.Reuse.{pass_in}
 use Rattle.core_journal.specs.State.{Node, Pass}
 use Rattle.core_journal.proofs.Lists.{prefix_trans}
-use Rattle.core_rule.specs.Nodes.{node_in, IsLinkedVertex, IsVertex}
-use Rattle.core_rule.specs.Vertices.{IsFilledVertex, IsLinkVertex, IsMarkVertex}
-use Rattle.core_rule.specs.Edges.{IsRaise}
+use Rattle.core_kept.specs.Nodes.{node_in, IsLinkedVertex, IsVertex}
+use Rattle.core_kept.specs.Vertices.{IsFilledVertex, IsLinkVertex, IsMarkVertex}
+use Rattle.core_kept.specs.Edges.{IsRaise}
 use Rattle.core_rule.specs.Fronts.{MetVertex, IsVertexBelow, MayLinkVertex, MayMarkVertex, MayRaise, key_in}
 use Rattle.core_rule.specs.OwnEvents.{link_vertex_event, mark_vertex_event, raise_event}
 use Rattle.core_rule.specs.Owes.{Reaches}
 use Rattle.core_rule.specs.declared.view.View.{View}
-use Rattle.core_rule.proofs.Called.{made_quiet}
+use Rattle.core_kept.proofs.Callers.{made_quiet}
 use Rattle.core_rule.proofs.OwnLifts.{own_pass, own_fresh, still_fresh}
-use Rattle.core_rule.proofs.OwnMet.{IsMetStill, met_still, met_linked}
+use Rattle.core_kept.proofs.OwnMet.{IsMetStill, met_still, met_linked}
 
 module _ (v : View) (z : IsLayout v.sizes) (journal : List Event) (r : Reaches v journal) where
   -- what a vertex that was met is in the journal

@@ -1,7 +1,7 @@
 -- What a token must know by its front, so that its next step of a kind is allowed wherever it wins: one condition a
 -- kind. "Met" is what an open pass has met (`HasMet`). An earlier moment, at which the token loaded a word, stands only
--- in those for taking a node, announcing, moving the epoch on, raising, marking and replacing an edge, and where the
--- node is ripe.
+-- in those for taking a node, announcing, moving the epoch on, raising, marking and replacing an edge, and where the node
+-- is ripe.
 use Rattle.std.specs.Prelude.{◌≡◌, ◌≢◌, ℕ, ◌+◌, ◌%◌, ◌<◌, ◌^◌, ◌⊎◌, true, false, List, Some, length}
 use Rattle.packed_link.specs.Link.{index_of, mark_of, tag_of, nowhere}
 use Rattle.packed_link.specs.Layout.{free_at, epoch_at, bucket_at, key_at, link_at, second_at}
@@ -13,14 +13,14 @@ use Rattle.core_journal.specs.Machine.{word_at}
 use Rattle.core_journal.specs.Life.{link_of, edge_marked}
 use Rattle.core_journal.specs.Reuse.{pass_in}
 use Rattle.core_journal.specs.State.{state}
-use Rattle.core_rule.specs.Counts.{made, most_pops, most_raises, most_moves}
-use Rattle.core_rule.specs.Nodes.{node_in, is_listed, IsFreshWith, IsFrozenToEnd, IsRipe}
-use Rattle.core_rule.specs.Chains.{KeepsList}
-use Rattle.core_rule.specs.Passes.{IsChecked}
-use Rattle.core_rule.specs.Vertices.{IsFilledVertex}
-use Rattle.core_rule.specs.Edges.{IsFilledEdge, IsRaisedFor}
-use Rattle.core_rule.specs.Freezing.{IsSpentVertex, IsFrozenWord}
-use Rattle.core_rule.specs.Facts.{HasMet}
+use Rattle.core_kept.specs.Counts.{made, most_pops, most_raises, most_moves}
+use Rattle.core_kept.specs.Nodes.{node_in, is_listed, IsFreshWith, IsFrozenToEnd, IsRipe}
+use Rattle.core_lists.specs.Chains.{KeepsList}
+use Rattle.core_kept.specs.Passes.{IsChecked}
+use Rattle.core_kept.specs.Vertices.{IsFilledVertex}
+use Rattle.core_kept.specs.Edges.{IsFilledEdge, IsRaisedFor}
+use Rattle.core_kept.specs.Freezing.{IsSpentVertex, IsFrozenWord}
+use Rattle.core_kept.specs.Facts.{HasMet}
 use Rattle.core_rule.specs.declared.view.View.{View}
 
 -- a life is that of its node at the token's front
@@ -171,8 +171,7 @@ pub record MayMarkEdge (v : View) (source x : Life) : Type 0 where
   pub raised : IsRaisedFor v.sizes v.front v.number x source
 
 -- the edge was met, and in this pass the token raised the counter of its source when the edge was linked; the word seen
--- is unmarked, and the fresh node is filled with where it leads, with the edge's key and target, and with another
--- weight
+-- is unmarked, and the fresh node is filled with where it leads, with the edge's key and target, and with another weight
 pub record MayReplaceEdge (v : View) (seen key : ℕ) (source target : Life) (weight : ℕ) (old x : Life) : Type 0 where
   pub life : IsLifeAt v x
   pub edge : MetEdge v source old

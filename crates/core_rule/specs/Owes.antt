@@ -4,7 +4,7 @@ use Rattle.core_journal.specs.Event.{draws}
 use Rattle.core_journal.specs.declared.event.Event.{Event}
 use Rattle.core_journal.specs.Prefix.{IsPrefix}
 use Rattle.core_journal.specs.Machine.{word_at}
-use Rattle.core_rule.specs.Kept.{AllowedAs, IsKept, IsQuiet}
+use Rattle.core_kept.specs.Kept.{AllowedAs, IsKept, IsQuiet}
 use Rattle.core_rule.specs.declared.view.View.{View}
 
 -- a journal that a token with a number may meet at its next step: it's kept, it goes on from the token's front, and no

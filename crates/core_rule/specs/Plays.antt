@@ -9,7 +9,7 @@ use Rattle.core_journal.specs.declared.event.Event.{Event}
 use Rattle.core_journal.specs.Event.{blank}
 use Rattle.core_journal.specs.Prefix.{IsPrefix}
 use Rattle.core_journal.specs.Machine.{word_at}
-use Rattle.core_rule.specs.Kept.{IsKept, IsQuiet}
+use Rattle.core_kept.specs.Kept.{IsKept, IsQuiet}
 use Rattle.core_rule.specs.Rule.{own_account}
 use Rattle.core_rule.specs.declared.view.View.{View}
 

@@ -9,7 +9,7 @@ use Rattle.core_journal.specs.declared.event.Event.{Event}
 use Rattle.core_journal.specs.Prefix.{IsPrefix}
 use Rattle.core_journal.specs.Machine.{machine}
 use Rattle.core_journal.specs.State.{state}
-use Rattle.core_rule.specs.Kept.{IsKept, IsQuiet}
+use Rattle.core_kept.specs.Kept.{IsKept, IsQuiet}
 use Rattle.core_rule.specs.declared.view.View.{View}
 
 -- the view of the first token: it has seen nothing, and may draw numbers

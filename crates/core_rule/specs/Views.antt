@@ -8,8 +8,8 @@ use Rattle.core_journal.specs.Life.{key_of, link_of}
 use Rattle.core_journal.specs.Machine.{word_at}
 use Rattle.core_journal.specs.Prefix.{IsPrefix}
 use Rattle.core_journal.specs.Reuse.{pass_in}
-use Rattle.core_rule.specs.Kept.{IsKept}
-use Rattle.core_rule.specs.Chains.{life_in}
+use Rattle.core_kept.specs.Kept.{IsKept}
+use Rattle.core_lists.specs.Chains.{life_in}
 use Rattle.core_rule.specs.Owes.{Reaches}
 use Rattle.core_rule.specs.Fronts.{MetVertex, MetEdge, key_in}
 use Rattle.core_rule.specs.declared.view.View.{View}

@@ -4,7 +4,7 @@
 //! `specs/Rule.antt`). All facts of the table are laws of kept journals, so a step owes no more than that its event is
 //! allowed (`Owes` of `specs/Owes.antt`), and learns where it stands in the journal (`specs/Plays.antt`).
 
-ghost use Rattle.std.specs.Prelude.{◌≡◌, ℕ, ◌+◌, ◌%◌, ◌^◌, ◌<◌, Bool, true, false, [], List, ◌∷◌};
+ghost use Rattle.std.specs.Prelude.{◌≡◌, ℕ, ◌+◌, ◌%◌, ◌^◌, ◌<◌, Bool, true, false, []};
 ghost use mathlib.Core.Option.{none, some};
 ghost use lib.ListN.{get_elem?};
 ghost use Rattle.atomic_table.specs.Table.{Allows, Joins, Splits, State, opening, step};

@@ -4,7 +4,7 @@
 //! and where the words lead that a view with an open pass shows (`specs/Views.antt`), in the form in which the
 //! conditions of the next step ask for it (`specs/Fronts.antt`).
 
-ghost use Rattle.std.specs.Prelude.{◌≡◌, ◌≢◌, ℕ, ◌<◌, Bool, true, false, List, [], ◌∷◌, ◌++◌, Option, Some, None};
+ghost use Rattle.std.specs.Prelude.{◌≡◌, ◌≢◌, ℕ, ◌<◌, Bool, true, false, [], ◌∷◌, ◌++◌, Option, Some, None};
 ghost use Rattle.packed_link.specs.Link.{index_of, mark_of, nowhere, tag_of};
 ghost use Rattle.packed_link.specs.Layout.{IsLayout, bucket_at, link_at, second_at};
 ghost use Rattle.packed_link.specs.declared.link.Life.{Life};
@@ -18,22 +18,22 @@ ghost use Rattle.core_journal.specs.Machine.{word_at};
 ghost use Rattle.core_journal.specs.Prefix.{IsPrefix};
 ghost use Rattle.core_journal.specs.Reuse.{pass_in};
 ghost use Rattle.core_journal.specs.State.{state};
-ghost use Rattle.core_rule.specs.Chains.{KeepsList};
-ghost use Rattle.core_rule.specs.Counts.{made, most_raises};
-ghost use Rattle.core_rule.specs.Edges.{IsRaisedFor};
-ghost use Rattle.core_rule.specs.Facts.{HasMet, IsHeld, IsKeptSpent};
-ghost use Rattle.core_rule.specs.Freezing.{IsFrozenWord, IsSpentVertex};
+ghost use Rattle.core_lists.specs.Chains.{KeepsList};
+ghost use Rattle.core_kept.specs.Counts.{made, most_raises};
+ghost use Rattle.core_kept.specs.Edges.{IsRaisedFor};
+ghost use Rattle.core_kept.specs.Facts.{HasMet, IsHeld, IsKeptSpent};
+ghost use Rattle.core_kept.specs.Freezing.{IsFrozenWord, IsSpentVertex};
 ghost use Rattle.core_rule.specs.Fronts.{IsBeforeEdge, IsBeforeVertex, IsEdgeAbove, IsEdgeBelow, IsLifeAt};
 ghost use Rattle.core_rule.specs.Fronts.{IsVertexAbove, IsVertexBelow, LeadsToEdge, LeadsToVertex};
 ghost use Rattle.core_rule.specs.Fronts.{MayRaise, MetEdge, MetVertex, key_in};
-ghost use Rattle.core_rule.specs.Kept.{IsKept};
-ghost use Rattle.core_rule.specs.Nodes.{IsFreshWith, IsFrozenToEnd, IsLinkedEdge, IsLinkedVertex, IsRipe, is_listed};
-ghost use Rattle.core_rule.specs.Nodes.{IsSpentWith, IsStamped};
+ghost use Rattle.core_kept.specs.Kept.{IsKept};
+ghost use Rattle.core_kept.specs.Nodes.{IsFreshWith, IsFrozenToEnd, IsLinkedEdge, IsLinkedVertex, IsRipe, is_listed};
+ghost use Rattle.core_kept.specs.Nodes.{IsSpentWith, IsStamped};
 ghost use Rattle.core_rule.specs.Plays.{IsSound, Looked, Met, Replied, Stored, Won};
 ghost use Rattle.graph_kinds.specs.declared.entry.Entry.{Entry};
 ghost use Rattle.core_rule.specs.Views.{GoesOn, IsEdgeBehind, IsEdgeIn, IsEdgeShown, IsVertexBehind, IsVertexIn};
 ghost use Rattle.core_rule.specs.Views.{Spares, Steps};
-ghost use Rattle.core_rule.specs.Walks.{LeadsTo};
+ghost use Rattle.core_lists.specs.Walks.{LeadsTo};
 ghost use Rattle.core_rule.specs.declared.view.View.{View};
 
 /// A load, a won step and a store are steps: others made events, and behind these the token made its own event or none.

@@ -1,5 +1,5 @@
 use Rattle.core_rule.proofs.EdgeLifts.{lift_freeze_head}
-use Rattle.core_rule.proofs.FoundFrozen.{found_frozen}
+use Rattle.core_rule.proofs.FoundMarkedIsSpent.{found_frozen}
 use Rattle.core_rule.proofs.FreezeLifts.{lift_freeze_edge}
 use Rattle.core_rule.proofs.lifts.steps_on_closed_lists_are_allowed.Goals as goal
 

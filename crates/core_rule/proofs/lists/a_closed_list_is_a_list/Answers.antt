@@ -1,7 +1,7 @@
-use Rattle.core_rule.proofs.ClosedLists.{kept_met, kept_lives, kept_leads, has_keeps}
-use Rattle.core_rule.proofs.FrozenOn.{frozen_next, frozen_finished}
-use Rattle.core_rule.proofs.FrozenWords.{list_steps}
-use Rattle.core_rule.proofs.KeptLists.{own_list_stays}
+use Rattle.core_lists.proofs.FrozenToEndIsList.{kept_met, kept_lives, kept_leads, has_keeps}
+use Rattle.core_lists.proofs.FrozenWordLeads.{frozen_next, frozen_finished}
+use Rattle.core_rule.proofs.FrozenWordStays.{list_steps}
+use Rattle.core_lists.proofs.SpentVertexKeepsList.{own_list_stays}
 use Rattle.core_rule.proofs.lists.a_closed_list_is_a_list.Goals as goal
 
 pub returns-clause-list : goal.returns-clause-list

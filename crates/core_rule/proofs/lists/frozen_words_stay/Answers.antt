@@ -1,5 +1,5 @@
-use Rattle.core_rule.proofs.FoundFrozen.{found_at}
-use Rattle.core_rule.proofs.FrozenWords.{frozen_beyond, frozen_next_step, frozen_marked, head_frozen_word, edge_frozen_word}
+use Rattle.core_rule.proofs.FoundMarkedIsSpent.{found_at}
+use Rattle.core_rule.proofs.FrozenWordStays.{frozen_beyond, frozen_next_step, frozen_marked, head_frozen_word, edge_frozen_word}
 use Rattle.core_rule.proofs.lists.frozen_words_stay.Goals as goal
 
 pub returns-clause-others : goal.returns-clause-others

@@ -1,4 +1,4 @@
-use Rattle.core_rule.proofs.ViewsShown.{raise_is_for}
+use Rattle.core_rule.proofs.ViewShows.{raise_is_for}
 use Rattle.core_rule.proofs.raises.a_raise_is_for_edges_linked_before.Goals as goal
 
 pub returns : goal.returns

@@ -1,5 +1,5 @@
 use mathlib.Core.Option.{none}
-use Rattle.core_rule.proofs.Turns.{draws_number}
+use Rattle.core_rule.proofs.StepsKeepRule.{draws_number}
 use Rattle.core_rule.proofs.rule.a_draw_keeps_the_rule.Goals as goal
 
 pub returns : goal.returns

@@ -1,4 +1,4 @@
-use Rattle.core_rule.proofs.Closing.{front_whole, closed_word}
+use Rattle.core_rule.proofs.LastToken.{front_whole, closed_word}
 use Rattle.core_rule.proofs.rule.a_last_token_knows_the_journal.Goals as goal
 
 pub returns-clause-journal : goal.returns-clause-journal

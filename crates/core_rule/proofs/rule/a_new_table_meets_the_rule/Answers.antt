@@ -1,4 +1,4 @@
-use Rattle.core_rule.proofs.Seats.{begins}
+use Rattle.core_rule.proofs.ViewsFit.{begins}
 use Rattle.core_rule.proofs.rule.a_new_table_meets_the_rule.Goals as goal
 
 pub returns : goal.returns

@@ -1,4 +1,4 @@
-use Rattle.core_rule.proofs.Turns.{replies}
+use Rattle.core_rule.proofs.StepsKeepRule.{replies}
 use Rattle.core_rule.proofs.rule.a_reply_keeps_the_rule.Goals as goal
 
 pub returns : goal.returns

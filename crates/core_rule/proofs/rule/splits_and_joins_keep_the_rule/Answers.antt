@@ -1,4 +1,4 @@
-use Rattle.core_rule.proofs.Turns.{splits, joins, meets}
+use Rattle.core_rule.proofs.StepsKeepRule.{splits, joins, meets}
 use Rattle.core_rule.proofs.rule.splits_and_joins_keep_the_rule.Goals as goal
 
 pub returns-clause-split : goal.returns-clause-split

@@ -1,5 +1,5 @@
 use mathlib.Core.Option.{none}
-use Rattle.core_rule.proofs.Turns.{looks, turns, stores}
+use Rattle.core_rule.proofs.StepsKeepRule.{looks, turns, stores}
 use Rattle.core_rule.proofs.rule.steps_keep_the_rule.Goals as goal
 
 pub returns-clause-load : goal.returns-clause-load

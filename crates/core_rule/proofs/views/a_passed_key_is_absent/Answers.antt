@@ -1,4 +1,4 @@
-use Rattle.core_rule.proofs.Passed.{passed_vertex, passed_edge}
+use Rattle.core_rule.proofs.PassedKeys.{passed_vertex, passed_edge}
 use Rattle.core_rule.proofs.views.a_passed_key_is_absent.Goals as goal
 
 pub returns-clause-vertex : goal.returns-clause-vertex

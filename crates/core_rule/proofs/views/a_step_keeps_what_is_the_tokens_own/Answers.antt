@@ -1,4 +1,4 @@
-use Rattle.core_rule.proofs.OwnViews.{own_fresh_kept, own_none_kept, own_spent_still, own_spent_kept, own_stamp_still, own_ripe_still, own_list_still, own_word_still, own_end_still, own_ends_still, own_made_same}
+use Rattle.core_rule.proofs.OwnByView.{own_fresh_kept, own_none_kept, own_spent_still, own_spent_kept, own_stamp_still, own_ripe_still, own_list_still, own_word_still, own_end_still, own_ends_still, own_made_same}
 use Rattle.core_rule.proofs.views.a_step_keeps_what_is_the_tokens_own.Goals as goal
 
 pub returns-clause-fresh : goal.returns-clause-fresh

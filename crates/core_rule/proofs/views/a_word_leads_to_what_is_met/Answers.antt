@@ -1,4 +1,4 @@
-use Rattle.core_rule.proofs.ViewsShown.{head_shown, vertex_link_shown, edge_link_shown, list_shown}
+use Rattle.core_rule.proofs.ViewShows.{head_shown, vertex_link_shown, edge_link_shown, list_shown}
 use Rattle.core_rule.proofs.views.a_word_leads_to_what_is_met.Goals as goal
 
 pub returns-clause-bucket : goal.returns-clause-bucket

@@ -1,0 +1,12 @@
+pub mod Counts
+pub mod Edges
+pub mod Facts
+pub mod Free
+pub mod FreeNodes
+pub mod Freezing
+pub mod Kept
+pub mod Moments
+pub mod Nodes
+pub mod Passes
+pub mod Standings
+pub mod Vertices

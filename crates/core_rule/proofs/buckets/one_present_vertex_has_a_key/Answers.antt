@@ -1,5 +1,0 @@
-use Rattle.core_rule.proofs.Present.{one_present}
-use Rattle.core_rule.proofs.buckets.one_present_vertex_has_a_key.Goals as goal
-
-pub returns : goal.returns
-returns c = λ sizes z journal kept x y k h g. one_present sizes z journal kept x y k h g

@@ -1,5 +1,0 @@
-use Rattle.core_rule.proofs.CallersKept.{callers_kept}
-use Rattle.core_rule.proofs.journals.an_overtaken_edge_is_linked.Goals as goal
-
-pub returns : goal.returns
-returns c = callers_kept

@@ -1,5 +1,0 @@
-use Rattle.core_rule.proofs.ListSteps.{sources}
-use Rattle.core_rule.proofs.lists.linked_edges_are_at_their_source.Goals as goal
-
-pub returns : goal.returns
-returns c = λ sizes z journal kept. sources sizes z journal kept

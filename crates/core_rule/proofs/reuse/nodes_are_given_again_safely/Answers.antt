@@ -1,5 +1,0 @@
-use Rattle.core_rule.proofs.SafeReuse.{reuses_safely}
-use Rattle.core_rule.proofs.reuse.nodes_are_given_again_safely.Goals as goal
-
-pub returns : goal.returns
-returns c = λ sizes z journal kept. reuses_safely sizes z journal kept

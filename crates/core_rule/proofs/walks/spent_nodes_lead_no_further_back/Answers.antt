@@ -1,5 +1,0 @@
-use Rattle.core_rule.proofs.SpentLinks.{spent_links}
-use Rattle.core_rule.proofs.walks.spent_nodes_lead_no_further_back.Goals as goal
-
-pub returns : goal.returns
-returns c = λ sizes z journal kept. spent_links sizes z journal kept

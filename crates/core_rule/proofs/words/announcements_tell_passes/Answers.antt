@@ -1,5 +1,0 @@
-use Rattle.core_rule.proofs.Announcements.{announcements}
-use Rattle.core_rule.proofs.words.announcements_tell_passes.Goals as goal
-
-pub returns : goal.returns
-returns c = λ sizes journal kept. announcements sizes journal kept

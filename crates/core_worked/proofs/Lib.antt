@@ -1,0 +1,13 @@
+pub mod Beside
+pub mod FirstEvents
+pub mod KnownSteps
+pub mod Refusals
+pub mod Replacing
+pub mod ReplacingBooks
+pub mod ReplacingShown
+pub mod ReplacingSteps
+pub mod SmallSteps
+pub mod TwoCallersKept
+pub mod TwoLives
+pub mod TwoLivesShown
+pub mod WorkedWalk

@@ -1,0 +1,66 @@
+//! The laws of edges that were replaced: what a marked link tells of it.
+//!
+//! An edge is replaced by one write to its link, which marks it and leads to the new edge. A marked link doesn't change
+//! while one may come to its node: the node stands on a list that isn't frozen to its end, or an open pass has met it
+//! (`IsInReach` of `specs/Replacements.antt`). So whoever comes to a marked edge reads off its link whether it was
+//! replaced: then the link leads to a node of its key, and else to none or to one of a greater key.
+
+ghost use Rattle.std.specs.Prelude.{◌≡◌, Contains, [], ◌∷◌, map, take};
+ghost use Rattle.graph_kinds.specs.History.{Every, IsLegal};
+ghost use Rattle.core_journal.specs.declared.event.Event.{Event};
+ghost use Rattle.core_journal.specs.declared.event.Kind.{Kind};
+ghost use Rattle.core_journal.specs.GraphOf.{IsRegular, graph_of};
+ghost use Rattle.core_journal.specs.History.{IsClosed, history};
+ghost use Rattle.core_journal.specs.Machine.{machine};
+ghost use Rattle.core_journal.specs.Reuse.{ReusesSafely};
+ghost use Rattle.core_journal.specs.Right.{CallersApart, IsBookOf};
+ghost use Rattle.core_journal.specs.State.{state};
+ghost use Rattle.core_journal.specs.Worked.{small};
+ghost use Rattle.core_kept.specs.Kept.{IsKept};
+ghost use Rattle.core_worked.specs.Refused.{IsRefused};
+ghost use Rattle.core_worked.specs.Replacing.{added_anew, frozen_behind, marked_meanwhile, not_raised_for, other_target};
+ghost use Rattle.core_worked.specs.Replacing.{removed_then, replaced_anew, replaced_once, replaced_twice, replaces_by};
+ghost use Rattle.core_worked.specs.Replacing.{replaces_target, replacing, replacing_books, replacing_history};
+ghost use Rattle.core_worked.specs.Replacing.{replacing_words, same_weight};
+ghost use Rattle.core_kept.specs.Standings.{OnChain, OnFreeList, SpentBy, StandsAs};
+ghost use Rattle.core_worked.specs.TwoLives.{key_two, two_keys};
+
+/// A worked journal of 78 events, in which each of the eighteen kinds stands, is kept. An edge is replaced, and the new
+/// one too: the pair has the new weight each time, and three edges of one key stand on the list. The last one is
+/// removed, the pair is added anew and replaced again. Then its source is removed: the replaced edge is handed over as
+/// the list is closed at its head, and the last one as it's frozen. At the end the first node is free again. The words,
+/// the graphs, the books and their history are as worked out by hand, and the history is legal.
+pub fn an_edge_is_replaced()
+    ensures kept { IsKept small replacing }
+    ensures each_kind { (k : Kind) → Contains (map (λ (e : Event). e.kind) replacing) k }
+    ensures once { graph_of replaced_once ≡ two_keys (((1, 2), 6) ∷ []) }
+    ensures twice { graph_of replaced_twice ≡ two_keys (((1, 2), 7) ∷ []) }
+    ensures removed { graph_of removed_then ≡ two_keys [] }
+    ensures added_anew { graph_of added_anew ≡ two_keys (((1, 2), 8) ∷ []) }
+    ensures replaced_anew { graph_of replaced_anew ≡ two_keys (((1, 2), 9) ∷ []) }
+    ensures gone { graph_of replacing ≡ key_two }
+    ensures list { (state small replaced_twice).edges 0 ≡ 2 ∷ 3 ∷ 4 ∷ [] }
+    ensures marked { StandsAs small replaced_twice 3 OnChain }
+    ensures handed { StandsAs small (take 72 replacing) 5 (SpentBy 0) }
+    ensures frozen { StandsAs small frozen_behind 6 (SpentBy 0) }
+    ensures list_then { (state small replacing).edges 0 ≡ 5 ∷ 6 ∷ [] }
+    ensures freed { StandsAs small replacing 2 OnFreeList }
+    ensures free_list { (state small replacing).free ≡ 2 ∷ 7 ∷ [] }
+    ensures words { machine small replacing ≡ replacing_words }
+    ensures reuse { ReusesSafely small replacing }
+    ensures regular { IsRegular replacing }
+    ensures apart { CallersApart replacing_books }
+    ensures books { Every (IsBookOf small replacing) replacing_books }
+    ensures closed { IsClosed replacing replacing_books }
+    ensures history { history replacing replacing_books ≡ replacing_history }
+    ensures legal { IsLegal replacing_history key_two }
+{}
+
+/// An edge isn't replaced where the counter of its source wasn't raised for it in this pass, by one of its own weight,
+/// by one to another target, or where its link was marked since it was seen.
+pub fn wrong_replacements_are_refused()
+    ensures unraised { IsRefused small not_raised_for (replaces_by 2 3 6) }
+    ensures same_weight { IsRefused small same_weight (replaces_by 2 3 5) }
+    ensures other_target { IsRefused small other_target replaces_target }
+    ensures marked { IsRefused small marked_meanwhile (replaces_by 2 3 6) }
+{}
