@@ -58,8 +58,7 @@ module _ (c d : Chain) (p : Position) (n : ℕ) (chain : IsChain c) (step : Puts
       let low = step.below some in
       let next = (chain.leads p step.present some).0 in
       let a = rank (Node (c.next p)) in
-      let b = rank r in
-      (
+      let b = rank r in (
         some,
         by_order c (Node (c.next p)) r chain next on
             (λ e. let f : rank_of d (Node (c.next p)) ≡ rank_of d r = ap (rank_of d) e in omega arith)
@@ -134,11 +133,13 @@ module _ (c d : Chain) (p : Position) (n : ℕ) (chain : IsChain c) (step : Puts
       let before_n : Precedes d q (Node n) = subst (Precedes d q) at before in
       let low = ahead q on before_n not_p in
       let some = chain.last q p on step.present low in
-      let next = (chain.leads q on some).0 in
-      (some, λ f.
-          let over = subst (λ (s : Position). Precedes d s (Node (c.next q))) at f in
-          chain.gap q p on step.present low
-          (still p (Node (c.next q)) step.present next (before_then d p (Node n) (Node (c.next q)) step.above over))))
+      let next = (chain.leads q on some).0 in (
+        some,
+        λ f.
+            let over = subst (λ (s : Position). Precedes d s (Node (c.next q))) at f in
+            chain.gap q p on step.present low
+            (still p (Node (c.next q)) step.present next (before_then d p (Node n) (Node (c.next q)) step.above over)),
+      ))
       (λ ne.
       let on' = back r on_r ne in
       let low = still q r on on' before in

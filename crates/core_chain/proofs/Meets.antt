@@ -5,7 +5,7 @@ use Rattle.std.specs.Prelude.{AllPairs, Contains}
 use Rattle.std.proofs.lemmas.List.Elements.{Contains-get_or}
 use Rattle.packed_link.specs.Link.{nowhere}
 use Rattle.core_chain.specs.Chain.{Chain, Position, Head, Node, IsOn, IsChain, Precedes, rank_of, since_of}
-use Rattle.core_chain.specs.Met.{Meets, Rises, RisesUnmarked, IsMet}
+use Rattle.core_chain.specs.Met.{MeetsFrom, RisesAlong, RisesUnmarked, IsMet}
 use Rattle.core_chain.proofs.Orders.{if_equal, by_order, LeadsTo, NotPast, RisesBehind, IsChain-by}
 use Rattle.core_chain.proofs.Orders.{before_same, before_both, before_then}
 
@@ -31,7 +31,7 @@ by_place : {P : Type 0} (x y : ℕ) (xs : List ℕ) → Contains (y ∷ xs) x �
 by_place x y xs at first later = ⊎_elim first later (Contains-cases x y xs at)
 
 -- each of the nodes stands behind the word
-Rises-behind : (c : Chain) (p : Position) (xs : List ℕ) (x : ℕ) → Rises c p xs → Contains xs x → Precedes c p (Node x)
+Rises-behind : (c : Chain) (p : Position) (xs : List ℕ) (x : ℕ) → RisesAlong c p xs → Contains xs x → Precedes c p (Node x)
 Rises-behind c p [] x rising at = absurd (Contains-none x at)
 Rises-behind c p (y ∷ ys) x rising at =
     by_place x y ys at (λ e. subst (λ (z : ℕ). Precedes c p (Node z)) e rising.0)
@@ -39,11 +39,11 @@ Rises-behind c p (y ∷ ys) x rising at =
 
 -- the first of the rising nodes stands before the others
 first_least : (c : Chain) (p : Position) (y : ℕ) (ys : List ℕ) (x : ℕ)
-    → Rises c p (y ∷ ys) → Contains ys x → Precedes c (Node y) (Node x)
+    → RisesAlong c p (y ∷ ys) → Contains ys x → Precedes c (Node y) (Node x)
 first_least c p y ys x rising later = Rises-behind c (Node y) ys x rising.1 later
 
 -- rising nodes are met once each
-Rises-once : (c : Chain) (p : Position) (xs : List ℕ) → Rises c p xs → AllPairs ◌≢◌ xs
+Rises-once : (c : Chain) (p : Position) (xs : List ℕ) → RisesAlong c p xs → AllPairs ◌≢◌ xs
 Rises-once c p [] rising i j d low high = absurd (omega arith)
 Rises-once c p (y ∷ ys) rising i zero d low high = absurd (omega arith)
 Rises-once c p (y ∷ ys) rising zero (suc j) d low high = λ e.
@@ -58,7 +58,7 @@ AreBehind c p xs = (x : ℕ) → LeadsTo c p x ↔ Contains xs x
 
 -- what is met from a word of a chain rises, is on it, and is all that stands behind the word
 pub met_behind : (c : Chain) (p : Position) (xs : List ℕ)
-    → IsChain c → IsOn c p → Meets c p xs → Rises c p xs × AreBehind c p xs
+    → IsChain c → IsOn c p → MeetsFrom c p xs → RisesAlong c p xs × AreBehind c p xs
 met_behind c p [] chain on none =
     (tt, λ x. (λ h. absurd (chain.last p (Node x) on h.0 h.1 none), λ at. absurd (Contains-none x at)))
 met_behind c p (y ∷ ys) chain on met =
@@ -78,7 +78,7 @@ met_behind c p (y ∷ ys) chain on met =
     )
 
 -- where a word that is met is unmarked, the next key is greater
-met_rises : (c : Chain) (p : Position) (xs : List ℕ) → IsChain c → IsOn c p → Meets c p xs → RisesUnmarked c p xs
+met_rises : (c : Chain) (p : Position) (xs : List ℕ) → IsChain c → IsOn c p → MeetsFrom c p xs → RisesUnmarked c p xs
 met_rises c p [] chain on none = tt
 met_rises c p (y ∷ ys) chain on met =
     let some : c.next p ≢ nowhere = λ e. met.1 (sym met.0 ∙ e) in
@@ -87,7 +87,7 @@ met_rises c p (y ∷ ys) chain on met =
     (λ u. let f = chain.rises p on u some in omega arith, met_rises c (Node y) ys chain next met.2)
 
 -- the nodes that one meets from the head of a chain are those on it
-pub IsMet-from_Meets : (c : Chain) (xs : List ℕ) → IsChain c → Meets c Head xs → IsMet c xs
+pub IsMet-from_Meets : (c : Chain) (xs : List ℕ) → IsChain c → MeetsFrom c Head xs → IsMet c xs
 IsMet-from_Meets c xs chain met =
     let all = met_behind c Head xs chain tt met in
     record {
@@ -99,13 +99,13 @@ IsMet-from_Meets c xs chain met =
     }
 
 -- one meets one list only
-pub Meets-unique : (c : Chain) (p : Position) (xs ys : List ℕ) → Meets c p xs → Meets c p ys → xs ≡ ys
+pub Meets-unique : (c : Chain) (p : Position) (xs ys : List ℕ) → MeetsFrom c p xs → MeetsFrom c p ys → xs ≡ ys
 Meets-unique c p [] [] one other = refl
 Meets-unique c p [] (y ∷ ys) none other = absurd (other.1 (sym other.0 ∙ none))
 Meets-unique c p (x ∷ xs) [] one none = absurd (one.1 (sym one.0 ∙ none))
 Meets-unique c p (x ∷ xs) (y ∷ ys) one other =
     let same : x ≡ y = sym one.0 ∙ other.0 in
-    let rest : Meets c (Node x) ys = subst (λ (z : ℕ). Meets c (Node z) ys) (sym same) other.2 in
+    let rest : MeetsFrom c (Node x) ys = subst (λ (z : ℕ). MeetsFrom c (Node z) ys) (sym same) other.2 in
     let tail = Meets-unique c (Node x) xs ys one.2 rest in
     cc
 
@@ -159,7 +159,7 @@ score-bound c bound last p within on =
 
 -- from a word of a chain with such bounds one meets some list
 met_within : (c : Chain) (bound last steps : ℕ) (p : Position) → IsChain c → IsWithin c bound last → IsOn c p
-    → (bound + 1) * (last + 1) + last + 1 ≤ steps + score c last p → (xs : List ℕ) × Meets c p xs
+    → (bound + 1) * (last + 1) + last + 1 ≤ steps + score c last p → (xs : List ℕ) × MeetsFrom c p xs
 met_within c bound last zero p chain within on enough =
     absurd (omega (arith, score-bound c bound last p within on))
 met_within c bound last (suc steps) p chain within on enough =
@@ -181,7 +181,7 @@ IsMet-from_chain c size chain below =
     (found.0, IsMet-from_Meets c found.0 chain found.1)
 
 -- a node that is met names a node
-Meets-named : (c : Chain) (p : Position) (xs : List ℕ) (x : ℕ) → Meets c p xs → Contains xs x → x ≢ nowhere
+Meets-named : (c : Chain) (p : Position) (xs : List ℕ) (x : ℕ) → MeetsFrom c p xs → Contains xs x → x ≢ nowhere
 Meets-named c p [] x met at = absurd (Contains-none x at)
 Meets-named c p (y ∷ ys) x met at =
     by_place x y ys at (λ e. λ none. met.1 (e ∙ none)) (λ later. Meets-named c (Node y) ys x met.2 later)
@@ -192,12 +192,12 @@ LedAmong c p xs x = Contains xs x × Precedes c p (Node x)
 
 -- the first of them
 first_led : (c : Chain) (p : Position) (xs : List ℕ)
-    → Meets c p xs → Rises c p xs → c.next p ≢ nowhere → LedAmong c p xs (c.next p)
+    → MeetsFrom c p xs → RisesAlong c p xs → c.next p ≢ nowhere → LedAmong c p xs (c.next p)
 first_led c p [] met rising some = absurd (some met)
 first_led c p (y ∷ ys) met rising some = subst (LedAmong c p (y ∷ ys)) (sym met.0) (Contains-here y y ys refl, rising.0)
 
 led : (c : Chain) (p : Position) (xs : List ℕ) (x : ℕ)
-    → Meets c p xs → Rises c p xs → Contains xs x → c.next (Node x) ≢ nowhere → LedAmong c (Node x) xs (c.next (Node x))
+    → MeetsFrom c p xs → RisesAlong c p xs → Contains xs x → c.next (Node x) ≢ nowhere → LedAmong c (Node x) xs (c.next (Node x))
 led c p [] x met rising at some = absurd (Contains-none x at)
 led c p (y ∷ ys) x met rising at some =
     by_place x y ys at (λ e.
@@ -209,7 +209,7 @@ led c p (y ∷ ys) x met rising at some =
 
 -- a word leads no further than to any of the nodes behind it
 first_gap : (c : Chain) (p : Position) (xs : List ℕ) (x : ℕ)
-    → Meets c p xs → Rises c p xs → Contains xs x → NotPast c (Node x) (c.next p)
+    → MeetsFrom c p xs → RisesAlong c p xs → Contains xs x → NotPast c (Node x) (c.next p)
 first_gap c p [] x met rising at = absurd (Contains-none x at)
 first_gap c p (y ∷ ys) x met rising at = subst (NotPast c (Node x)) (sym met.0) (
   met.1,
@@ -217,7 +217,7 @@ first_gap c p (y ∷ ys) x met rising at = subst (NotPast c (Node x)) (sym met.0
       (λ later. λ f. before_both c (Node y) (Node x) (first_least c p y ys x rising later) f),
 )
 
-met_gap : (c : Chain) (p : Position) (xs : List ℕ) (x y : ℕ) → Meets c p xs → Rises c p xs
+met_gap : (c : Chain) (p : Position) (xs : List ℕ) (x y : ℕ) → MeetsFrom c p xs → RisesAlong c p xs
     → Contains xs x → Contains xs y → Precedes c (Node x) (Node y) → NotPast c (Node y) (c.next (Node x))
 met_gap c p [] x y met rising at to before = absurd (Contains-none x at)
 met_gap c p (z ∷ zs) x y met rising at to before =
@@ -234,7 +234,7 @@ met_gap c p (z ∷ zs) x y met rising at to before =
 
 -- two of the rising nodes at one place of the order are one
 met_alone : (c : Chain) (p : Position) (xs : List ℕ) (x y : ℕ)
-    → Rises c p xs → Contains xs x → Contains xs y → c.key x ≡ c.key y → c.since x ≡ c.since y → x ≡ y
+    → RisesAlong c p xs → Contains xs x → Contains xs y → c.key x ≡ c.key y → c.since x ≡ c.since y → x ≡ y
 met_alone c p [] x y rising at to same same' = absurd (Contains-none x at)
 met_alone c p (z ∷ zs) x y rising at to same same' =
     by_place x z zs at (λ e.
@@ -251,11 +251,11 @@ met_alone c p (z ∷ zs) x y rising at to same same' =
 
 -- the key behind an unmarked word that is met
 first_rises : (c : Chain) (p : Position) (xs : List ℕ)
-    → Meets c p xs → RisesUnmarked c p xs → c.next p ≢ nowhere → RisesBehind c p (c.next p)
+    → MeetsFrom c p xs → RisesUnmarked c p xs → c.next p ≢ nowhere → RisesBehind c p (c.next p)
 first_rises c p [] met rising some = absurd (some met)
 first_rises c p (y ∷ ys) met rising some = subst (RisesBehind c p) (sym met.0) rising.0
 
-rises_among : (c : Chain) (p : Position) (xs : List ℕ) (x : ℕ) → Meets c p xs → RisesUnmarked c p xs
+rises_among : (c : Chain) (p : Position) (xs : List ℕ) (x : ℕ) → MeetsFrom c p xs → RisesUnmarked c p xs
     → Contains xs x → c.next (Node x) ≢ nowhere → RisesBehind c (Node x) (c.next (Node x))
 rises_among c p [] x met rising at some = absurd (Contains-none x at)
 rises_among c p (y ∷ ys) x met rising at some =
@@ -302,7 +302,7 @@ abbrev IsLeader : Chain → Position → List ℕ → ℕ → Position → Type 
 IsLeader c p xs x q = ((q ≡ p) ⊎ ((y : ℕ) × Contains xs y × (q ≡ Node y))) × (c.next q ≡ x)
 
 pub leader : (c : Chain) (p : Position) (xs : List ℕ) (x : ℕ)
-    → Meets c p xs → Contains xs x → (q : Position) × IsLeader c p xs x q
+    → MeetsFrom c p xs → Contains xs x → (q : Position) × IsLeader c p xs x q
 leader c p [] x met at = absurd (Contains-none x at)
 leader c p (y ∷ ys) x met at =
     by_place x y ys at (λ e. (p, (inl refl, met.0 ∙ e))) (λ later.

@@ -2,7 +2,7 @@
 use Rattle.std.proofs.Common.{◌≡◌, ◌≢◌, ◌⊎◌, ℕ, ◌+◌, ◌<◌, refl, sym, ap, ◌∙◌, subst, arith, ⊎_elim, inl, inr}
 use Rattle.std.proofs.lemmas.Bool.{cases_eq, cases_order}
 use Rattle.packed_link.specs.Link.{nowhere}
-use Rattle.core_chain.specs.Walk.{IsBelow}
+use Rattle.core_chain.specs.Walk.{StandsBelow}
 use Rattle.core_chain.specs.Steps.{ChangesOnly}
 use Rattle.core_chain.specs.Chain.{Chain, Position, Head, Node, IsOn, IsChain, Precedes, rank_of, since_of}
 
@@ -93,15 +93,15 @@ pub before_still : (c d : Chain) (p q : Position) → rank_of d p ≡ rank_of c 
 before_still c d p q a b e f before = grind arith
 
 -- a word that stands before a node's key has a lesser one, and stands before the node
-pub IsBelow-rank : (c : Chain) (p : Position) (x : ℕ) → IsBelow c p (c.key x) → rank_of c p < rank_of c (Node x)
+pub IsBelow-rank : (c : Chain) (p : Position) (x : ℕ) → StandsBelow c p (c.key x) → rank_of c p < rank_of c (Node x)
 IsBelow-rank c Head x below = omega arith
 IsBelow-rank c (Node y) x below = omega arith
 
-pub IsBelow-precedes : (c : Chain) (p : Position) (x : ℕ) → IsBelow c p (c.key x) → Precedes c p (Node x)
+pub IsBelow-precedes : (c : Chain) (p : Position) (x : ℕ) → StandsBelow c p (c.key x) → Precedes c p (Node x)
 IsBelow-precedes c p x below = inl (IsBelow-rank c p x below)
 
 -- and the other way round, where the key is greater
-pub Precedes-below : (c : Chain) (p : Position) (x : ℕ) → rank_of c p < rank_of c (Node x) → IsBelow c p (c.key x)
+pub Precedes-below : (c : Chain) (p : Position) (x : ℕ) → rank_of c p < rank_of c (Node x) → StandsBelow c p (c.key x)
 Precedes-below c Head x before = tt
 Precedes-below c (Node y) x before = omega arith
 

@@ -5,7 +5,7 @@ use Rattle.packed_link.proofs.Links.{index_of-pack, mark_of-pack, mark_of-with_m
 use Rattle.core_chain.specs.Chain.{Chain, Position, Node}
 use Rattle.core_chain.specs.Steps.{ChangesOnly, Joins, Leaves, CanInsert, Inserts, CanReplace, Replaces}
 use Rattle.core_chain.specs.Steps.{SetsMark, CanUnlink, Unlinks, Untouched}
-use Rattle.core_chain.specs.Table.{Places, chain_in, Writes, StandsAlone, StandsElsewhere}
+use Rattle.core_chain.specs.Table.{Places, chain_in, WritesWord, StandsAlone, StandsElsewhere}
 
 module _ (old new : ℕ → ℕ) (places : Places) (on on' : ℕ → Bool) (since since' : ℕ → ℕ)
     (kept : (x : ℕ) → IsTrue (on x) → since' x ≡ since x) where
@@ -18,7 +18,7 @@ module _ (old new : ℕ → ℕ) (places : Places) (on on' : ℕ → Bool) (sinc
 
   -- a write at one word of a chain keeps its other words and the keys
   ChangesOnly-in : (at : Position) (word : ℕ)
-      → StandsAlone places at → Writes old new (places.word_at at) word → ChangesOnly before after at
+      → StandsAlone places at → WritesWord old new (places.word_at at) word → ChangesOnly before after at
   ChangesOnly-in at word alone writes = record {
     next = λ p ne. ap index_of (writes.others (places.word_at p) (alone.words p ne));
     mark = λ p ne. ap mark_of (writes.others (places.word_at p) (alone.words p ne));
@@ -28,7 +28,7 @@ module _ (old new : ℕ → ℕ) (places : Places) (on on' : ℕ → Bool) (sinc
 
   -- an unmarked link to a node that may be inserted inserts it
   pub Inserts-in : (at : Position) (node tag : ℕ) → StandsAlone places at → node < 2 ^ 24
-      → CanInsert (chain_in old places on since) at node → Writes old new (places.word_at at) (pack node 0 tag)
+      → CanInsert (chain_in old places on since) at node → WritesWord old new (places.word_at at) (pack node 0 tag)
       → Joins on on' node → Inserts (chain_in old places on since) (chain_in new places on' since') at node
   Inserts-in at node tag alone small can writes joins = record {
     can = can;
@@ -41,7 +41,7 @@ module _ (old new : ℕ → ℕ) (places : Places) (on on' : ℕ → Bool) (sinc
   -- a marked link to a node that may replace another replaces it
   pub Replaces-in : (node fresh tag : ℕ) → StandsAlone places (Node node) → fresh < 2 ^ 24
       → CanReplace (chain_in old places on since) node fresh → since node < since' fresh
-      → Writes old new (places.word_at (Node node)) (pack fresh 1 tag) → Joins on on' fresh
+      → WritesWord old new (places.word_at (Node node)) (pack fresh 1 tag) → Joins on on' fresh
       → Replaces (chain_in old places on since) (chain_in new places on' since') node fresh
   Replaces-in node fresh tag alone small can later writes joins = record {
     can = can;
@@ -54,7 +54,7 @@ module _ (old new : ℕ → ℕ) (places : Places) (on on' : ℕ → Bool) (sinc
 
   -- a mark that is set marks the word
   pub SetsMark-in : (at : Position) → StandsAlone places at
-      → Writes old new (places.word_at at) (with_mark (old (places.word_at at))) → ((x : ℕ) → on' x ≡ on x)
+      → WritesWord old new (places.word_at at) (with_mark (old (places.word_at at))) → ((x : ℕ) → on' x ≡ on x)
       → SetsMark (chain_in old places on since) (chain_in new places on' since') at
   SetsMark-in at alone writes stays = record {
     marked = ap mark_of writes.written ∙ mark_of-with_mark (old (places.word_at at));
@@ -65,7 +65,7 @@ module _ (old new : ℕ → ℕ) (places : Places) (on on' : ℕ → Bool) (sinc
 
   -- an unmarked link to the successor of a node that may be unlinked unlinks it
   pub Unlinks-in : (at : Position) (node tag : ℕ) → StandsAlone places at → CanUnlink (chain_in old places on since) at node
-      → Writes old new (places.word_at at) (pack (index_of (old (places.word_at (Node node)))) 0 tag)
+      → WritesWord old new (places.word_at at) (pack (index_of (old (places.word_at (Node node)))) 0 tag)
       → Leaves on on' node → Unlinks (chain_in old places on since) (chain_in new places on' since') at node
   Unlinks-in at node tag alone can writes leaves =
       let word : ℕ = old (places.word_at (Node node)) in
@@ -80,7 +80,7 @@ module _ (old new : ℕ → ℕ) (places : Places) (on on' : ℕ → Bool) (sinc
 
   -- a write elsewhere leaves the chain untouched
   pub Untouched-in : (place word : ℕ) → StandsElsewhere (chain_in old places on since) places place
-      → Writes old new place word → ((x : ℕ) → on' x ≡ on x)
+      → WritesWord old new place word → ((x : ℕ) → on' x ≡ on x)
       → Untouched (chain_in old places on since) (chain_in new places on' since')
   Untouched-in place word elsewhere writes stays = record {
     nodes = stays;

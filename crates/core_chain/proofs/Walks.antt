@@ -5,8 +5,8 @@ use Rattle.std.proofs.lemmas.Bool.{and_parts, and_from}
 use Rattle.std.proofs.lemmas.Bool.Decides.{nat_tests}
 use Rattle.packed_link.specs.Link.{nowhere}
 use Rattle.core_chain.specs.Chain.{Chain, Position, Head, Node, IsOn, IsChain, Precedes, rank_of, since_of}
-use Rattle.core_chain.specs.Met.{Meets}
-use Rattle.core_chain.specs.Walk.{IsBelow, Passes, stands_behind, rest_behind}
+use Rattle.core_chain.specs.Met.{MeetsFrom}
+use Rattle.core_chain.specs.Walk.{StandsBelow, Passes, stands_behind, rest_behind}
 use Rattle.core_chain.proofs.Orders.{IsBelow-precedes, Precedes-below, LeadsTo, NotPast, RisesBehind, IsChain-by}
 use Rattle.core_chain.proofs.Orders.{by_order, before_then, rises_behind}
 use Rattle.core_chain.proofs.Meets.{met_behind, leader, IsMet-from_chain}
@@ -27,14 +27,14 @@ none_of_key c p key x chain passes on same =
     chain.gap p (Node x) passes.present on before (inl (omega arith))
 
 -- what is met from a word of a chain is what stands behind it
-pub all_behind : (c : Chain) (p : Position) (xs : List ℕ) (x : ℕ) → IsChain c → IsOn c p → Meets c p xs
+pub all_behind : (c : Chain) (p : Position) (xs : List ℕ) (x : ℕ) → IsChain c → IsOn c p → MeetsFrom c p xs
     → Contains xs x ↔ (IsOn c (Node x) × Precedes c p (Node x))
 all_behind c p xs x chain on met =
     let both = (met_behind c p xs chain on met).1 x in (λ at. both.1 at, λ h. both.0 h)
 
 -- behind an unmarked word, these are the nodes of greater keys
-pub all_greater : (c : Chain) (p : Position) (xs : List ℕ) (x : ℕ) → IsChain c → IsOn c p → c.mark p ≡ 0 → Meets c p xs
-    → Contains xs x ↔ (IsOn c (Node x) × IsBelow c p (c.key x))
+pub all_greater : (c : Chain) (p : Position) (xs : List ℕ) (x : ℕ) → IsChain c → IsOn c p → c.mark p ≡ 0 → MeetsFrom c p xs
+    → Contains xs x ↔ (IsOn c (Node x) × StandsBelow c p (c.key x))
 all_greater c p xs x chain on unmarked met =
     let both = (met_behind c p xs chain on met).1 x in (
       λ at. let h = both.1 at in (h.0, Precedes-below c p x (rises_behind c p (Node x) chain on h.0 unmarked h.1)),

@@ -4,14 +4,14 @@ use Rattle.packed_link.specs.Link.{nowhere}
 use Rattle.core_chain.specs.Chain.{Chain, Position, Head, Node, IsOn, Precedes, rank_of}
 
 -- following the links from a word on, one meets these nodes, in this order, and then none
-abbrev pub Meets : Chain → Position → List ℕ → Type 0
-Meets chain p [] = chain.next p ≡ nowhere
-Meets chain p (x ∷ xs) = (chain.next p ≡ x) × (x ≢ nowhere) × Meets chain (Node x) xs
+abbrev pub MeetsFrom : Chain → Position → List ℕ → Type 0
+MeetsFrom chain p [] = chain.next p ≡ nowhere
+MeetsFrom chain p (x ∷ xs) = (chain.next p ≡ x) × (x ≢ nowhere) × MeetsFrom chain (Node x) xs
 
 -- each of the nodes stands before the next, and the word before the first
-abbrev pub Rises : Chain → Position → List ℕ → Type 0
-Rises chain p [] = Unit {0}
-Rises chain p (x ∷ xs) = Precedes chain p (Node x) × Rises chain (Node x) xs
+abbrev pub RisesAlong : Chain → Position → List ℕ → Type 0
+RisesAlong chain p [] = Unit {0}
+RisesAlong chain p (x ∷ xs) = Precedes chain p (Node x) × RisesAlong chain (Node x) xs
 
 -- where a word is unmarked, the node that it leads to has a greater key
 abbrev pub RisesUnmarked : Chain → Position → List ℕ → Type 0
@@ -22,8 +22,8 @@ RisesUnmarked chain p (x ∷ xs) =
 -- the nodes that one meets from the head are exactly those on the chain, each once, in rising order; two neighbours
 -- have one key only where the first is marked
 pub record IsMet (chain : Chain) (nodes : List ℕ) : Type 0 where
-  pub met : Meets chain Head nodes
-  pub rising : Rises chain Head nodes
+  pub met : MeetsFrom chain Head nodes
+  pub rising : RisesAlong chain Head nodes
   pub unmarked : RisesUnmarked chain Head nodes
   pub once : AllPairs ◌≢◌ nodes
   pub exactly : (x : ℕ) → IsOn chain (Node x) ↔ Contains nodes x

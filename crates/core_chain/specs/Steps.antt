@@ -38,8 +38,8 @@ pub record Inserts (old new : Chain) (at : Position) (node : ℕ) : Type 0 where
   pub words : ChangesOnly old new at
   pub nodes : Joins old.on new.on node
 
--- a node may be replaced by another: it is on the chain and unmarked; the other isn't on the chain, has the same key, and
--- its own link is filled with the successor
+-- a node may be replaced by another: it is on the chain and unmarked; the other isn't on the chain, has the same key,
+-- and its own link is filled with the successor
 pub record CanReplace (chain : Chain) (node fresh : ℕ) : Type 0 where
   pub present : IsOn chain (Node node)
   pub unmarked : chain.mark (Node node) ≡ 0

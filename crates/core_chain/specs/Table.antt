@@ -23,7 +23,7 @@ abbrev pub KeepsSince : (ℕ → Bool) → (ℕ → ℕ) → (ℕ → ℕ) → T
 KeepsSince on old new = (x : ℕ) → IsTrue (on x) → new x ≡ old x
 
 -- one word of the table is written, and every other stays
-pub record Writes (old new : ℕ → ℕ) (place word : ℕ) : Type 0 where
+pub record WritesWord (old new : ℕ → ℕ) (place word : ℕ) : Type 0 where
   pub written : new place ≡ word
   pub others : (i : ℕ) → i ≢ place → new i ≡ old i
 

@@ -4,15 +4,15 @@ use Rattle.packed_link.specs.Link.{nowhere}
 use Rattle.core_chain.specs.Chain.{Chain, Position, Head, Node, IsOn, rank_of, since_of}
 
 -- a word stands before a key: the head before every key, a node's link before those greater than its own
-abbrev pub IsBelow : Chain → Position → ℕ → Type 0
-IsBelow chain Head key = Unit {0}
-IsBelow chain (Node x) key = chain.key x < key
+abbrev pub StandsBelow : Chain → Position → ℕ → Type 0
+StandsBelow chain Head key = Unit {0}
+StandsBelow chain (Node x) key = chain.key x < key
 
 -- a word on the chain leads past a key: it stands before the key, and leads to a node of a greater key or to
 -- none
 pub record Passes (chain : Chain) (at : Position) (key : ℕ) : Type 0 where
   pub present : IsOn chain at
-  pub above : IsBelow chain at key
+  pub above : StandsBelow chain at key
   pub below : chain.next at ≢ nowhere → key < chain.key (chain.next at)
 
 -- the word that a word of the rest is on the whole chain: the rest has the given word as its head

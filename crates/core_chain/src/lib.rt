@@ -15,8 +15,8 @@ mod worked;
 pub use met::{a_chain_is_what_is_met, an_empty_head_is_a_chain};
 pub use steps::{
     a_frozen_chain_rests, each_step_keeps_the_chain, freezing_keeps_the_chain,
-    inserting_keeps_the_chain, marking_keeps_the_chain, replacing_keeps_the_chain, unlinking_keeps_the_chain,
-    what_is_untouched_stays_a_chain,
+    inserting_keeps_the_chain, marking_keeps_the_chain, replacing_keeps_the_chain,
+    unlinking_keeps_the_chain, what_is_untouched_stays_a_chain,
 };
 pub use table::{one_write_is_one_step, other_chains_stay};
 pub use walk::{

@@ -7,7 +7,8 @@
 ghost use Rattle.std.specs.Prelude.{◌≡◌, ◌≢◌, ℕ};
 ghost use Rattle.packed_link.specs.Link.{nowhere};
 ghost use Rattle.core_chain.specs.Chain.{Chain, Head, IsChain, IsOn, Node, Position};
-ghost use Rattle.core_chain.specs.Steps.{Freezes, Inserts, IsFrozenTo, Keeps, Replaces, SetsMark, Step, Unlinks, Untouched};
+ghost use Rattle.core_chain.specs.Steps.{Freezes, Inserts, IsFrozenTo, Keeps, Replaces, SetsMark, Step, Unlinks};
+ghost use Rattle.core_chain.specs.Steps.{Untouched};
 
 /// The law of inserting: a node joins the chain between its neighbours, and every node that was on it is on it.
 pub fn inserting_keeps_the_chain()

@@ -1,12 +1,12 @@
 //! What a walk along a chain may conclude of the chain at that moment.
 //!
 //! A walk that stands at a word with a smaller key, which leads to a greater key or to none, knows that the key
-//! between is absent: keys rise strictly, so nothing stands in the gap (Harris 2001).
+//! between is absent: keys rise, so nothing stands in the gap (Harris 2001).
 ghost use Rattle.std.specs.Prelude.{◌≡◌, ◌≢◌, ◌↔◌, ℕ, ◌<◌, Contains, List};
 ghost use Rattle.packed_link.specs.Link.{nowhere};
 ghost use Rattle.core_chain.specs.Chain.{Chain, IsChain, IsOn, Node, Position, Precedes};
-ghost use Rattle.core_chain.specs.Met.{Meets};
-ghost use Rattle.core_chain.specs.Walk.{IsBelow, Passes, rest_behind};
+ghost use Rattle.core_chain.specs.Met.{MeetsFrom};
+ghost use Rattle.core_chain.specs.Walk.{StandsBelow, Passes, rest_behind};
 
 /// The law of absence: where a word leads past a key, no node of the key is on the chain.
 pub fn a_key_that_is_passed_is_absent()
@@ -19,11 +19,11 @@ pub fn a_key_that_is_passed_is_absent()
 /// node has a key.
 pub fn nodes_behind_have_greater_keys()
     ensures behind { (chain : Chain) (p : Position) (nodes : List ℕ) (x : ℕ)
-        → IsChain chain → IsOn chain p → Meets chain p nodes
+        → IsChain chain → IsOn chain p → MeetsFrom chain p nodes
         → Contains nodes x ↔ (IsOn chain (Node x) × Precedes chain p (Node x)) }
     ensures greater { (chain : Chain) (p : Position) (nodes : List ℕ) (x : ℕ)
-        → IsChain chain → IsOn chain p → chain.mark p ≡ 0 → Meets chain p nodes
-        → Contains nodes x ↔ (IsOn chain (Node x) × IsBelow chain p (chain.key x)) }
+        → IsChain chain → IsOn chain p → chain.mark p ≡ 0 → MeetsFrom chain p nodes
+        → Contains nodes x ↔ (IsOn chain (Node x) × StandsBelow chain p (chain.key x)) }
     ensures once { (chain : Chain) (x y : ℕ) → IsChain chain → IsOn chain (Node x) → IsOn chain (Node y)
         → chain.mark (Node x) ≡ 0 → chain.mark (Node y) ≡ 0 → chain.key x ≡ chain.key y → x ≡ y }
 {}

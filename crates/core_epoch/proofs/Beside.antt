@@ -2,9 +2,9 @@
 use Rattle.std.proofs.Common.{◌≡◌, ℕ, ◌+◌, ◌<◌, ◌≤◌, ◌⊎◌, Bool, List, [], ◌∷◌, true, false, refl, arith, ⊎_elim, inl, inr}
 use mathlib.Core.Logic.{dite}
 use native.Mathlib.Decide.{dec_le}
-use Rattle.core_epoch.specs.Run.{IsRun, last_of}
+use Rattle.core_epoch.specs.Run.{IsRunOf, last_of}
 use Rattle.core_epoch.specs.Clock.{Clock, IsNewClock, Announcements, IsNear}
-use Rattle.core_epoch.specs.Steps.{Step}
+use Rattle.core_epoch.specs.Steps.{ClockStep}
 use Rattle.core_epoch.specs.Ends.{Ends, Ended, Ordered, EndsSome, GivesOld, Moment, IsNewMoment, Follows, IsSafe}
 use Rattle.core_epoch.proofs.Births.{announcements_kept, announcements_new, epoch_rises, steps_count, near_kept, near_new, open_after}
 
@@ -19,7 +19,7 @@ old_end_before clock ends i x near c old o = ⊎_elim (λ h. h)
     (le_or_lt (ends.ended x) (clock.since i))
 
 module _ (callers : ℕ) (old new : Clock) (before after : Ends) where
-  pub ended_kept : Ended old before → Step callers old new → EndsSome old before after → Ended new after
+  pub ended_kept : Ended old before → ClockStep callers old new → EndsSome old before after → Ended new after
   ended_kept c step s =
       let rises : old.epoch ≤ new.epoch = epoch_rises callers old new step in
       let count : new.count ≡ old.count + 1 = steps_count callers old new step in
@@ -43,7 +43,7 @@ module _ (callers : ℕ) (old new : Clock) (before after : Ends) where
       by true is = old_end_before old before i x near c (g x is u) o
       by false is = c.unspent i x o is
 
-  pub ordered_kept : Announcements callers old → IsNear old → Ended old before → Ordered old before → Step callers old new → EndsSome old before after → GivesOld old before after → Ordered new after
+  pub ordered_kept : Announcements callers old → IsNear old → Ended old before → Ordered old before → ClockStep callers old new → EndsSome old before after → GivesOld old before after → Ordered new after
   ordered_kept a near e c step s g = record {
     later = λ i x. open_after callers old new (λ (i birth since : ℕ). since < after.ended x → birth ≤ after.epoch x) step
         (λ i o h. later_was a c s x i o h)
@@ -66,11 +66,11 @@ module _ (callers : ℕ) where
     ordered = ordered_kept callers old.clock new.clock old.ends new.ends c.announcements c.near c.ended c.ordered f.step f.ends f.gives;
   }
 
-  safe_run : (first : Moment) (rest : List Moment) → IsSafe callers first → IsRun (Follows callers) first rest → IsSafe callers (last_of first rest)
+  safe_run : (first : Moment) (rest : List Moment) → IsSafe callers first → IsRunOf (Follows callers) first rest → IsSafe callers (last_of first rest)
   safe_run first [] c run = c
   safe_run first (next ∷ rest) c run = safe_run next rest (safe_kept first next c run.0) run.1
 
-  pub run_is_safe : (first : Moment) (rest : List Moment) → IsNewMoment callers first → IsRun (Follows callers) first rest → IsSafe callers (last_of first rest)
+  pub run_is_safe : (first : Moment) (rest : List Moment) → IsNewMoment callers first → IsRunOf (Follows callers) first rest → IsSafe callers (last_of first rest)
   run_is_safe first rest n run = safe_run first rest record {
     announcements = announcements_new callers first.clock n.clock;
     near = near_new callers first.clock n.clock;

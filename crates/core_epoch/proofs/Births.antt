@@ -2,9 +2,9 @@
 use Rattle.std.proofs.Common.{◌≡◌, ℕ, ◌+◌, ◌<◌, ◌≤◌, List, [], ◌∷◌, true, false, refl, sym, ap, ◌∙◌, subst, arith, ⊎_elim}
 use mathlib.Core.Logic.{dite}
 use native.Mathlib.Decide.{ℕ_discrete}
-use Rattle.core_epoch.specs.Run.{IsRun, last_of}
+use Rattle.core_epoch.specs.Run.{IsRunOf, last_of}
 use Rattle.core_epoch.specs.Clock.{Clock, IsNewClock, IsOpenPass, Announcements, IsNear, IsClear}
-use Rattle.core_epoch.specs.Steps.{KeepsPass, Announces, Withdraws, Step, announce, withdraw, move, rest, MovesClear, IsFoundClear}
+use Rattle.core_epoch.specs.Steps.{KeepsPass, Announces, Withdraws, ClockStep, announce, withdraw, move, rest, MovesClear, IsFoundClear}
 
 module _ (callers : ℕ) (old new : Clock) where
   -- a pass that is kept
@@ -41,27 +41,27 @@ module _ (callers : ℕ) (old new : Clock) where
   }
 
   -- each step keeps what announcements tell
-  pub announcements_kept : Announcements callers old → Step callers old new → Announcements callers new
+  pub announcements_kept : Announcements callers old → ClockStep callers old new → Announcements callers new
   announcements_kept c (announce caller loaded s) = announcements_opened caller loaded s c
   announcements_kept c (withdraw caller s) = announcements_closed caller s c
   announcements_kept c (move s) = announcements_all s.passes (omega (arith, s.epoch)) (omega (arith, s.count)) c
   announcements_kept c (rest s) = announcements_all s.passes (omega (arith, s.epoch)) (omega (arith, s.count)) c
 
   -- each step keeps the epoch or moves it on, and is counted
-  pub epoch_rises : Step callers old new → old.epoch ≤ new.epoch
+  pub epoch_rises : ClockStep callers old new → old.epoch ≤ new.epoch
   epoch_rises (announce caller loaded s) = omega (arith, s.epoch)
   epoch_rises (withdraw caller s) = omega (arith, s.epoch)
   epoch_rises (move s) = omega (arith, s.epoch)
   epoch_rises (rest s) = omega (arith, s.epoch)
 
-  pub steps_count : Step callers old new → new.count ≡ old.count + 1
+  pub steps_count : ClockStep callers old new → new.count ≡ old.count + 1
   steps_count (announce caller loaded s) = s.count
   steps_count (withdraw caller s) = s.count
   steps_count (move s) = s.count
   steps_count (rest s) = s.count
 
   -- a fact of an open pass holds after a step, where it holds of a new pass and stays of one that is kept
-  pub open_after : (P : ℕ → ℕ → ℕ → Type 0) → Step callers old new
+  pub open_after : (P : ℕ → ℕ → ℕ → Type 0) → ClockStep callers old new
       → ((i : ℕ) → old.is_open i ≡ true → P i (old.birth i) (old.since i)) → ((i : ℕ) → P i old.epoch old.count)
       → (i : ℕ) → new.is_open i ≡ true → P i (new.birth i) (new.since i)
   open_after P step was fresh i o = by step
@@ -82,26 +82,26 @@ module _ (callers : ℕ) (old new : Clock) where
           (λ same. let t : new.is_open i ≡ false = ap new.is_open same ∙ s.closes in absurd (cc))
           (λ ne. kept (s.others i ne))
 
-      by : Step callers old new → P i (new.birth i) (new.since i)
+      by : ClockStep callers old new → P i (new.birth i) (new.since i)
       by (announce caller loaded s) = begun caller loaded s
       by (withdraw caller s) = ended caller s
       by (move s) = kept (s.passes i)
       by (rest s) = kept (s.passes i)
 
   -- being clear is kept by each step
-  pub clear_kept : (seen caller : ℕ) → IsClear seen caller old → Step callers old new → IsClear seen caller new
+  pub clear_kept : (seen caller : ℕ) → IsClear seen caller old → ClockStep callers old new → IsClear seen caller new
   clear_kept seen caller c step = record {
     reached = omega (arith, c.reached, epoch_rises step);
     born = λ o. open_after (λ (i birth since : ℕ). i ≡ caller → seen ≤ birth) step (λ i was same. let h : old.is_open caller ≡ true = ap old.is_open (sym same) ∙ was in omega (arith, c.born h, ap old.birth same)) (λ i same. c.reached) caller o refl;
   }
 
   -- the epoch is at most one above the birth of an open pass, where it moves on only if each caller is clear of it
-  pub near_kept : Announcements callers old → IsNear old → Step callers old new → MovesClear callers old new → IsNear new
+  pub near_kept : Announcements callers old → IsNear old → ClockStep callers old new → MovesClear callers old new → IsNear new
   near_kept a c step clear = record {
     near = λ i o. open_after (λ (i birth since : ℕ). new.epoch ≤ birth + 1) step was (λ i. omega (arith, one_more step)) i o;
   }
     where
-      one_more : Step callers old new → new.epoch ≤ old.epoch + 1
+      one_more : ClockStep callers old new → new.epoch ≤ old.epoch + 1
       one_more (announce caller loaded s) = omega (arith, s.epoch)
       one_more (withdraw caller s) = omega (arith, s.epoch)
       one_more (move s) = omega (arith, s.epoch)
@@ -116,7 +116,7 @@ module _ (callers : ℕ) (old new : Clock) where
       was : (i : ℕ) → old.is_open i ≡ true → new.epoch ≤ old.birth i + 1
       was i o = by step
         where
-          by : Step callers old new → new.epoch ≤ old.birth i + 1
+          by : ClockStep callers old new → new.epoch ≤ old.birth i + 1
           by (announce caller loaded s) = stayed i o s.epoch
           by (withdraw caller s) = stayed i o s.epoch
           by (move s) = moved i o s.epoch
@@ -138,19 +138,19 @@ found_clear callers seen caller clock a reached found = record {
 
 -- along runs
 module _ (callers : ℕ) where
-  pub epoch_runs : (first : Clock) (run : List Clock) → IsRun (Step callers) first run → first.epoch ≤ (last_of first run).epoch
+  pub epoch_runs : (first : Clock) (run : List Clock) → IsRunOf (ClockStep callers) first run → first.epoch ≤ (last_of first run).epoch
   epoch_runs first [] go = omega arith
   epoch_runs first (next ∷ more) go = omega (arith, epoch_rises callers first next go.0, epoch_runs next more go.1)
 
-  announcements_run : (first : Clock) (run : List Clock) → Announcements callers first → IsRun (Step callers) first run → Announcements callers (last_of first run)
+  announcements_run : (first : Clock) (run : List Clock) → Announcements callers first → IsRunOf (ClockStep callers) first run → Announcements callers (last_of first run)
   announcements_run first [] c go = c
   announcements_run first (next ∷ more) c go = announcements_run next more (announcements_kept callers first next c go.0) go.1
 
-  clear_run : (seen caller : ℕ) (first : Clock) (run : List Clock) → IsClear seen caller first → IsRun (Step callers) first run → IsClear seen caller (last_of first run)
+  clear_run : (seen caller : ℕ) (first : Clock) (run : List Clock) → IsClear seen caller first → IsRunOf (ClockStep callers) first run → IsClear seen caller (last_of first run)
   clear_run seen caller first [] c go = c
   clear_run seen caller first (next ∷ more) c go = clear_run seen caller next more (clear_kept callers first next seen caller c go.0) go.1
 
-  pub checks_clear : (caller : ℕ) (loaded : Clock) (between later : List Clock) → Announcements callers loaded → IsRun (Step callers) loaded between → IsFoundClear loaded.epoch caller (last_of loaded between)
-      → IsRun (Step callers) (last_of loaded between) later → IsClear loaded.epoch caller (last_of (last_of loaded between) later)
+  pub checks_clear : (caller : ℕ) (loaded : Clock) (between later : List Clock) → Announcements callers loaded → IsRunOf (ClockStep callers) loaded between → IsFoundClear loaded.epoch caller (last_of loaded between)
+      → IsRunOf (ClockStep callers) (last_of loaded between) later → IsClear loaded.epoch caller (last_of (last_of loaded between) later)
   checks_clear caller loaded between later a run found more =
       clear_run loaded.epoch caller (last_of loaded between) later (found_clear callers loaded.epoch caller (last_of loaded between) (announcements_run loaded between a run) (epoch_runs loaded between run) found) more

@@ -5,8 +5,8 @@ use Rattle.std.specs.List.{range_with_len}
 use mathlib.Core.Logic.{dite}
 use native.Mathlib.Decide.{ℕ_discrete}
 use Rattle.packed_link.specs.Link.{pack, nowhere, index_of, mark_of, tag_of}
-use Rattle.core_epoch.specs.Run.{IsRun, last_of}
-use Rattle.core_epoch.specs.Free.{Pool, Leads, FreeList, IsNewPool, Takes, GivesBack, LeavesFree, Change, take, give, leave, IsUnchanged}
+use Rattle.core_epoch.specs.Run.{IsRunOf, last_of}
+use Rattle.core_epoch.specs.Free.{Pool, Leads, FreeList, IsNewPool, TakesFirst, GivesBack, LeavesFree, Change, take, give, leave, IsUnchanged}
 use Rattle.core_epoch.proofs.Lists.{contains_first, contains_later, contains_cases, once_first, once_rest, once_more, range_contains, range_within, range_once}
 
 module _ (nodes : ℕ) where
@@ -33,7 +33,7 @@ module _ (nodes : ℕ) where
   first_is_free pool x z f t is = f.only x (subst (λ (xs : List ℕ). Contains xs x) (sym (first_of_pool pool x z f t is)) (contains_first x x (drop 1 pool.free) refl))
 
   -- taking the first node
-  pub free_taken : (old new : Pool) (x : ℕ) → nodes ≤ nowhere → FreeList nodes old → Takes nodes old new x → FreeList nodes new
+  pub free_taken : (old new : Pool) (x : ℕ) → nodes ≤ nowhere → FreeList nodes old → TakesFirst nodes old new x → FreeList nodes new
   free_taken old new x z f s =
       let xs : List ℕ = drop 1 old.free in
       let list : old.free ≡ x ∷ xs = first_of_pool old x z f s.there s.leads in
@@ -124,7 +124,7 @@ module _ (nodes : ℕ) where
       link = λ h. let is : old.first ≡ seen = c.word (sym s.changes ∙ h) in s.link (index_of seen) (first_is_free old (index_of seen) z f there (ap index_of is)) ∙ c.link (sym s.changes ∙ h);
     }
 
-    unchanged_run : (first : Pool) (rest : List Pool) → FreeList nodes first → IsUnchanged seen next first → IsRun (Change nodes) first rest → FreeList nodes (last_of first rest) × IsUnchanged seen next (last_of first rest)
+    unchanged_run : (first : Pool) (rest : List Pool) → FreeList nodes first → IsUnchanged seen next first → IsRunOf (Change nodes) first rest → FreeList nodes (last_of first rest) × IsUnchanged seen next (last_of first rest)
     unchanged_run first [] f c run = (f, c)
     unchanged_run first (new ∷ rest) f c run = unchanged_run new rest (free_kept first new z f run.0) (unchanged_kept first new f c run.0) run.1
 
@@ -133,14 +133,14 @@ module _ (nodes : ℕ) where
   changes_rise old new (give x s) = omega (arith, s.changes)
   changes_rise old new (leave s) = omega (arith, s.changes)
 
-  changes_run : (first : Pool) (rest : List Pool) → IsRun (Change nodes) first rest → first.changes ≤ (last_of first rest).changes
+  changes_run : (first : Pool) (rest : List Pool) → IsRunOf (Change nodes) first rest → first.changes ≤ (last_of first rest).changes
   changes_run first [] run = omega arith
   changes_run first (new ∷ rest) run = omega (arith, changes_rise first new run.0, changes_run new rest run.1)
 
   -- the word was seen, then the link of its node; where the word is the same again, so is the link
   pub seen_again : (seen next : ℕ) (first : Pool) (between later : List Pool) → nodes ≤ nowhere → index_of seen < nodes → FreeList nodes first → first.first ≡ seen
-      → IsRun (Change nodes) first between → (last_of first between).link (index_of seen) ≡ next
-      → IsRun (Change nodes) (last_of first between) later → (last_of (last_of first between) later).first ≡ seen
+      → IsRunOf (Change nodes) first between → (last_of first between).link (index_of seen) ≡ next
+      → IsRunOf (Change nodes) (last_of first between) later → (last_of (last_of first between) later).first ≡ seen
       → (last_of (last_of first between) later).link (index_of seen) ≡ next
   seen_again seen next first between later z there f was run link more is =
       let middle : Pool = last_of first between in

@@ -1,7 +1,7 @@
 -- The changes of the worked free list.
 use Rattle.std.proofs.Common.{◌≡◌, ◌≢◌, ℕ, zero, suc, ◌+◌, ◌==◌, cond, true, false, refl, arith}
-use Rattle.core_epoch.specs.Free.{IsNewPool, Takes, GivesBack, LeavesFree}
-use Rattle.core_epoch.specs.Worked.{put}
+use Rattle.core_epoch.specs.Free.{IsNewPool, TakesFirst, GivesBack, LeavesFree}
+use Rattle.core_epoch.specs.Worked.{put_in}
 use Rattle.core_epoch.specs.WorkedPool.{both_free, zero_taken, zero_written, zero_ready, zero_given}
 use Rattle.core_epoch.proofs.WorkedRun.{put_else, both}
 use Rattle.packed_link.specs.Link.{pack, nowhere}
@@ -15,7 +15,7 @@ opens = record {
   changes = refl;
 }
 
-pub first_step : Takes 2 both_free zero_taken 0
+pub first_step : TakesFirst 2 both_free zero_taken 0
 first_step = record {
   there = omega arith;
   leads = refl;
@@ -27,7 +27,7 @@ first_step = record {
 }
 
 -- a node that isn't free is written
-free_apart : (y : ℕ) → put 0 false both_free.is_free y ≡ true → y ≢ 0
+free_apart : (y : ℕ) → put_in 0 false both_free.is_free y ≡ true → y ≢ 0
 free_apart zero h = absurd (cc)
 free_apart (suc n) h = λ e. omega (arith, e)
 

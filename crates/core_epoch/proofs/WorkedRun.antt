@@ -5,13 +5,13 @@ use native.Mathlib.Decide.{ℕ_discrete}
 use Rattle.core_epoch.specs.Clock.{Clock, IsClear}
 use Rattle.core_epoch.specs.Steps.{announce, withdraw, move, rest, MovesClear}
 use Rattle.core_epoch.specs.Ends.{Ends, EndsSome, GivesOld, Moment, Follows}
-use Rattle.core_epoch.specs.Worked.{put, announced, withdrawn, moved, unlinked, given_back}
+use Rattle.core_epoch.specs.Worked.{put_in, announced, withdrawn, moved, node_unlinked, given_back}
 
 module _ {A : Type 0} where
-  put_here : (i : ℕ) (a : A) (f : ℕ → A) (x : ℕ) → x ≡ i → put i a f x ≡ a
+  put_here : (i : ℕ) (a : A) (f : ℕ → A) (x : ℕ) → x ≡ i → put_in i a f x ≡ a
   put_here i a f x same = ap (λ (b : Bool). cond b a (f x)) (eq-eqb x i same)
 
-  pub put_else : (i : ℕ) (a : A) (f : ℕ → A) (x : ℕ) → x ≢ i → put i a f x ≡ f x
+  pub put_else : (i : ℕ) (a : A) (f : ℕ → A) (x : ℕ) → x ≢ i → put_in i a f x ≡ f x
   put_else i a f x ne = ap (λ (b : Bool). cond b a (f x)) (ne_eqb x i ne)
 
 -- the ends of lives stay
@@ -74,16 +74,16 @@ module _ (callers : ℕ) (m : Moment) where
     gives = none_given m.clock m.ends;
   }
 
-  pub unlinked_follows : (x : ℕ) → Follows callers m (unlinked x m)
+  pub unlinked_follows : (x : ℕ) → Follows callers m (node_unlinked x m)
   unlinked_follows x = record {
     step = rest record { passes = λ i. record { is_open = refl; birth = refl; since = refl; word = λ _. refl }; epoch = refl; count = refl };
-    moves = stays callers m.clock (unlinked x m).clock refl;
+    moves = stays callers m.clock (node_unlinked x m).clock refl;
     ends = λ y. dite (ℕ_discrete y x)
         (λ same. inr record { ended = put_here x (m.clock.count + 1) m.ends.ended y same; epoch = put_here x m.clock.epoch m.ends.epoch y same; spent = put_here x true m.ends.is_spent y same })
         (λ ne. inl record { ended = put_else x (m.clock.count + 1) m.ends.ended y ne; epoch = put_else x m.clock.epoch m.ends.epoch y ne });
     gives = λ y h u. dite (ℕ_discrete y x)
-        (λ same. let t : put x true m.ends.is_spent y ≡ true = put_here x true m.ends.is_spent y same in absurd (cc))
-        (λ ne. let t : put x true m.ends.is_spent y ≡ m.ends.is_spent y = put_else x true m.ends.is_spent y ne in absurd (cc));
+        (λ same. let t : put_in x true m.ends.is_spent y ≡ true = put_here x true m.ends.is_spent y same in absurd (cc))
+        (λ ne. let t : put_in x true m.ends.is_spent y ≡ m.ends.is_spent y = put_else x true m.ends.is_spent y ne in absurd (cc));
   }
 
   pub given_back_follows : (x : ℕ) → m.ends.epoch x + 2 ≤ m.clock.epoch → Follows callers m (given_back x m)
@@ -93,7 +93,7 @@ module _ (callers : ℕ) (m : Moment) where
     ends = λ y. inl record { ended = refl; epoch = refl };
     gives = λ y h u. dite (ℕ_discrete y x)
         (λ same. omega (arith, ap m.ends.epoch same, old))
-        (λ ne. let t : put x false m.ends.is_spent y ≡ m.ends.is_spent y = put_else x false m.ends.is_spent y ne in absurd (cc));
+        (λ ne. let t : put_in x false m.ends.is_spent y ≡ m.ends.is_spent y = put_else x false m.ends.is_spent y ne in absurd (cc));
   }
 
 -- two callers, each clear

@@ -1,7 +1,7 @@
 -- Where the lives of nodes ended, beside the passes that were open then.
 use Rattle.std.specs.Prelude.{◌≡◌, ℕ, ◌+◌, ◌<◌, ◌≤◌, ◌⊎◌, Bool, true, false}
 use Rattle.core_epoch.specs.Clock.{Clock, IsNewClock, Announcements, IsNear}
-use Rattle.core_epoch.specs.Steps.{Step, MovesClear}
+use Rattle.core_epoch.specs.Steps.{ClockStep, MovesClear}
 
 -- of each node where a life of it last ended, as the number of steps up to that end, the epoch then, and whether it is
 -- spent: its life ended, and it isn't given back
@@ -52,7 +52,7 @@ pub record IsNewMoment (callers : ℕ) (m : Moment) : Type 0 where
 
 -- any step that the epoch allows
 pub record Follows (callers : ℕ) (old new : Moment) : Type 0 where
-  pub step : Step callers old.clock new.clock
+  pub step : ClockStep callers old.clock new.clock
   pub moves : MovesClear callers old.clock new.clock
   pub ends : EndsSome old.clock old.ends new.ends
   pub gives : GivesOld old.clock old.ends new.ends

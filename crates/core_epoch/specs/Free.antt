@@ -43,7 +43,7 @@ pub record KeepsOthers (old new : Pool) (x : ℕ) : Type 0 where
   pub link : (y : ℕ) → new.link y ≡ old.link y
 
 -- the first free node is taken: the word leads to the node behind it now
-pub record Takes (nodes : ℕ) (old new : Pool) (x : ℕ) : Type 0 where
+pub record TakesFirst (nodes : ℕ) (old new : Pool) (x : ℕ) : Type 0 where
   pub there : x < nodes
   pub leads : index_of old.first ≡ x
   pub word : new.first ≡ pack (index_of (old.link x)) 0 (tag_of old.first + 1)
@@ -73,7 +73,7 @@ pub record LeavesFree (old new : Pool) : Type 0 where
 
 -- any change of the nodes
 pub data Change (nodes : ℕ) (old new : Pool) : Type 0 where
-  take : (x : ℕ) → Takes nodes old new x → Change nodes old new
+  take : (x : ℕ) → TakesFirst nodes old new x → Change nodes old new
   give : (x : ℕ) → GivesBack nodes old new x → Change nodes old new
   leave : LeavesFree old new → Change nodes old new
 

@@ -3,9 +3,9 @@ use Rattle.std.specs.Prelude.{List, [], ◌∷◌}
 
 module _ {A : Type 0} where
   -- from a moment on, each step leads to the next of these
-  abbrev pub IsRun : (A → A → Type 0) → A → List A → Type 0
-  IsRun step first [] = Unit {0}
-  IsRun step first (next ∷ rest) = step first next × IsRun step next rest
+  abbrev pub IsRunOf : (A → A → Type 0) → A → List A → Type 0
+  IsRunOf step first [] = Unit {0}
+  IsRunOf step first (next ∷ rest) = step first next × IsRunOf step next rest
 
   -- the last moment of a run
   abbrev pub last_of : A → List A → A

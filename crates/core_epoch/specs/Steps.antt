@@ -45,11 +45,11 @@ pub record Rests (callers : ℕ) (old new : Clock) : Type 0 where
   pub count : new.count ≡ old.count + 1
 
 -- any step
-pub data Step (callers : ℕ) (old new : Clock) : Type 0 where
-  announce : (caller loaded : ℕ) → Announces callers old new caller loaded → Step callers old new
-  withdraw : (caller : ℕ) → Withdraws callers old new caller → Step callers old new
-  move : Moves callers old new → Step callers old new
-  rest : Rests callers old new → Step callers old new
+pub data ClockStep (callers : ℕ) (old new : Clock) : Type 0 where
+  announce : (caller loaded : ℕ) → Announces callers old new caller loaded → ClockStep callers old new
+  withdraw : (caller : ℕ) → Withdraws callers old new caller → ClockStep callers old new
+  move : Moves callers old new → ClockStep callers old new
+  rest : Rests callers old new → ClockStep callers old new
 
 -- the epoch moves on only where each caller is clear of it
 abbrev pub MovesClear : ℕ → Clock → Clock → Type 0

@@ -5,18 +5,18 @@ use Rattle.core_epoch.specs.Ends.{Moment}
 
 module _ {A : Type 0} where
   -- a function with one value written
-  abbrev pub put : ℕ → A → (ℕ → A) → ℕ → A
-  put i a f x = if nat_eq x i then a else f x
+  abbrev pub put_in : ℕ → A → (ℕ → A) → ℕ → A
+  put_in i a f x = if nat_eq x i then a else f x
 
 -- a caller announces an epoch
 abbrev pub announced : ℕ → ℕ → Moment → Moment
 announced caller loaded m = record m {
   clock = record m.clock {
     count = m.clock.count + 1;
-    is_open = put caller true m.clock.is_open;
-    birth = put caller m.clock.epoch m.clock.birth;
-    since = put caller m.clock.count m.clock.since;
-    word = put caller (loaded + 1) m.clock.word;
+    is_open = put_in caller true m.clock.is_open;
+    birth = put_in caller m.clock.epoch m.clock.birth;
+    since = put_in caller m.clock.count m.clock.since;
+    word = put_in caller (loaded + 1) m.clock.word;
   };
 }
 
@@ -25,8 +25,8 @@ abbrev pub withdrawn : ℕ → Moment → Moment
 withdrawn caller m = record m {
   clock = record m.clock {
     count = m.clock.count + 1;
-    is_open = put caller false m.clock.is_open;
-    word = put caller 0 m.clock.word;
+    is_open = put_in caller false m.clock.is_open;
+    word = put_in caller 0 m.clock.word;
   };
 }
 
@@ -35,13 +35,13 @@ abbrev pub moved : Moment → Moment
 moved m = record m { clock = record m.clock { count = m.clock.count + 1; epoch = m.clock.epoch + 1 } }
 
 -- a life of a node ends
-abbrev pub unlinked : ℕ → Moment → Moment
-unlinked x m = record {
+abbrev pub node_unlinked : ℕ → Moment → Moment
+node_unlinked x m = record {
   clock = record m.clock { count = m.clock.count + 1 };
   ends = record {
-    ended = put x (m.clock.count + 1) m.ends.ended;
-    epoch = put x m.clock.epoch m.ends.epoch;
-    is_spent = put x true m.ends.is_spent;
+    ended = put_in x (m.clock.count + 1) m.ends.ended;
+    epoch = put_in x m.clock.epoch m.ends.epoch;
+    is_spent = put_in x true m.ends.is_spent;
   };
 }
 
@@ -49,7 +49,7 @@ unlinked x m = record {
 abbrev pub given_back : ℕ → Moment → Moment
 given_back x m = record {
   clock = record m.clock { count = m.clock.count + 1 };
-  ends = record m.ends { is_spent = put x false m.ends.is_spent };
+  ends = record m.ends { is_spent = put_in x false m.ends.is_spent };
 }
 
 -- nothing has happened
@@ -69,7 +69,7 @@ first_moved = moved zero_announced
 
 -- node 5 is unlinked in epoch 1
 abbrev pub five_unlinked : Moment
-five_unlinked = unlinked 5 first_moved
+five_unlinked = node_unlinked 5 first_moved
 
 -- caller 1 announces epoch 0, which it loaded long ago: its pass begins in epoch 1
 abbrev pub one_announced : Moment
@@ -106,4 +106,4 @@ worked = zero_announced ∷ first_moved ∷ five_unlinked ∷ one_announced ∷ 
 
 -- the epoch moves on to 2 while caller 0 has announced 0, which a check would have found
 abbrev pub unchecked : Moment
-unchecked = moved (moved (unlinked 5 zero_announced))
+unchecked = moved (moved (node_unlinked 5 zero_announced))

@@ -1,14 +1,14 @@
 //! The ends of lives beside open passes: why a node is given back only after each pass that may have met it.
 ghost use Rattle.std.specs.Prelude.{◌≡◌, ℕ, ◌+◌, ◌≤◌, List, true};
-ghost use Rattle.core_epoch.specs.Run.{IsRun, last_of};
+ghost use Rattle.core_epoch.specs.Run.{IsRunOf, last_of};
 ghost use Rattle.core_epoch.specs.Clock.{Announcements, Clock, IsNear, IsNewClock};
-ghost use Rattle.core_epoch.specs.Steps.{Step};
+ghost use Rattle.core_epoch.specs.Steps.{ClockStep};
 ghost use Rattle.core_epoch.specs.Ends.{Ended, Ends, EndsSome, Follows, GivesOld, IsNewMoment, IsSafe, Moment, Ordered};
 
 /// The law of the past: no life ended in the future, and each step keeps this.
 pub fn ends_are_in_the_past()
     ensures { (callers : ℕ) (old new : Clock) (before after : Ends) → Ended old before
-        → Step callers old new → EndsSome old before after → Ended new after }
+        → ClockStep callers old new → EndsSome old before after → Ended new after }
 {}
 
 /// The law of ends beside open passes: a life that ended after a pass began ended in the epoch of the pass's birth or
@@ -19,7 +19,7 @@ pub fn ends_stand_beside_passes()
     ensures opening { (callers : ℕ) (clock : Clock) (ends : Ends) → IsNewClock callers clock → Ordered clock ends }
     ensures step { (callers : ℕ) (old new : Clock) (before after : Ends)
         → Announcements callers old → IsNear old → Ended old before → Ordered old before
-        → Step callers old new → EndsSome old before after → GivesOld old before after → Ordered new after }
+        → ClockStep callers old new → EndsSome old before after → GivesOld old before after → Ordered new after }
 {}
 
 /// The law of ripe nodes: where a node's life ended in an epoch that is at most its stamp, and an epoch was shown that
@@ -34,5 +34,5 @@ pub fn a_ripe_node_ended_before_passes()
 /// allows.
 pub fn each_run_is_safe()
     ensures { (callers : ℕ) (first : Moment) (rest : List Moment) → IsNewMoment callers first
-        → IsRun (Follows callers) first rest → IsSafe callers (last_of first rest) }
+        → IsRunOf (Follows callers) first rest → IsSafe callers (last_of first rest) }
 {}

@@ -4,8 +4,8 @@
 //! given back in between.
 ghost use Rattle.std.specs.Prelude.{◌≡◌, ℕ, ◌<◌, ◌≤◌, List, true};
 ghost use Rattle.packed_link.specs.Link.{index_of, nowhere};
-ghost use Rattle.core_epoch.specs.Run.{IsRun, last_of};
-ghost use Rattle.core_epoch.specs.Free.{Change, FreeList, GivesBack, IsNewPool, IsUnchanged, LeavesFree, Pool, Takes};
+ghost use Rattle.core_epoch.specs.Run.{IsRunOf, last_of};
+ghost use Rattle.core_epoch.specs.Free.{Change, FreeList, GivesBack, IsNewPool, IsUnchanged, LeavesFree, Pool, TakesFirst};
 
 /// The law of the free list: it leads through exactly the free nodes, each once, its word is unmarked, and its tag
 /// counts its changes. This holds where all nodes are free and each leads to the next, and each change keeps it.
@@ -13,7 +13,7 @@ pub fn the_free_list_is_exact()
     ensures opening { (nodes : ℕ) (pool : Pool) → 1 ≤ nodes → nodes ≤ nowhere
         → IsNewPool nodes pool → FreeList nodes pool }
     ensures take { (nodes : ℕ) (old new : Pool) (x : ℕ) → nodes ≤ nowhere
-        → FreeList nodes old → Takes nodes old new x → FreeList nodes new }
+        → FreeList nodes old → TakesFirst nodes old new x → FreeList nodes new }
     ensures give { (nodes : ℕ) (old new : Pool) (x : ℕ) → nodes ≤ nowhere
         → FreeList nodes old → GivesBack nodes old new x → FreeList nodes new }
     ensures leave { (nodes : ℕ) (old new : Pool) → FreeList nodes old → LeavesFree old new → FreeList nodes new }
@@ -33,8 +33,8 @@ pub fn an_unchanged_word_keeps_its_link()
         → FreeList nodes old → IsUnchanged seen next old → Change nodes old new → IsUnchanged seen next new }
     ensures again { (nodes seen next : ℕ) (first : Pool) (between later : List Pool) → nodes ≤ nowhere
         → index_of seen < nodes → FreeList nodes first → first.first ≡ seen
-        → IsRun (Change nodes) first between → (last_of first between).link (index_of seen) ≡ next
-        → IsRun (Change nodes) (last_of first between) later
+        → IsRunOf (Change nodes) first between → (last_of first between).link (index_of seen) ≡ next
+        → IsRunOf (Change nodes) (last_of first between) later
         → (last_of (last_of first between) later).first ≡ seen
         → (last_of (last_of first between) later).link (index_of seen) ≡ next }
 {}

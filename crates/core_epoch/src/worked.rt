@@ -2,20 +2,20 @@
 //! free list of two nodes (`specs/WorkedPool.antt`).
 ghost use Rattle.std.specs.Prelude.{◌≡◌, ◌≢◌, ℕ, ◌+◌, ◌<◌, ◌≤◌, true, [], ◌∷◌};
 ghost use Rattle.packed_link.specs.Link.{index_of, tag_of};
-ghost use Rattle.core_epoch.specs.Run.{IsRun};
+ghost use Rattle.core_epoch.specs.Run.{IsRunOf};
 ghost use Rattle.core_epoch.specs.Clock.{IsNear};
 ghost use Rattle.core_epoch.specs.Steps.{IsFoundClear};
 ghost use Rattle.core_epoch.specs.Ends.{Follows, IsNewMoment};
 ghost use Rattle.core_epoch.specs.Free.{Change, IsNewPool};
 ghost use Rattle.core_epoch.specs.Worked.{five_unlinked, moved, one_announced, opened};
-ghost use Rattle.core_epoch.specs.Worked.{third_moved, unchecked, unlinked, worked, zero_announced};
+ghost use Rattle.core_epoch.specs.Worked.{third_moved, unchecked, node_unlinked, worked, zero_announced};
 ghost use Rattle.core_epoch.specs.WorkedPool.{both_free, worked_pool, zero_given, zero_taken};
 
 /// The worked run: it begins with no open pass and each step is one that the epoch allows. Node 5 ended after caller
 /// 0's first pass began; it's given back when the only open pass was announced after that end.
 pub fn a_worked_run()
     ensures opens { IsNewMoment 2 opened }
-    ensures runs { IsRun (Follows 2) opened worked }
+    ensures runs { IsRunOf (Follows 2) opened worked }
     ensures is_checked { IsFoundClear 0 0 zero_announced.clock }
     ensures old_epoch { one_announced.clock.word 1 ≡ 1 }
     ensures born_later { one_announced.clock.birth 1 ≡ 1 }
@@ -28,7 +28,7 @@ pub fn a_worked_run()
 /// Where the epoch moves on without a check, an open pass is two epochs behind, and a node looks ripe that ended after
 /// that pass began.
 pub fn an_unchecked_move_is_unsafe()
-    ensures is_found { IsFoundClear 1 0 (moved (unlinked 5 zero_announced)).clock → ⊥ }
+    ensures is_found { IsFoundClear 1 0 (moved (node_unlinked 5 zero_announced)).clock → ⊥ }
     ensures far { IsNear unchecked.clock → ⊥ }
     ensures open_pass { unchecked.clock.is_open 0 ≡ true }
     ensures looks_ripe { unchecked.ends.epoch 5 + 2 ≤ unchecked.clock.epoch }
@@ -39,7 +39,7 @@ pub fn an_unchecked_move_is_unsafe()
 /// its tag tells the two apart.
 pub fn a_worked_free_list()
     ensures opens { IsNewPool 2 both_free }
-    ensures runs { IsRun (Change 2) both_free worked_pool }
+    ensures runs { IsRunOf (Change 2) both_free worked_pool }
     ensures taken { zero_taken.free ≡ 1 ∷ [] }
     ensures same_node { index_of zero_given.first ≡ index_of both_free.first }
     ensures other_word { zero_given.first ≢ both_free.first }

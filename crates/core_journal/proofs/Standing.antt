@@ -10,7 +10,7 @@ use Rattle.graph_kinds.specs.declared.entry.Class.TheVariants.{Silent, Late, Own
 use Rattle.graph_kinds.specs.declared.entry.Entry.{Entry}
 use Rattle.core_journal.specs.declared.book.Book.{Book}
 use Rattle.core_journal.specs.History.{Turn, item, running, entries_at, or_running, items_at, history_from, HasBook}
-use Rattle.core_journal.specs.Order.{Placed, placed, placed_from, IsEntryOf, IsPlaced}
+use Rattle.core_journal.specs.Order.{Placed, placed, placed_from, IsEntryOf, IsPlacedAt}
 use Rattle.core_journal.specs.Right.{StandsAt}
 use Rattle.core_journal.proofs.Lists.{every_append, every_map, every_all, every_mapped, every_none, every_filter, get_here}
 use Rattle.core_journal.proofs.Turns.{each_at, or_running_each}
@@ -28,31 +28,31 @@ entries_placed ts books c p = each_at c p (λ (b : Book). (n : ℕ) × (slice_ge
     one b k = every_map (λ (e : Entry). (m : ℕ) × (slice_get b.entries m ≡ Some e)) (λ (e : Entry). StandsAt c p e → IsEntryOf books (record { place = p; class = c; item = item b.caller e }))
         (λ e m s. record { number = k.0; book = b; book_at = k.1; row = m.0; entry = e; entry_at = m.1; item = refl; place = sym s.place; class = sym s.class }) b.entries (each_number b.entries)
 
-all_placed : (ts : List Turn) (books : List Book) (c : Class) (p : ℕ) → Every (IsPlaced ts books) (placed p c (entries_at c p books))
-all_placed ts books c p = every_mapped (λ (i : Item). IsEntryOf books (record { place = p; class = c; item = i })) (IsPlaced ts books) (λ (i : Item). record { place = p; class = c; item = i }) (λ i h. inl h) (entries_at c p books) (entries_placed ts books c p)
+all_placed : (ts : List Turn) (books : List Book) (c : Class) (p : ℕ) → Every (IsPlacedAt ts books) (placed p c (entries_at c p books))
+all_placed ts books c p = every_mapped (λ (i : Item). IsEntryOf books (record { place = p; class = c; item = i })) (IsPlacedAt ts books) (λ (i : Item). record { place = p; class = c; item = i }) (λ i h. inl h) (entries_at c p books) (entries_placed ts books c p)
 
-own_placed : (ts : List Turn) (books : List Book) (p : ℕ) (t : Turn) → slice_get ts p ≡ Some t → Every (IsPlaced ts books) (placed p Own (or_running t (entries_at Own p books)))
+own_placed : (ts : List Turn) (books : List Book) (p : ℕ) (t : Turn) → slice_get ts p ≡ Some t → Every (IsPlacedAt ts books) (placed p Own (or_running t (entries_at Own p books)))
 own_placed ts books p t at = by (entries_at Own p books) refl (all_placed ts books Own p)
   where
-    by : (xs : List Item) → entries_at Own p books ≡ xs → Every (IsPlaced ts books) (placed p Own xs) → Every (IsPlaced ts books) (placed p Own (or_running t xs))
+    by : (xs : List Item) → entries_at Own p books ≡ xs → Every (IsPlacedAt ts books) (placed p Own xs) → Every (IsPlacedAt ts books) (placed p Own (or_running t xs))
     by (x ∷ xs) e h = h
-    by [] e h = every_mapped (λ (i : Item). (c : Call) × (t.call ≡ Some c) × (i ≡ running t.caller c)) (IsPlaced ts books) (λ (i : Item). record { place = p; class = Own; item = i })
+    by [] e h = every_mapped (λ (i : Item). (c : Call) × (t.call ≡ Some c) × (i ≡ running t.caller c)) (IsPlacedAt ts books) (λ (i : Item). record { place = p; class = Own; item = i })
         (λ i k. inr (record { turn = t; at = at; call = k.0; carries = k.1; item = k.2; class = refl; alone = e }))
         (or_running t []) (or_running_each (λ (i : Item). (c : Call) × (t.call ≡ Some c) × (i ≡ running t.caller c)) t [] tt (λ c is. (c, is, refl)))
 
-placed_walk : (ts : List Turn) (books : List Book) (past ss : List Turn) (p : ℕ) → p ≡ length past → past ++ ss ≡ ts → Every (IsPlaced ts books) (placed_from p ss books)
+placed_walk : (ts : List Turn) (books : List Book) (past ss : List Turn) (p : ℕ) → p ≡ length past → past ++ ss ≡ ts → Every (IsPlacedAt ts books) (placed_from p ss books)
 placed_walk ts books past [] p here whole =
-    every_append (IsPlaced ts books) (placed p Silent (entries_at Silent p books)) _ (all_placed ts books Silent p)
-    (every_append (IsPlaced ts books) (placed p Late (entries_at Late p books)) (placed p Own (entries_at Own p books)) (all_placed ts books Late p) (all_placed ts books Own p))
+    every_append (IsPlacedAt ts books) (placed p Silent (entries_at Silent p books)) _ (all_placed ts books Silent p)
+    (every_append (IsPlacedAt ts books) (placed p Late (entries_at Late p books)) (placed p Own (entries_at Own p books)) (all_placed ts books Late p) (all_placed ts books Own p))
 placed_walk ts books past (s ∷ ss) p here whole =
     let at : slice_get ts p ≡ Some s = subst (λ (l : List Turn). slice_get l p ≡ Some s) whole (subst (λ (n : ℕ). slice_get (past ++ s ∷ ss) n ≡ Some s) (sym here) (get_here past s ss)) in
-    every_append (IsPlaced ts books) _ (placed_from (p + 1) ss books)
-    (every_append (IsPlaced ts books) (placed p Silent (entries_at Silent p books)) _ (all_placed ts books Silent p)
-    (every_append (IsPlaced ts books) (placed p Late (entries_at Late p books)) (placed p Own (or_running s (entries_at Own p books))) (all_placed ts books Late p) (own_placed ts books p s at)))
+    every_append (IsPlacedAt ts books) _ (placed_from (p + 1) ss books)
+    (every_append (IsPlacedAt ts books) (placed p Silent (entries_at Silent p books)) _ (all_placed ts books Silent p)
+    (every_append (IsPlacedAt ts books) (placed p Late (entries_at Late p books)) (placed p Own (or_running s (entries_at Own p books))) (all_placed ts books Late p) (own_placed ts books p s at)))
     (placed_walk ts books (past ++ s ∷ []) ss (p + 1) (omega (arith, length-append past (s ∷ []), here)) (append_assoc past (s ∷ []) ss ∙ whole))
 
 -- each placed item is an entry's or a running call's
-pub all_stand : (ts : List Turn) (books : List Book) → Every (IsPlaced ts books) (placed_from 0 ts books)
+pub all_stand : (ts : List Turn) (books : List Book) → Every (IsPlacedAt ts books) (placed_from 0 ts books)
 all_stand ts books = placed_walk ts books [] ts 0 refl refl
 
 own_books : (bs : List Book) → Every (λ (b : Book). HasBook b.caller bs) bs

@@ -9,7 +9,7 @@ use Rattle.core_journal.specs.Reuse.{IsOver, ReusesSafely, pass_in}
 use Rattle.core_journal.specs.Worked.{small, first_life}
 use Rattle.core_journal.specs.TwoCallers.{callers_journal, takes}
 use Rattle.core_journal.specs.FirstVertex.{tiny, eight_events}
-use Rattle.core_journal.specs.SecondLife.{given_back, taken_again, second_life}
+use Rattle.core_journal.specs.SecondLife.{life_given_back, taken_again, second_life}
 use Rattle.core_journal.proofs.Reuses.{reuse_nil, quiet_stretch, take_one}
 
 abbrev before : ℕ → List Event
@@ -26,7 +26,7 @@ callers_reuse =
     (take_one small (before 3) (takes 0 0 1) (quiet_stretch small [] (before 3) refl (reuse_nil small)) tt)) tt)) tt)
 
 abbrev given : List Event
-given = eight_events ++ given_back
+given = eight_events ++ life_given_back
 
 -- the first life of node 0 ends at event 11, and the pass that is open when the node is taken again was announced at 18
 others : (n : ℕ) → (pass_in tiny given (suc n)).is_open ≡ false

@@ -24,9 +24,11 @@ pub record Role : Type 0 where
   pub marks_edge : Bool
   pub replaces : Bool
   pub raises : Bool
-  pub unlinks : Bool
+  pub unlinks_vertex : Bool
+  pub unlinks_edge : Bool
   pub moves : Bool
   pub freezes_head : Bool
+  pub pushes : Bool
   pub counted : Bool
 
 -- none of these
@@ -40,9 +42,11 @@ no_role = record {
   marks_edge = false;
   replaces = false;
   raises = false;
-  unlinks = false;
+  unlinks_vertex = false;
+  unlinks_edge = false;
   moves = false;
   freezes_head = false;
+  pushes = false;
   counted = false;
 }
 
@@ -54,11 +58,11 @@ role PopFree = record no_role { pops = true; counted = true }
 role StorePrivate = no_role
 role LinkVertex = record no_role { links_vertex = true; counted = true }
 role MarkVertex = record no_role { marks_vertex = true; counted = true }
-role UnlinkVertex = record no_role { unlinks = true; counted = true }
+role UnlinkVertex = record no_role { unlinks_vertex = true; counted = true }
 role LinkEdge = record no_role { links_edge = true; counted = true }
 role Raise = record no_role { raises = true; counted = true }
 role MarkEdge = record no_role { marks_edge = true; counted = true }
-role UnlinkEdge = record no_role { unlinks = true; counted = true }
+role UnlinkEdge = record no_role { unlinks_edge = true; counted = true }
 role ReplaceEdge = record no_role { links_edge = true; replaces = true; counted = true }
 role Announce = no_role
 role Withdraw = no_role
@@ -66,7 +70,7 @@ role MoveEpoch = record no_role { moves = true }
 role FreezeHead = record no_role { freezes_head = true; counted = true }
 role FreezeEdge = record no_role { marks_edge = true; counted = true }
 role StoreFree = no_role
-role PushFree = record no_role { counted = true }
+role PushFree = record no_role { pushes = true; counted = true }
 
 -- a number is drawn
 abbrev pub draws : Kind → Bool
@@ -108,9 +112,17 @@ links k = links_vertex k || links_edge k
 abbrev pub raises : Kind → Bool
 raises k = (role k).raises
 
--- a node is taken off its list
+-- a marked vertex is taken off its chain
+abbrev pub unlinks_vertex : Kind → Bool
+unlinks_vertex k = (role k).unlinks_vertex
+
+-- a marked edge is taken off its list
+abbrev pub unlinks_edge : Kind → Bool
+unlinks_edge k = (role k).unlinks_edge
+
+-- a node is taken off its chain or list
 abbrev pub unlinks : Kind → Bool
-unlinks k = (role k).unlinks
+unlinks k = unlinks_vertex k || unlinks_edge k
 
 -- the epoch is moved on
 abbrev pub moves : Kind → Bool
@@ -119,6 +131,10 @@ moves k = (role k).moves
 -- the list of a removed vertex's edges is closed at its head
 abbrev pub freezes_head : Kind → Bool
 freezes_head k = (role k).freezes_head
+
+-- a spent node is given back
+abbrev pub pushes : Kind → Bool
+pushes k = (role k).pushes
 
 -- the counted kinds, by which others lose tries
 abbrev pub counted : Kind → Bool

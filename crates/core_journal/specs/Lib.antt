@@ -16,3 +16,5 @@ pub mod TwoCallers
 pub mod FirstVertex
 pub mod SecondLife
 pub mod ClosedList
+pub mod Passing
+pub mod Marks

@@ -76,5 +76,5 @@ pub record IsRunningOf (turns : List Turn) (books : List Book) (x : Placed) : Ty
   pub alone : entries_at Own x.place books ≡ []
 
 -- a placed item is that of an entry, or of an event that changes the graph and has no own entry
-abbrev pub IsPlaced : List Turn → List Book → Placed → Type 0
-IsPlaced turns books x = IsEntryOf books x ⊎ IsRunningOf turns books x
+abbrev pub IsPlacedAt : List Turn → List Book → Placed → Type 0
+IsPlacedAt turns books x = IsEntryOf books x ⊎ IsRunningOf turns books x

@@ -9,8 +9,8 @@ use Rattle.core_journal.specs.Worked.{first_life}
 use Rattle.core_journal.specs.FirstVertex.{eight_events}
 
 -- events 8 to 18: the pass is closed, a new one removes the vertex and closes its list, and the node is given back
-abbrev pub given_back : List Event
-given_back =
+abbrev pub life_given_back : List Event
+life_given_back =
     record blank { kind = Withdraw; place = 4; word = 0 }
     ∷ record blank { kind = Announce; place = 4; word = 1 }
     ∷ record blank { kind = MarkVertex; place = 7; word = 67108863; life = first_life 0 }
@@ -30,7 +30,7 @@ taken_again = record blank { kind = PopFree; place = 3; word = 100663297; life =
 
 -- all events
 abbrev pub second_life : List Event
-second_life = (eight_events ++ given_back) ++ taken_again ∷ []
+second_life = (eight_events ++ life_given_back) ++ taken_again ∷ []
 
 -- the words behind them all
 abbrev pub words_again : List ℕ

@@ -68,9 +68,9 @@ module _ {A : Type 0} where
   put i a f x = cond (x == i) a (f x)
 
   -- a list without its first element
-  abbrev pub behind : List A → List A
-  behind [] = []
-  behind (x ∷ xs) = xs
+  abbrev pub without_first : List A → List A
+  without_first [] = []
+  without_first (x ∷ xs) = xs
 
 -- a list with y behind x, where x stands on it
 abbrev pub put_behind : (ℕ → Bool) → ℕ → List ℕ → List ℕ
@@ -121,7 +121,7 @@ state_by DrawNumber sizes e s = record s { count = s.count + 1; drawn = s.drawn 
 state_by PopFree sizes e s = record s {
   count = s.count + 1;
   changes = s.changes + 1;
-  free = behind s.free;
+  free = without_first s.free;
   node =
       put e.life.index (record (s.node e.life.index) {
         mode = Fresh;

@@ -21,8 +21,8 @@ use Rattle.core_journal.specs.History.{item}
 use Rattle.core_journal.specs.Worked.{small, first_life, own}
 
 -- caller c is the n-th to draw a number
-abbrev pub draws : ℕ → ℕ → Event
-draws c n = record blank { caller = c; kind = DrawNumber; place = number_at small; word = n }
+abbrev pub draws_number : ℕ → ℕ → Event
+draws_number c n = record blank { caller = c; kind = DrawNumber; place = number_at small; word = n }
 
 -- caller c opens a pass in epoch 0
 abbrev pub announces : ℕ → Event
@@ -49,8 +49,8 @@ fills c x place word = record blank { caller = c; kind = StorePrivate; place = p
 -- the two vertices are added: events 0 to 17
 abbrev pub two_vertices : List Event
 two_vertices =
-    draws 0 1
-    ∷ draws 1 2
+    draws_number 0 1
+    ∷ draws_number 1 2
     ∷ announces 0
     ∷ takes 0 0 1
     ∷ fills 0 0 (key_at small 0) 1

@@ -17,7 +17,7 @@ ghost use Rattle.core_journal.specs.declared.event.Event.{Event};
 ghost use Rattle.core_journal.specs.GraphOf.{graph_of, changes, IsRegular};
 ghost use Rattle.core_journal.specs.History.{Turn, entries_at, history, item, running, turns};
 ghost use Rattle.core_journal.specs.History.{HasBook, IsClosed, IsAnswered};
-ghost use Rattle.core_journal.specs.Order.{Placed, placed_from, InOrder, CallersRise, IsPlaced};
+ghost use Rattle.core_journal.specs.Order.{Placed, placed_from, InOrder, CallersRise, IsPlacedAt};
 ghost use Rattle.core_journal.specs.Right.{IsBookOf, CallersApart, InFrame, Right, StandsAt};
 
 /// The history of a regular journal and of true books of its callers is legal and ends in the graph of the
@@ -63,7 +63,7 @@ pub fn history_is_in_order()
     ensures order { (journal : List Event) (books : List Book) → CallersRise books
         → InOrder (placed_from 0 (turns journal) books) }
     ensures stands { (journal : List Event) (books : List Book)
-        → Every (IsPlaced (turns journal) books) (placed_from 0 (turns journal) books) }
+        → Every (IsPlacedAt (turns journal) books) (placed_from 0 (turns journal) books) }
     ensures running { (journal : List Event) (books : List Book) (p : ℕ) (t : Turn) (c : Call)
         → slice_get (turns journal) p ≡ Some t → t.call ≡ Some c → entries_at Own p books ≡ []
         → (n : ℕ) × (slice_get (placed_from 0 (turns journal) books) n

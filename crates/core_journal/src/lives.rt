@@ -1,6 +1,7 @@
 //! The laws of prefixes and lives: what a front shows stays true.
 
-ghost use Rattle.std.specs.Prelude.{◌≡◌, ℕ, ◌≤◌, List, ◌∷◌, [], ◌++◌, Option, Some, true, length, slice_get, take};
+ghost use Rattle.std.specs.Prelude.{◌≡◌, ℕ, ◌≤◌, List, ◌∷◌, [], ◌++◌, Option, Some, true, false, length, slice_get};
+ghost use Rattle.std.specs.Prelude.{take};
 ghost use Rattle.std.specs.Prelude.{is_some};
 ghost use Rattle.packed_link.specs.Layout.{Sizes};
 ghost use Rattle.packed_link.specs.declared.link.Life.{Life};
@@ -40,7 +41,9 @@ pub fn reuse_goes_on()
         → ReusesSafely sizes (past ++ e ∷ []) }
 {}
 
-/// Links, marks and unlinks stay, with the key and the edge that were linked.
+/// Links, marks and unlinks stay, with the key and the edge that were linked. So what isn't linked, marked or unlinked
+/// in a journal wasn't so in a front of it: a walk that meets an unmarked edge knows it unmarked at each moment
+/// before.
 pub fn marks_and_links_stay()
     ensures vertex_linked { (front journal : List Event) (x : Life) → IsPrefix front journal
         → vertex_linked front x ≡ true → vertex_linked journal x ≡ true }
@@ -58,6 +61,18 @@ pub fn marks_and_links_stay()
         → key_of front x ≡ Some key → key_of journal x ≡ Some key }
     ensures edge { (front journal : List Event) (x : Life) (link : Event) → IsPrefix front journal
         → link_of front x ≡ Some link → link_of journal x ≡ Some link }
+    ensures vertex_not_linked { (front journal : List Event) (x : Life) → IsPrefix front journal
+        → vertex_linked journal x ≡ false → vertex_linked front x ≡ false }
+    ensures vertex_not_marked { (front journal : List Event) (x : Life) → IsPrefix front journal
+        → vertex_marked journal x ≡ false → vertex_marked front x ≡ false }
+    ensures edge_not_linked { (front journal : List Event) (x : Life) → IsPrefix front journal
+        → edge_linked journal x ≡ false → edge_linked front x ≡ false }
+    ensures edge_not_marked { (front journal : List Event) (x : Life) → IsPrefix front journal
+        → edge_marked journal x ≡ false → edge_marked front x ≡ false }
+    ensures not_unlinked { (front journal : List Event) (x : Life) → IsPrefix front journal
+        → unlinked journal x ≡ false → unlinked front x ≡ false }
+    ensures not_frozen { (front journal : List Event) (x : Life) → IsPrefix front journal
+        → head_frozen journal x ≡ false → head_frozen front x ≡ false }
 {}
 
 /// A vertex life is linked where it has a key, and an edge life where it has a link.

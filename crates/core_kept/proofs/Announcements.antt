@@ -3,7 +3,7 @@
 use Rattle.std.proofs.Common.{◌≡◌, ◌≢◌, ℕ, ◌<◌, ◌≤◌, List, [], true, false, refl, ap, ◌∙◌, subst, arith}
 use Rattle.packed_link.specs.Layout.{Sizes, Announce, epoch_at, announce_at}
 use Rattle.core_epoch.specs.Clock.{Announcements}
-use Rattle.core_epoch.specs.Steps.{KeepsPass, Step, announce, withdraw, move, rest}
+use Rattle.core_epoch.specs.Steps.{KeepsPass, ClockStep, announce, withdraw, move, rest}
 use Rattle.core_epoch.proofs.Births.{announcements_new, announcements_kept}
 use Rattle.core_journal.specs.declared.event.Kind.{Kind}
 use Rattle.core_journal.specs.declared.event.Kind.TheVariants.{Announce as Announcing, Withdraw, MoveEpoch}
@@ -30,6 +30,10 @@ epoch_rises sizes front journal p kept = holds_onward sizes (λ (s : State) (w :
 pub epoch_was : (sizes : Sizes) (front journal : List Event) → IsPrefix front journal → IsKept sizes journal → word_at sizes front (epoch_at sizes) ≤ (state sizes journal).epoch
 epoch_was sizes front journal p kept = omega (arith, epoch_rises sizes front journal p kept, (numbers sizes front (kept_front sizes front journal p kept)).epoch)
 
+-- so the word of the epoch only rises
+pub epoch_word_rises : (sizes : Sizes) (front journal : List Event) → IsPrefix front journal → IsKept sizes journal → word_at sizes front (epoch_at sizes) ≤ word_at sizes journal (epoch_at sizes)
+epoch_word_rises sizes front journal p kept = omega (arith, epoch_was sizes front journal p kept, (numbers sizes journal kept).epoch)
+
 -- a pass that is not its caller's stays
 pass_else : (sizes : Sizes) (past : List Event) (e : Event) (w : ℕ → ℕ) (q : Pass) (s' : State) → IsAfter sizes past e w → e.place ≡ announce_at sizes e.caller
     → ((i : ℕ) → s'.pass i ≡ put e.caller q (state sizes past).pass i) → (i : ℕ) → i ≢ e.caller → KeepsPass sizes.callers (clock_in sizes past) (clock_by sizes s' w) i
@@ -54,7 +58,7 @@ passes_stay sizes past e w s' a else is i = record {
 
 -- each event is a step of the clock
 pub clock_step : (k : Kind) (sizes : Sizes) (past : List Event) (e : Event) → IsKept sizes past → AllowedAs k sizes past e → (w : ℕ → ℕ) → IsAfter sizes past e w
-    → Step sizes.callers (clock_in sizes past) (clock_by sizes (state_by k sizes e (state sizes past)) w)
+    → ClockStep sizes.callers (clock_in sizes past) (clock_by sizes (state_by k sizes e (state sizes past)) w)
 clock_step Announcing sizes past e kept ok w a =
     let s : State = state sizes past in
     let q : Pass = record { is_open = true; birth = s.epoch; since = s.count } in

@@ -5,7 +5,7 @@ use Rattle.std.proofs.lemmas.List.Sums.{take_while-cons}
 use Rattle.std.specs.List.{list_any}
 use mathlib.Core.Logic.{dite}
 use native.Mathlib.Decide.{ℕ_discrete}
-use Rattle.core_chain.specs.Table.{Writes}
+use Rattle.core_chain.specs.Table.{WritesWord}
 use Rattle.packed_link.specs.Layout.{Sizes, word_count}
 use Rattle.core_journal.specs.Event.{draws}
 use Rattle.core_journal.specs.declared.event.Kind.{Kind}
@@ -27,7 +27,7 @@ pub after_event : (sizes : Sizes) (past : List Event) (e : Event) → IsAfter si
 after_event sizes past e = record { here = word_here sizes past e; else = word_else sizes past e }
 
 -- an event writes the word at its place
-pub writes_at : (sizes : Sizes) (past : List Event) (e : Event) (w : ℕ → ℕ) (place word : ℕ) → IsAfter sizes past e w → place ≡ e.place → e.place < word_count sizes → e.word ≡ word → Writes (word_at sizes past) w place word
+pub writes_at : (sizes : Sizes) (past : List Event) (e : Event) (w : ℕ → ℕ) (place word : ℕ) → IsAfter sizes past e w → place ≡ e.place → e.place < word_count sizes → e.word ≡ word → WritesWord (word_at sizes past) w place word
 writes_at sizes past e w place word a at near is = record { written = ap w at ∙ (a.here near ∙ is); others = λ i ne. a.else i (λ h. ne (h ∙ sym at)) }
 
 -- a fact of the state and the words is kept by an event, by its kind

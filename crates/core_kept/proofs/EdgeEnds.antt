@@ -16,7 +16,7 @@ use Rattle.core_kept.specs.Edges.{IsLinkEdge, IsReplaceEdge}
 use Rattle.core_kept.specs.Freezing.{IsFreezeEdge}
 use Rattle.core_journal.specs.State.{Mode, Fresh, Linked}
 use Rattle.core_kept.specs.Nodes.{node_in, IsUsed, IsVertex}
-use Rattle.core_kept.specs.Facts.{IsNewLife, Ends}
+use Rattle.core_kept.specs.Facts.{IsNewLife, EdgeEnds}
 use Rattle.core_kept.proofs.Induction.{kept_all}
 use Rattle.core_kept.proofs.LinkWords.{link_words}
 use Rattle.core_kept.proofs.Named.{life_is, named}
@@ -30,7 +30,7 @@ pub vertex_key : (sizes : Sizes) → IsLayout sizes → (past : List Event) → 
 vertex_key sizes z past kept x v = ap (key_of past) (life_is x x.index (node_in sizes past x.index).tag refl v.life) ∙ ((named sizes z past kept).each x.index v.there).vertex_key v.used v.vertex
 
 -- the two ends of an edge that is linked next
-pub end_keys : (sizes : Sizes) → IsLayout sizes → (past : List Event) (e : Event) → IsKept sizes past → Ends past → (k : Kind) → links_edge k ≡ true → AllowedAs k sizes past e → (key_of past e.source ≢ None) × (key_of past e.target ≡ Some e.key)
+pub end_keys : (sizes : Sizes) → IsLayout sizes → (past : List Event) (e : Event) → IsKept sizes past → EdgeEnds past → (k : Kind) → links_edge k ≡ true → AllowedAs k sizes past e → (key_of past e.source ≢ None) × (key_of past e.target ≡ Some e.key)
 end_keys sizes z past e kept c ReplaceEdge is ok =
     let x : Life = record { index = e.old.index; tag = (node_in sizes past e.old.index).tag } in
     let d = ((named sizes z past kept).each e.old.index ok.old_there).edge_link (subst IsUsed (sym ok.linked.linked) tt) ok.linked.edge in (
@@ -65,13 +65,13 @@ more_some : (past : List Event) (e : Event) (x : Life) → key_of past x ≢ Non
 more_some past e x h = let s = not_none (key_of past x) h in some_none _ _ (key_more past (e ∷ []) x s.0 s.1)
 
 -- at opening there are no edges
-none_yet : Ends []
+none_yet : EdgeEnds []
 unfolding link_of
 none_yet = record { source = λ x link h. absurd (cc); target = λ x link h. absurd (cc) }
 
 -- the ends of edges after each kept journal
-pub ends_linked : (sizes : Sizes) → IsLayout sizes → (journal : List Event) → IsKept sizes journal → Ends journal
-ends_linked sizes z journal kept = kept_all sizes Ends
+pub ends_linked : (sizes : Sizes) → IsLayout sizes → (journal : List Event) → IsKept sizes journal → EdgeEnds journal
+ends_linked sizes z journal kept = kept_all sizes EdgeEnds
     (λ past e k c ok. record {
       source = λ x link h. link_split past e x link h (λ (d : Event). key_of (past ++ e ∷ []) d.source ≢ None)
           (λ d i. more_some past e d.source (c.source x d i))

@@ -7,10 +7,10 @@ use Rattle.core_journal.specs.Machine.{word_at}
 use Rattle.core_journal.specs.State.{state}
 use Rattle.core_journal.proofs.MachineWords.{word_first}
 use Rattle.core_kept.specs.Kept.{IsKept}
-use Rattle.core_kept.specs.Facts.{Numbers}
+use Rattle.core_kept.specs.Facts.{FirstWords}
 use Rattle.core_kept.proofs.ByKind.{Keeps, holds_all}
 
-numbers_step : (sizes : Sizes) → Keeps sizes (Numbers sizes)
+numbers_step : (sizes : Sizes) → Keeps sizes (FirstWords sizes)
 numbers_step sizes past e kept c DrawNumber by ok w a =
     let here : w 1 ≡ e.word = subst (λ (i : ℕ). w i ≡ e.word) ok.place (a.here (omega (arith, ok.place))) in
     record { numbers = omega (arith, here, ok.word, c.numbers); room = omega (arith, ok.there, ok.caller); epoch = omega (arith, a.else 2 (omega (arith, ok.place)), c.epoch) }
@@ -21,5 +21,5 @@ numbers_step sizes past e kept c _ by ok w a =
     record { numbers = omega (arith, a.else 1 (λ h. omega (arith, ok.place, h)), c.numbers); room = c.room; epoch = omega (arith, a.else 2 (λ h. omega (arith, ok.place, h)), c.epoch) }
 
 -- words 1 and 2
-pub numbers : (sizes : Sizes) (journal : List Event) → IsKept sizes journal → Numbers sizes (state sizes journal) (word_at sizes journal)
-numbers sizes journal kept = holds_all sizes (Numbers sizes) (numbers_step sizes) (record { numbers = word_first sizes Number tt; room = omega arith; epoch = word_first sizes Epoch tt }) journal kept
+pub numbers : (sizes : Sizes) (journal : List Event) → IsKept sizes journal → FirstWords sizes (state sizes journal) (word_at sizes journal)
+numbers sizes journal kept = holds_all sizes (FirstWords sizes) (numbers_step sizes) (record { numbers = word_first sizes Number tt; room = omega arith; epoch = word_first sizes Epoch tt }) journal kept

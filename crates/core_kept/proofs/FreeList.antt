@@ -5,7 +5,7 @@ use Rattle.std.proofs.Common.{◌≡◌, ◌≢◌, ◌⊎◌, ℕ, ◌+◌, ◌
 use Rattle.std.specs.Prelude.{drop}
 use Rattle.packed_link.specs.Link.{pack, nowhere, index_of, tag_of}
 use Rattle.packed_link.specs.Layout.{Sizes, IsLayout, Free as FreeWord, Link as LinkWord, free_at, link_at}
-use Rattle.core_epoch.specs.Free.{FreeList, Leads, KeepsOthers, Takes, GivesBack, LeavesFree, Change, take, give, leave, IsUnchanged}
+use Rattle.core_epoch.specs.Free.{FreeList, Leads, KeepsOthers, TakesFirst, GivesBack, LeavesFree, Change, take, give, leave, IsUnchanged}
 use Rattle.core_epoch.proofs.FreeList.{free_new, free_kept, unchanged_kept}
 use Rattle.core_epoch.proofs.FreeList.{first_is_free as first_of_pool_is_free}
 use Rattle.core_journal.specs.declared.event.Kind.{Kind}
@@ -13,7 +13,7 @@ use Rattle.core_journal.specs.declared.event.Kind.TheVariants.{PopFree, StorePri
 use Rattle.core_journal.specs.declared.event.Event.{Event}
 use Rattle.core_journal.specs.Prefix.{IsPrefix}
 use Rattle.core_journal.specs.Machine.{word_at}
-use Rattle.core_journal.specs.State.{Mode, Free, Fresh, Linked, Spent, Node, State, put, behind, handed, state_by, opening, state, joined_edge}
+use Rattle.core_journal.specs.State.{Mode, Free, Fresh, Linked, Spent, Node, State, put, without_first, handed, state_by, opening, state, joined_edge}
 use Rattle.core_journal.proofs.MachineWords.{word_first}
 use Rattle.core_kept.specs.Kept.{AllowedAs, IsKept}
 use Rattle.core_kept.specs.FreeNodes.{IsPopFree, IsPushFree}
@@ -36,7 +36,7 @@ same_free Fresh m' stays was = used_is m' (λ h. let t = was h in absurd (cc))
 same_free Linked m' stays was = used_is m' (λ h. let t = was h in absurd (cc))
 same_free Spent m' stays was = used_is m' (λ h. let t = was h in absurd (cc))
 
-pub behind_is : (xs : List ℕ) → behind xs ≡ drop 1 xs
+pub behind_is : (xs : List ℕ) → without_first xs ≡ drop 1 xs
 behind_is [] = refl
 behind_is (x ∷ xs) = refl
 
@@ -51,7 +51,7 @@ others_stay sizes past e v w s' a place is = record {
   link = λ y. a.else (link_at sizes y) (λ h. omega (arith, place, h));
 }
 
-takes : (sizes : Sizes) (past : List Event) (e : Event) → IsPopFree sizes past e → (w : ℕ → ℕ) → IsAfter sizes past e w → Takes sizes.nodes (pool_in sizes past) (pool_by sizes (state_by PopFree sizes e (state sizes past)) w) e.life.index
+takes : (sizes : Sizes) (past : List Event) (e : Event) → IsPopFree sizes past e → (w : ℕ → ℕ) → IsAfter sizes past e w → TakesFirst sizes.nodes (pool_in sizes past) (pool_by sizes (state_by PopFree sizes e (state sizes past)) w) e.life.index
 takes sizes past e ok w a =
     let s : State = state sizes past in
     let v : Node = record (s.node e.life.index) { mode = Fresh; who = e.caller; tag = e.life.tag; marked = false; stored = false } in

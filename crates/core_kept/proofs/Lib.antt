@@ -1,7 +1,9 @@
 pub mod Announcements
+pub mod BucketWords
 pub mod ByKind
 pub mod Callers
 pub mod Contents
+pub mod CutEdges
 pub mod EdgeEnds
 pub mod EdgeEndsBefore
 pub mod FirstWords
@@ -13,6 +15,7 @@ pub mod LinkedOnce
 pub mod LinkedVertices
 pub mod ListedSources
 pub mod LivesEnd
+pub mod MadeBetween
 pub mod MarkedWords
 pub mod MetFromHead
 pub mod MetLives
@@ -27,6 +30,7 @@ pub mod OneStanding
 pub mod OwnFacts
 pub mod OwnMet
 pub mod OwnSpent
+pub mod PassBetween
 pub mod PastLives
 pub mod ReplaceCases
 pub mod Replaced

@@ -8,7 +8,7 @@ use Rattle.packed_link.specs.declared.link.Life.{Life}
 use Rattle.core_journal.specs.declared.event.Kind.{Kind}
 use Rattle.core_journal.specs.declared.event.Kind.TheVariants.{PopFree, LinkVertex, MarkVertex, UnlinkVertex, LinkEdge, MarkEdge, UnlinkEdge, FreezeHead, FreezeEdge, StoreFree, PushFree, ReplaceEdge}
 use Rattle.core_journal.specs.declared.event.Event.{Event}
-use Rattle.core_journal.specs.Event.{same_life, marks_edge, unlinks, freezes_head, cuts_edge, cut_life, draws}
+use Rattle.core_journal.specs.Event.{same_life, unlinks, freezes_head, cuts_edge, cut_life, draws}
 use Rattle.core_journal.specs.Life.{link_of, edge_marked, head_frozen, unlinked}
 use Rattle.core_journal.specs.Machine.{word_at}
 use Rattle.core_journal.specs.Reuse.{IsUnlinkedAt, IsHandedAt, EndsAt}

@@ -1,5 +1,5 @@
 -- What one meets from the head of a chain after each step: the list of the state after the event.
-use Rattle.std.proofs.Common.{◌≡◌, ◌≢◌, ℕ, suc, ◌≤◌, Bool, true, false, cond, not, ◌||◌, ◌==◌, List, [], ◌∷◌, refl, sym, ap, ◌∙◌, subst, arith, eq-eqb, eqb-true, ne_eqb, ◌⊎◌, ⊎_elim, inl, inr}
+use Rattle.std.proofs.Common.{◌≡◌, ◌≢◌, ℕ, suc, Bool, true, false, cond, not, ◌||◌, ◌==◌, List, [], ◌∷◌, refl, sym, ap, ◌∙◌, subst, arith, eq-eqb, eqb-true, ne_eqb, ◌⊎◌, ⊎_elim, inl, inr}
 use Rattle.std.specs.Prelude.{Contains}
 use Rattle.std.specs.List.{list_any}
 use mathlib.Core.Logic.{dite}
@@ -8,7 +8,7 @@ use Rattle.graph_kinds.specs.History.{Every}
 use Rattle.packed_link.specs.Link.{nowhere}
 use Rattle.packed_link.specs.Layout.{Sizes, link_at}
 use Rattle.core_chain.specs.Chain.{Chain, Position, Head, Node, IsOn, IsChain, Precedes}
-use Rattle.core_chain.specs.Met.{Meets, Rises, IsMet}
+use Rattle.core_chain.specs.Met.{MeetsFrom, RisesAlong, IsMet}
 use Rattle.core_chain.specs.Steps.{Inserts, Replaces, Unlinks, SetsMark, Untouched, Joins, Leaves}
 use Rattle.core_chain.specs.Table.{Places}
 use Rattle.core_chain.proofs.Orders.{if_same, one_leads, before_same, before_then}
@@ -55,7 +55,7 @@ linked_else sizes head place y xs apart h =
     each (x ∷ xs) h = (ne_eqb place (link_at sizes x) h.0, each xs h.1)
 
 -- a word from which the links lead on as before meets what it met
-pub meets_same : (c d : Chain) (p : Position) (xs : List ℕ) → IsChain c → IsOn c p → ((q : Position) → IsOn c q → d.next q ≡ c.next q) → Meets c p xs → Meets d p xs
+pub meets_same : (c d : Chain) (p : Position) (xs : List ℕ) → IsChain c → IsOn c p → ((q : Position) → IsOn c q → d.next q ≡ c.next q) → MeetsFrom c p xs → MeetsFrom d p xs
 meets_same c d p [] chain on same met = same p on ∙ met
 meets_same c d p (x ∷ xs) chain on same met =
     let some : c.next p ≢ nowhere = λ e. met.1 (sym met.0 ∙ e) in
@@ -63,14 +63,14 @@ meets_same c d p (x ∷ xs) chain on same met =
     (same p on ∙ met.0, met.1, meets_same c d (Node x) xs chain there same met.2)
 
 -- after a mark, and where nothing changes
-pub meets_marked : (c d : Chain) (at : Position) (xs : List ℕ) → IsChain c → SetsMark c d at → Meets c Head xs → Meets d Head xs
+pub meets_marked : (c d : Chain) (at : Position) (xs : List ℕ) → IsChain c → SetsMark c d at → MeetsFrom c Head xs → MeetsFrom d Head xs
 meets_marked c d at xs chain step met = meets_same c d Head xs chain tt (λ q on. next-marked c d at step q) met
 
-pub meets_untouched : (c d : Chain) (xs : List ℕ) → IsChain c → Untouched c d → Meets c Head xs → Meets d Head xs
+pub meets_untouched : (c d : Chain) (xs : List ℕ) → IsChain c → Untouched c d → MeetsFrom c Head xs → MeetsFrom d Head xs
 meets_untouched c d xs chain same met = meets_same c d Head xs chain tt same.next met
 
 -- words that differ from one lead on as before, from a word that leads where another led
-moved : (c d : Chain) (at p q : Position) (xs : List ℕ) → ((r : Position) → r ≢ at → d.next r ≡ c.next r) → Every (λ x. Node x ≢ at) xs → d.next q ≡ c.next p → Meets c p xs → Meets d q xs
+moved : (c d : Chain) (at p q : Position) (xs : List ℕ) → ((r : Position) → r ≢ at → d.next r ≡ c.next r) → Every (λ x. Node x ≢ at) xs → d.next q ≡ c.next p → MeetsFrom c p xs → MeetsFrom d q xs
 moved c d at p q [] others apart same met = same ∙ met
 moved c d at p q (x ∷ xs) others apart same met = (same ∙ met.0, met.1, moved c d at (Node x) (Node x) xs others apart.1 (others (Node x) apart.0) met.2)
 
@@ -83,14 +83,14 @@ before_next : (c : Chain) (q p : Position) (x : ℕ) → IsUpTo c q p → Preced
 before_next c q p x upto low = ⊎_elim (λ same. subst (λ (r : Position). Precedes c r (Node x)) (sym same) low) (λ before. before_then c q p (Node x) before low) upto
 
 -- what rises behind a word stands at no such word
-apart_from : (c : Chain) (at p : Position) (xs : List ℕ) → IsUpTo c at p → Rises c p xs → Every (λ x. Node x ≢ at) xs
+apart_from : (c : Chain) (at p : Position) (xs : List ℕ) → IsUpTo c at p → RisesAlong c p xs → Every (λ x. Node x ≢ at) xs
 apart_from c at p [] upto rising = tt
 apart_from c at p (x ∷ xs) upto rising =
     let low = before_next c at p x upto rising.0 in
     ((λ e. before_same c at (Node x) low (sym e)), apart_from c at (Node x) xs (inr low) rising.1)
 
 -- what rises behind a node is no such node
-risen : (c : Chain) (p : Position) (n : ℕ) (xs : List ℕ) → IsUpTo c (Node n) p → Rises c p xs → Every (λ x. x ≢ n) xs
+risen : (c : Chain) (p : Position) (n : ℕ) (xs : List ℕ) → IsUpTo c (Node n) p → RisesAlong c p xs → Every (λ x. x ≢ n) xs
 risen c p n [] upto rising = tt
 risen c p n (x ∷ xs) upto rising =
     let low = before_next c (Node n) p x upto rising.0 in
@@ -102,20 +102,20 @@ pub record AreLinks (sizes : Sizes) (places : Places) : Type 0 where
   pub apart : (x : ℕ) → places.word_at Head ≢ link_at sizes x
 
 -- a node that is inserted behind the link of a node stands behind that node
-put_in : (sizes : Sizes) (c d : Chain) (x n : ℕ) (p : Position) (xs : List ℕ) → Puts c d (Node x) n → p ≢ Node x → Meets c p xs → Rises c p xs → Meets d p (put_behind (λ y. link_at sizes x == link_at sizes y) n xs)
+put_in : (sizes : Sizes) (c d : Chain) (x n : ℕ) (p : Position) (xs : List ℕ) → Puts c d (Node x) n → p ≢ Node x → MeetsFrom c p xs → RisesAlong c p xs → MeetsFrom d p (put_behind (λ y. link_at sizes x == link_at sizes y) n xs)
 put_in sizes c d x n p [] step ne met rising = step.words.next p ne ∙ met
 put_in sizes c d x n p (y ∷ ys) step ne met rising = dite (ℕ_discrete y x)
     (λ same.
     let here : (link_at sizes x == link_at sizes y) ≡ true = eq-eqb (link_at sizes x) (link_at sizes y) (omega (arith, same)) in
     let not_new : Node n ≢ Node x = λ e. let z : n ≡ x = cc in step.absent (subst (λ (q : Position). IsOn c q) (ap Node (sym z)) step.present) in
     let to : d.next (Node n) ≡ c.next (Node y) = step.words.next (Node n) not_new ∙ (step.filled ∙ ap (λ (z : ℕ). c.next (Node z)) (sym same)) in
-    let rest : Meets d (Node n) ys = moved c d (Node x) (Node y) (Node n) ys step.words.next (apart_from c (Node x) (Node y) ys (inl (ap Node (sym same))) rising.1) to met.2 in
+    let rest : MeetsFrom d (Node n) ys = moved c d (Node x) (Node y) (Node n) ys step.words.next (apart_from c (Node x) (Node y) ys (inl (ap Node (sym same))) rising.1) to met.2 in
     let led : d.next (Node y) ≡ n = ap (λ (z : ℕ). d.next (Node z)) same ∙ step.leads in
-    subst (λ (b : Bool). Meets d p (cond b (y ∷ n ∷ ys) (y ∷ put_behind (λ z. link_at sizes x == link_at sizes z) n ys))) (sym here)
+    subst (λ (b : Bool). MeetsFrom d p (cond b (y ∷ n ∷ ys) (y ∷ put_behind (λ z. link_at sizes x == link_at sizes z) n ys))) (sym here)
     (step.words.next p ne ∙ met.0, met.1, (led, step.named, rest)))
     (λ other.
     let here : (link_at sizes x == link_at sizes y) ≡ false = ne_eqb (link_at sizes x) (link_at sizes y) (λ h. other (omega (arith, h))) in
-    subst (λ (b : Bool). Meets d p (cond b (y ∷ n ∷ ys) (y ∷ put_behind (λ z. link_at sizes x == link_at sizes z) n ys))) (sym here)
+    subst (λ (b : Bool). MeetsFrom d p (cond b (y ∷ n ∷ ys) (y ∷ put_behind (λ z. link_at sizes x == link_at sizes z) n ys))) (sym here)
     (step.words.next p ne ∙ met.0, met.1, put_in sizes c d x n (Node y) ys step (λ e. let z : y ≡ x = cc in other z) met.2 rising.1))
 
 module _ (sizes : Sizes) (places : Places) (are : AreLinks sizes places) where
@@ -129,21 +129,21 @@ module _ (sizes : Sizes) (places : Places) (are : AreLinks sizes places) where
       ∙ ap (λ (p : ℕ). put_behind (λ z. p == link_at sizes z) y xs) (are.links x)
 
   -- after a node is inserted one meets the list into which it's linked
-  pub meets_inserted : (c d : Chain) (at : Position) (n : ℕ) (xs : List ℕ) → IsChain c → Inserts c d at n → Meets c Head xs → Meets d Head (linked_in sizes (places.word_at Head) (places.word_at at) n xs)
+  pub meets_inserted : (c d : Chain) (at : Position) (n : ℕ) (xs : List ℕ) → IsChain c → Inserts c d at n → MeetsFrom c Head xs → MeetsFrom d Head (linked_in sizes (places.word_at Head) (places.word_at at) n xs)
   meets_inserted c d Head n xs chain step met =
       let to : d.next (Node n) ≡ c.next Head = step.words.next (Node n) (λ e. absurd (cc)) ∙ step.can.filled in
-      subst (λ (l : List ℕ). Meets d Head l) (sym (at_head n xs))
+      subst (λ (l : List ℕ). MeetsFrom d Head l) (sym (at_head n xs))
       (step.leads, step.can.named, moved c d Head Head (Node n) xs step.words.next (apart_from c Head Head xs (inl refl) (met_behind c Head xs chain tt met).0) to met)
   meets_inserted c d (Node x) n xs chain step met =
-      subst (λ (l : List ℕ). Meets d Head l) (sym (at_node x n xs)) (put_in sizes c d x n Head xs (Puts-inserted c d (Node x) n chain step) (λ e. absurd (cc)) met (met_behind c Head xs chain tt met).0)
+      subst (λ (l : List ℕ). MeetsFrom d Head l) (sym (at_node x n xs)) (put_in sizes c d x n Head xs (Puts-inserted c d (Node x) n chain step) (λ e. absurd (cc)) met (met_behind c Head xs chain tt met).0)
 
   -- so after a node is replaced
-  pub meets_replaced : (c d : Chain) (x n : ℕ) (xs : List ℕ) → IsChain c → Replaces c d x n → Meets c Head xs → Meets d Head (linked_in sizes (places.word_at Head) (places.word_at (Node x)) n xs)
+  pub meets_replaced : (c d : Chain) (x n : ℕ) (xs : List ℕ) → IsChain c → Replaces c d x n → MeetsFrom c Head xs → MeetsFrom d Head (linked_in sizes (places.word_at Head) (places.word_at (Node x)) n xs)
   meets_replaced c d x n xs chain step met =
-      subst (λ (l : List ℕ). Meets d Head l) (sym (at_node x n xs)) (put_in sizes c d x n Head xs (Puts-replaced c d x n chain step) (λ e. absurd (cc)) met (met_behind c Head xs chain tt met).0)
+      subst (λ (l : List ℕ). MeetsFrom d Head l) (sym (at_node x n xs)) (put_in sizes c d x n Head xs (Puts-replaced c d x n chain step) (λ e. absurd (cc)) met (met_behind c Head xs chain tt met).0)
 
 -- a node that is taken out is no more met
-take_out : (c d : Chain) (at : Position) (n : ℕ) (p : Position) (xs : List ℕ) → IsChain c → Unlinks c d at n → IsOn c p → p ≢ Node n → Meets c p xs → Rises c p xs → Meets d p (unlinked_from n xs)
+take_out : (c d : Chain) (at : Position) (n : ℕ) (p : Position) (xs : List ℕ) → IsChain c → Unlinks c d at n → IsOn c p → p ≢ Node n → MeetsFrom c p xs → RisesAlong c p xs → MeetsFrom d p (unlinked_from n xs)
 take_out c d at n p [] chain step on ne met rising = if_same p at
     (λ same. absurd (step.can.named (sym step.can.led ∙ (ap c.next (sym same) ∙ met))))
     (λ other. step.words.next p other ∙ met)
@@ -154,16 +154,16 @@ take_out c d at n p (y ∷ ys) chain step on ne met rising =
     (λ same.
     let is : y ≡ n = sym met.0 ∙ (ap c.next same ∙ step.can.led) in
     let to : d.next p ≡ c.next (Node y) = ap d.next same ∙ (step.leads ∙ ap (λ (z : ℕ). c.next (Node z)) (sym is)) in
-    let rest : Meets d p ys = moved c d at (Node y) p ys step.words.next (apart_from c at (Node y) ys (inr (subst (λ (r : Position). Precedes c r (Node y)) same rising.0)) rising.1) to met.2 in
-    subst (λ (b : Bool). Meets d p (cond (not b) (y ∷ unlinked_from n ys) (unlinked_from n ys))) (sym (eq-eqb y n is))
-    (subst (λ (l : List ℕ). Meets d p l) (sym (unlinked_else n ys (risen c (Node y) n ys (inl (ap Node (sym is))) rising.1))) rest))
+    let rest : MeetsFrom d p ys = moved c d at (Node y) p ys step.words.next (apart_from c at (Node y) ys (inr (subst (λ (r : Position). Precedes c r (Node y)) same rising.0)) rising.1) to met.2 in
+    subst (λ (b : Bool). MeetsFrom d p (cond (not b) (y ∷ unlinked_from n ys) (unlinked_from n ys))) (sym (eq-eqb y n is))
+    (subst (λ (l : List ℕ). MeetsFrom d p l) (sym (unlinked_else n ys (risen c (Node y) n ys (inl (ap Node (sym is))) rising.1))) rest))
     (λ other.
     let not_it : y ≢ n = λ is. other (one_leads c p at chain on step.can.present some (met.0 ∙ (is ∙ sym step.can.led))) in
-    subst (λ (b : Bool). Meets d p (cond (not b) (y ∷ unlinked_from n ys) (unlinked_from n ys))) (sym (ne_eqb y n not_it))
+    subst (λ (b : Bool). MeetsFrom d p (cond (not b) (y ∷ unlinked_from n ys) (unlinked_from n ys))) (sym (ne_eqb y n not_it))
     (step.words.next p other ∙ met.0, met.1, take_out c d at n (Node y) ys chain step there (λ e. let is : y ≡ n = cc in not_it is) met.2 rising.1))
 
 -- after a node is unlinked one meets the list without it
-pub meets_unlinked : (c d : Chain) (at : Position) (n : ℕ) (xs : List ℕ) → IsChain c → Unlinks c d at n → Meets c Head xs → Meets d Head (unlinked_from n xs)
+pub meets_unlinked : (c d : Chain) (at : Position) (n : ℕ) (xs : List ℕ) → IsChain c → Unlinks c d at n → MeetsFrom c Head xs → MeetsFrom d Head (unlinked_from n xs)
 meets_unlinked c d at n xs chain step met = take_out c d at n Head xs chain step tt (λ e. absurd (cc)) met (met_behind c Head xs chain tt met).0
 
 -- a node joins the list into which it's linked

@@ -11,7 +11,7 @@ use Rattle.core_journal.specs.Event.{same_life, links_vertex, marks_vertex, link
 use Rattle.core_journal.specs.Changes.{is_idle}
 use Rattle.core_journal.specs.Life.{key_of, link_of, vertex_marked, edge_marked}
 use Rattle.core_journal.specs.State.{Fresh, Linked, Spent, Node, State, put, handed, state_by, state}
-use Rattle.core_journal.proofs.Snoc.{find_last, idle_is, key_skip, key_else, link_skip, link_else, marked_skip, marked_else, marked_here, cut_skip, cut_else, cut_here, own_else, own_here}
+use Rattle.core_journal.proofs.Snoc.{find_last, idle_is, key_skip, key_else, link_skip, link_else, marked_skip, marked_else, marked_here, cut_skip, cut_else, cut_here, own_here}
 use Rattle.core_kept.specs.Counts.{about}
 use Rattle.core_kept.specs.Kept.{IsKept}
 use Rattle.core_kept.specs.Nodes.{node_in, IsUsed}

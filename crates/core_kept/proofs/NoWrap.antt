@@ -17,9 +17,9 @@ use Rattle.core_journal.specs.declared.event.Kind.TheVariants.{PopFree, Raise, M
 use Rattle.core_journal.specs.declared.event.Event.{Event}
 use Rattle.core_journal.specs.Event.{same_life, pops, raises, moves}
 use Rattle.core_journal.specs.Machine.{word_at}
-use Rattle.core_journal.specs.State.{Node, State, behind, state}
+use Rattle.core_journal.specs.State.{Node, State, without_first, state}
 use Rattle.core_journal.proofs.States.{state-snoc}
-use Rattle.core_kept.specs.Counts.{made, about, most_pops, most_raises, most_moves}
+use Rattle.core_kept.specs.Counts.{all_made, made, about, most_pops, most_raises, most_moves}
 use Rattle.core_kept.specs.Kept.{Allowed, AllowedAs, IsKept}
 use Rattle.core_kept.specs.Free.{pool_in}
 use Rattle.core_kept.specs.Facts.{Bounds}
@@ -30,10 +30,6 @@ use Rattle.core_kept.proofs.FreeList.{free_list, few_nodes, behind_is}
 use Rattle.core_kept.proofs.LinkWords.{taken}
 use Rattle.core_kept.proofs.PastLives.{count_snoc, same_tag, counters}
 use Rattle.core_kept.proofs.Callers.{called_by, made_other}
-
--- how many events of some kinds all callers made
-abbrev pub all_made : (Kind → Bool) → List Event → ℕ
-all_made test journal = length (filter (λ (e : Event). test e.kind) journal)
 
 all_other : (test : Kind → Bool) (past : List Event) (e : Event) → test e.kind ≡ false → all_made test (past ++ e ∷ []) ≡ all_made test past
 all_other test past e is = count_snoc (λ (d : Event). test d.kind) past e ∙ (ap (λ (b : Bool). all_made test past + cond b 1 0) is ∙ omega arith)
@@ -138,7 +134,7 @@ balance_step : (sizes : Sizes) → IsLayout sizes → KeepsIn sizes (λ (j : Lis
 balance_step sizes z past e kept c PopFree is ok w a =
     let s : State = state sizes past in
     let list : s.free ≡ e.life.index ∷ drop 1 s.free = first_of_pool sizes.nodes (pool_in sizes past) e.life.index (few_nodes sizes z) (free_list sizes z past kept) ok.there ok.seen in
-    let size : length s.free ≡ length (behind s.free) + 1 = ap length list ∙ (ap (λ (xs : List ℕ). length (e.life.index ∷ xs)) (sym (behind_is s.free)) ∙ omega arith) in
+    let size : length s.free ≡ length (without_first s.free) + 1 = ap length list ∙ (ap (λ (xs : List ℕ). length (e.life.index ∷ xs)) (sym (behind_is s.free)) ∙ omega arith) in
     let more = all_this pops past e (ap pops is) in
     record {
       free = omega (arith, c.free, size, more);

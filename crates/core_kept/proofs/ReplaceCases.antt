@@ -10,7 +10,7 @@ use Rattle.packed_link.proofs.Links.{index_of-pack, mark_of-pack}
 use Rattle.core_journal.specs.Machine.{word_at}
 use Rattle.core_journal.proofs.States.{state-snoc}
 use Rattle.core_journal.specs.declared.event.Kind.TheVariants.{ReplaceEdge}
-use Rattle.core_journal.specs.State.{Fresh, Linked, Spent, Node, State, joined_edge, frozen_part, state_by, state}
+use Rattle.core_journal.specs.State.{Linked, Spent, Node, State, joined_edge, frozen_part, state_by, state}
 use Rattle.std.specs.List.{list_any}
 use Rattle.std.proofs.Common.{◌==◌}
 use Rattle.core_kept.specs.Kept.{IsKept}

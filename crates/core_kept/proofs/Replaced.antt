@@ -1,8 +1,8 @@
 -- An edge is replaced in two steps: the new one is linked, and then the old one is marked.
-use Rattle.std.proofs.Common.{◌≡◌, ◌≢◌, ℕ, List, sym, ap, ◌∙◌}
+use Rattle.std.proofs.Common.{◌≡◌, ◌≢◌, ℕ, List, ap, ◌∙◌}
 use Rattle.packed_link.specs.Layout.{Sizes}
 use Rattle.core_journal.specs.declared.event.Event.{Event}
-use Rattle.core_journal.specs.State.{Fresh, Linked, Node, joined_edge, state}
+use Rattle.core_journal.specs.State.{joined_edge, state}
 use Rattle.core_kept.specs.Nodes.{node_in}
 use Rattle.core_kept.specs.Edges.{IsReplaceEdge}
 use Rattle.core_kept.proofs.ByKind.{put_other}

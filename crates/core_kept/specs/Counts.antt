@@ -1,5 +1,5 @@
--- How many events of a kind a caller made, and how often the counter of a life was raised.
-use Rattle.std.specs.Prelude.{ℕ, Bool, true, false, ◌&&◌, ◌==◌, List, length, filter}
+-- How many events of a kind a caller made, or all callers, and how often the counter of a life was raised.
+use Rattle.std.specs.Prelude.{ℕ, Bool, ◌&&◌, ◌==◌, List, length, filter}
 use Rattle.packed_link.specs.declared.link.Life.{Life}
 use Rattle.core_journal.specs.declared.event.Kind.{Kind}
 use Rattle.core_journal.specs.declared.event.Event.{Event}
@@ -12,6 +12,10 @@ made test caller journal = length (filter (λ (e : Event). test e.kind && (e.cal
 -- how many events of some kinds are about a life
 abbrev pub about : (Kind → Bool) → Life → List Event → ℕ
 about test x journal = length (filter (λ (e : Event). test e.kind && same_life x e.life) journal)
+
+-- how many events of some kinds all callers made
+abbrev pub all_made : (Kind → Bool) → List Event → ℕ
+all_made test journal = length (filter (λ (e : Event). test e.kind) journal)
 
 -- how often the counter of a life was raised
 abbrev pub raised : Life → List Event → ℕ

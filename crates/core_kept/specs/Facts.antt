@@ -15,7 +15,7 @@ use Rattle.core_kept.specs.Counts.{about, raised}
 use Rattle.core_kept.specs.Nodes.{node_in, IsUsed}
 
 -- the first words count: how many numbers are drawn, and the epoch
-pub record Numbers (sizes : Sizes) (s : State) (w : ℕ → ℕ) : Type 0 where
+pub record FirstWords (sizes : Sizes) (s : State) (w : ℕ → ℕ) : Type 0 where
   pub numbers : w (number_at sizes) ≡ s.drawn
   pub room : s.drawn ≤ sizes.callers
   pub epoch : w (epoch_at sizes) ≡ s.epoch
@@ -151,7 +151,7 @@ pub record Named (sizes : Sizes) (journal : List Event) (s : State) : Type 0 whe
   pub each : (x : ℕ) → x < sizes.nodes → IsNamed journal (s.node x) x
 
 -- the source and the target of each edge that was linked were linked as vertices, the target with the edge's key
-pub record Ends (journal : List Event) : Type 0 where
+pub record EdgeEnds (journal : List Event) : Type 0 where
   pub source : (x : Life) (link : Event) → link_of journal x ≡ Some link → key_of journal link.source ≢ None
   pub target : (x : Life) (link : Event) → link_of journal x ≡ Some link → key_of journal link.target ≡ Some link.key
 

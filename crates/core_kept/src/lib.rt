@@ -8,12 +8,18 @@
 
 mod graph;
 mod journals;
+mod made;
+mod moments;
 mod own;
 mod reuse;
 mod words;
 
 pub use graph::{edges_have_ends, links_are_new};
 pub use journals::kept_journals_grow;
+pub use made::own_events_between_are_counted;
+pub use moments::{
+    a_marked_edge_was_linked, a_pass_is_one_stretch, the_word_of_a_bucket_is_unmarked,
+};
 pub use own::{callers_have_numbers, own_events_are_counted, own_facts_stay};
 pub use reuse::{
     each_node_has_one_standing, nodes_are_given_again_safely, ripe_nodes_are_not_met,

@@ -19,7 +19,7 @@ ghost use Rattle.core_journal.specs.Reuse.{pass_in};
 ghost use Rattle.core_kept.specs.Nodes.{IsRipe, IsUsed, node_in};
 ghost use Rattle.core_kept.specs.FreeNodes.{IsPopFree};
 ghost use Rattle.core_kept.specs.Kept.{IsKept};
-ghost use Rattle.core_kept.specs.Facts.{Bounds, Contents, Counters, LinkWords, LinkedOnce, Lives, Named, Numbers};
+ghost use Rattle.core_kept.specs.Facts.{Bounds, Contents, Counters, LinkWords, LinkedOnce, Lives, Named, FirstWords};
 ghost use Rattle.core_kept.specs.Free.{pool_in};
 ghost use Rattle.core_kept.specs.Moments.{clock_in, ends_in};
 ghost use Rattle.core_kept.specs.Passes.{IsChecked};
@@ -27,7 +27,7 @@ ghost use Rattle.core_kept.specs.Passes.{IsChecked};
 /// The first words are the number of caller numbers drawn, at most one a caller, and the epoch, which only rises.
 pub fn first_words_count()
     ensures numbers { (sizes : Sizes) (journal : List Event) → IsKept sizes journal
-        → Numbers sizes (state sizes journal) (word_at sizes journal) }
+        → FirstWords sizes (state sizes journal) (word_at sizes journal) }
     ensures epoch_rises { (sizes : Sizes) (front journal : List Event) → IsPrefix front journal → IsKept sizes journal
         → word_at sizes front (epoch_at sizes) ≤ word_at sizes journal (epoch_at sizes) }
 {}

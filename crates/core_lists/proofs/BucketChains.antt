@@ -9,10 +9,10 @@ use Rattle.packed_link.specs.Link.{nowhere, index_of, mark_of, tag_of, with_mark
 use Rattle.packed_link.specs.Layout.{Sizes, IsLayout, Bucket, word_count, bucket_at, key_at, link_at}
 use Rattle.packed_link.proofs.Links.{index_of-pack, index_of-bound}
 use Rattle.core_chain.specs.Chain.{Chain, Position, Head, Node, IsOn, IsChain}
-use Rattle.core_chain.specs.Met.{Meets, IsMet}
+use Rattle.core_chain.specs.Met.{MeetsFrom, IsMet}
 use Rattle.core_chain.specs.Steps.{CanInsert, CanUnlink, Inserts, Joins, Leaves, Marks, Unlinks, Untouched}
 use Rattle.core_chain.specs.Table.{StandsAlone, chain_in}
-use Rattle.core_chain.specs.Walk.{IsBelow}
+use Rattle.core_chain.specs.Walk.{StandsBelow}
 use Rattle.core_chain.proofs.Inserts.{IsChain-inserted}
 use Rattle.core_chain.proofs.Marks.{IsChain-marked, IsChain-untouched}
 use Rattle.core_chain.proofs.Meets.{IsMet-from_Meets, IsChain-from_IsMet}
@@ -78,7 +78,7 @@ not_in sizes v j none = by (is_linked v.mode && (v.vertex && (v.key % sizes.buck
 -- a chain along which one meets the state's list
 pub record IsBucket (sizes : Sizes) (s : State) (w : ℕ → ℕ) (j : ℕ) : Type 0 where
   pub chain : IsChain (chain_of sizes s w j)
-  pub met : Meets (chain_of sizes s w j) Head (s.bucket j)
+  pub met : MeetsFrom (chain_of sizes s w j) Head (s.bucket j)
 
 pub record Buckets (sizes : Sizes) (s : State) (w : ℕ → ℕ) : Type 0 where
   pub each : (j : ℕ) → j < sizes.buckets → IsBucket sizes s w j
@@ -94,7 +94,7 @@ bucket_links sizes j low = record { links = λ x. refl; apart = λ x h. omega ar
 stays : (sizes : Sizes) (s s' : State) (w w' : ℕ → ℕ) (j : ℕ) → s'.bucket j ≡ s.bucket j → Untouched (chain_of sizes s w j) (chain_of sizes s' w' j) → IsBucket sizes s w j → IsBucket sizes s' w' j
 stays sizes s s' w w' j same step b = record {
   chain = IsChain-untouched (chain_of sizes s w j) (chain_of sizes s' w' j) b.chain step;
-  met = subst (λ (l : List ℕ). Meets (chain_of sizes s' w' j) Head l) (sym same) (meets_untouched (chain_of sizes s w j) (chain_of sizes s' w' j) (s.bucket j) b.chain step b.met);
+  met = subst (λ (l : List ℕ). MeetsFrom (chain_of sizes s' w' j) Head l) (sym same) (meets_untouched (chain_of sizes s w j) (chain_of sizes s' w' j) (s.bucket j) b.chain step b.met);
 }
 
 -- an event that writes no word of a bucket's chain leaves it as it is, where the nodes on it stay
@@ -185,7 +185,7 @@ module _ (sizes : Sizes) (z : IsLayout sizes) (past : List Event) (e : Event) (k
         filled = ap index_of ok.filled.link_word ∙ (index_of-pack (index_of (word_at sizes past e.place)) 0 (node_in sizes past e.life.index).tag (index_of-bound (word_at sizes past e.place)) ∙ ap index_of (sym word));
       }
     where
-      above : (p : Position) → bucket_word sizes link_home p ≡ e.place → IsBelow (bucket_chain sizes past link_home) p (word_at sizes past (key_at sizes e.life.index))
+      above : (p : Position) → bucket_word sizes link_home p ≡ e.place → StandsBelow (bucket_chain sizes past link_home) p (word_at sizes past (key_at sizes e.life.index))
       above Head at = tt
       above (Node x) at = let k = ok.filled.key_word in let g = ok.gap.below x (sym at) in omega arith
 
@@ -228,7 +228,7 @@ module _ (sizes : Sizes) (z : IsLayout sizes) (past : List Event) (e : Event) (k
             let old : IsBucket sizes (state sizes past) (word_at sizes past) link_home = subst (IsBucket sizes (state sizes past) (word_at sizes past)) same b in
             subst (IsBucket sizes link_state w) (sym same) record {
               chain = IsChain-inserted (bucket_chain sizes past link_home) (chain_of sizes link_state w link_home) s.at e.life.index old.chain step;
-              met = subst (λ (p : ℕ). Meets (chain_of sizes link_state w link_home) Head (linked_in sizes (bucket_at sizes link_home) p e.life.index ((state sizes past).bucket link_home))) s.place
+              met = subst (λ (p : ℕ). MeetsFrom (chain_of sizes link_state w link_home) Head (linked_in sizes (bucket_at sizes link_home) p e.life.index ((state sizes past).bucket link_home))) s.place
                   (meets_inserted sizes (bucket_places sizes link_home) (bucket_links sizes link_home (home_low sizes z past kept e.key)) (bucket_chain sizes past link_home) (chain_of sizes link_state w link_home) s.at e.life.index ((state sizes past).bucket link_home) old.chain step old.met);
             }
 

@@ -14,10 +14,10 @@ use Rattle.core_journal.specs.Life.{edge_linked}
 use Rattle.core_journal.specs.State.{Fresh, Linked, Node, State, put, joined_edge, state_by, state}
 use Rattle.core_journal.proofs.Lists.{every_filter, every_map}
 use Rattle.core_journal.proofs.Snoc.{same_is}
-use Rattle.core_kept.specs.Counts.{made, most_pops}
+use Rattle.core_kept.specs.Counts.{made, all_made, most_pops}
 use Rattle.core_kept.specs.Kept.{IsKept}
 use Rattle.core_kept.specs.Nodes.{IsFreshWith}
-use Rattle.core_kept.proofs.NoWrap.{all_made, all_few, made_most, pop_limit}
+use Rattle.core_kept.proofs.NoWrap.{all_few, made_most, pop_limit}
 use Rattle.core_kept.proofs.Callers.{made_none, made_one, made_other}
 use Rattle.core_kept.proofs.OwnFacts.{fresh_was}
 use Rattle.core_lists.proofs.EventKeepsRest.{one_fresh}
@@ -185,8 +185,11 @@ edges_counted (e ∷ es) xs a h = by (λ ys p q. edges_counted es ys p q) (links
         let rest = more xs a (every_map (λ x. edge_linked (e ∷ es) x ≡ true) (λ x. edge_linked es x ≡ true) (λ x t. later false x is t refl) xs h) in
         subst (λ (c : Bool). length xs ≤ length (cond c (e ∷ filter (λ (d : Event). links_edge d.kind) es) (filter (λ (d : Event). links_edge d.kind) es))) (sym is) rest
 
+pub edges_are_links : (journal : List Event) (xs : List Life) → AllPairs ◌≢◌ xs → All (λ (x : Life). edge_linked journal x ≡ true) xs → length xs ≤ all_made links_edge journal
+edges_are_links journal xs apart linked = edges_counted journal xs (apart_of xs apart) (every_of (λ x. edge_linked journal x ≡ true) xs linked)
+
 pub edges_few : (sizes : Sizes) → IsLayout sizes → (journal : List Event) → IsKept sizes journal → (xs : List Life) → AllPairs ◌≢◌ xs → All (λ x. edge_linked journal x ≡ true) xs → length xs ≤ 2 ^ 36
 edges_few sizes z journal kept xs apart linked =
-    let counted = edges_counted journal xs (apart_of xs apart) (every_of (λ x. edge_linked journal x ≡ true) xs linked) in
+    let counted = edges_are_links journal xs apart linked in
     let few = all_few sizes links_edge most_pops journal kept (λ i. let paid = edges_paid sizes journal kept i in let most = made_most sizes pops most_pops (pop_limit sizes) journal kept i in omega (arith, paid, most)) in
     omega (arith, counted, few, z.few_callers)

@@ -6,7 +6,7 @@ use native.Mathlib.Decide.{ℕ_discrete}
 use Rattle.packed_link.specs.Link.{nowhere, index_of, mark_of, mark_bit}
 use Rattle.packed_link.specs.Layout.{Sizes, IsLayout, link_at}
 use Rattle.core_chain.specs.Chain.{Chain, Position, Head, Node, IsOn, Precedes}
-use Rattle.core_chain.specs.Met.{Rises}
+use Rattle.core_chain.specs.Met.{RisesAlong}
 use Rattle.core_chain.specs.Steps.{IsFrozenTo}
 use Rattle.core_chain.proofs.Orders.{before_then}
 use Rattle.core_journal.specs.declared.event.Event.{Event}
@@ -61,14 +61,14 @@ frozen_parts sizes z journal kept =
     }
 
 -- each node that rises behind a word stands behind it
-rises_behind : (c : Chain) (p : Position) (xs : List ℕ) (v : ℕ) → Rises c p xs → stands v xs ≡ true → Precedes c p (Node v)
+rises_behind : (c : Chain) (p : Position) (xs : List ℕ) (v : ℕ) → RisesAlong c p xs → stands v xs ≡ true → Precedes c p (Node v)
 rises_behind c p [] v rising on = absurd (cc)
 rises_behind c p (x ∷ xs) v rising on =
     stands_case (Precedes c p (Node v)) x v xs on (λ same. subst (λ (u : ℕ). Precedes c p (Node u)) same rising.0)
     (λ _ later. before_then c p (Node x) (Node v) rising.0 (rises_behind c (Node x) xs v rising.1 later))
 
 -- what stands no further than a node of the longest part that passes a test is in it, where the nodes rise
-part_before : (c : Chain) (test : ℕ → Bool) (p : Position) (xs : List ℕ) (y v : ℕ) → Rises c p xs → stands y (take_while test xs) ≡ true → stands v xs ≡ true → (Precedes c (Node y) (Node v) → ⊥) → stands v (take_while test xs) ≡ true
+part_before : (c : Chain) (test : ℕ → Bool) (p : Position) (xs : List ℕ) (y v : ℕ) → RisesAlong c p xs → stands y (take_while test xs) ≡ true → stands v xs ≡ true → (Precedes c (Node y) (Node v) → ⊥) → stands v (take_while test xs) ≡ true
 part_before c test p [] y v rising h on not_behind = absurd (cc)
 part_before c test p (x ∷ xs) y v rising h on not_behind = yes_no (stands v (take_while test (x ∷ xs)) ≡ true) (test x)
     (λ e. ap (λ (l : List ℕ). stands v l) (part_more test x xs e) ∙ stands_case (stands v (x ∷ take_while test xs) ≡ true) x v xs on

@@ -4,7 +4,7 @@ use Rattle.std.specs.Prelude.{take_while}
 use Rattle.packed_link.specs.Link.{nowhere, index_of}
 use Rattle.packed_link.specs.Layout.{Sizes, IsLayout}
 use Rattle.core_chain.specs.Chain.{Chain, Position, Head, Node}
-use Rattle.core_chain.specs.Met.{Meets}
+use Rattle.core_chain.specs.Met.{MeetsFrom}
 use Rattle.core_journal.specs.declared.event.Event.{Event}
 use Rattle.core_journal.specs.Machine.{word_at}
 use Rattle.core_journal.specs.State.{state}
@@ -18,14 +18,14 @@ use Rattle.core_lists.proofs.FrozenPart.{frozen_end}
 use Rattle.core_lists.proofs.FrozenToEndIsList.{kept_met}
 
 module _ (c : Chain) (test : ℕ → Bool) where
-  first_in : (p : Position) (xs : List ℕ) (y : ℕ) → Meets c p xs → c.next p ≡ y → y ≢ nowhere → test y ≡ true → stands y (take_while test xs) ≡ true
+  first_in : (p : Position) (xs : List ℕ) (y : ℕ) → MeetsFrom c p xs → c.next p ≡ y → y ≢ nowhere → test y ≡ true → stands y (take_while test xs) ≡ true
   first_in p [] y m n some t = absurd (some (sym n ∙ m))
   first_in p (x ∷ xs) y m n some t =
       let same : x ≡ y = sym m.0 ∙ n in
       let yes : test x ≡ true = ap test same ∙ t in
       ap (λ (l : List ℕ). stands y l) (part_more test x xs yes) ∙ stands_here x y (take_while test xs) same
 
-  later_in : (p : Position) (xs : List ℕ) (z y : ℕ) → Meets c p xs → stands z (take_while test xs) ≡ true → c.next (Node z) ≡ y → y ≢ nowhere → test y ≡ true → stands y (take_while test xs) ≡ true
+  later_in : (p : Position) (xs : List ℕ) (z y : ℕ) → MeetsFrom c p xs → stands z (take_while test xs) ≡ true → c.next (Node z) ≡ y → y ≢ nowhere → test y ≡ true → stands y (take_while test xs) ≡ true
   later_in p [] z y m h n some t = absurd (cc)
   later_in p (x ∷ xs) z y m h n some t = yes_no (stands y (take_while test (x ∷ xs)) ≡ true) (test x)
       (λ e. ap (λ (l : List ℕ). stands y l) (part_more test x xs e) ∙ stands_later x y (take_while test xs)
@@ -34,11 +34,11 @@ module _ (c : Chain) (test : ℕ → Bool) where
       (λ _ later. later_in (Node x) xs z y m.2 later n some t)))
       (λ e. let f : false ≡ true = sym (ap (λ (l : List ℕ). stands z l) (part_end test x xs e)) ∙ h in absurd (cc))
 
-  first_ends : (p : Position) (xs : List ℕ) (v : ℕ) → Meets c p xs → c.next p ≡ nowhere → stands v xs ≡ true → test v ≡ true
+  first_ends : (p : Position) (xs : List ℕ) (v : ℕ) → MeetsFrom c p xs → c.next p ≡ nowhere → stands v xs ≡ true → test v ≡ true
   first_ends p [] v m n h = absurd (cc)
   first_ends p (x ∷ xs) v m n h = absurd (m.1 (sym m.0 ∙ n))
 
-  later_ends : (p : Position) (xs : List ℕ) (z v : ℕ) → Meets c p xs → stands z (take_while test xs) ≡ true → c.next (Node z) ≡ nowhere → stands v xs ≡ true → test v ≡ true
+  later_ends : (p : Position) (xs : List ℕ) (z v : ℕ) → MeetsFrom c p xs → stands z (take_while test xs) ≡ true → c.next (Node z) ≡ nowhere → stands v xs ≡ true → test v ≡ true
   later_ends p [] z v m h n on = absurd (cc)
   later_ends p (x ∷ xs) z v m h n on = yes_no (test v ≡ true) (test x)
       (λ e. stands_case (test v ≡ true) x v xs on

@@ -9,7 +9,7 @@ use Rattle.packed_link.specs.Link.{index_of, mark_of, nowhere}
 use Rattle.packed_link.specs.Layout.{Sizes, IsLayout, bucket_at, key_at, link_at, second_at}
 use Rattle.packed_link.specs.declared.link.Life.{Life}
 use Rattle.core_chain.specs.Chain.{Chain, Position, Head, Node, IsOn, IsChain, Precedes, rank_of}
-use Rattle.core_chain.specs.Met.{Meets}
+use Rattle.core_chain.specs.Met.{MeetsFrom}
 use Rattle.core_chain.proofs.Orders.{by_rank, one_leads, before_same}
 use Rattle.core_journal.specs.declared.event.Event.{Event}
 use Rattle.core_journal.specs.Machine.{word_at}
@@ -43,7 +43,7 @@ node_of Head = 0
 node_of (Node x) = x
 
 -- along a chain, a word behind which a node of the longest prefix that passes a test stands is the first, or of that prefix
-before_part : (c : Chain) → IsChain c → (test : ℕ → Bool) (p : ℕ) → IsOn c (Node p) → (q : Position) (xs : List ℕ) → IsOn c q → Meets c q xs → Precedes c q (Node p) → c.next (Node p) ≢ nowhere → stands (c.next (Node p)) (take_while test xs) ≡ true → stands p (take_while test xs) ≡ true
+before_part : (c : Chain) → IsChain c → (test : ℕ → Bool) (p : ℕ) → IsOn c (Node p) → (q : Position) (xs : List ℕ) → IsOn c q → MeetsFrom c q xs → Precedes c q (Node p) → c.next (Node p) ≢ nowhere → stands (c.next (Node p)) (take_while test xs) ≡ true → stands p (take_while test xs) ≡ true
 before_part c is test p on q [] here met before some h = absurd (cc)
 before_part c is test p on q (a ∷ rest) here met before some h =
     let leads : c.next q ≡ a = met.0 in
@@ -105,7 +105,7 @@ module _ (sizes : Sizes) (z : IsLayout sizes) (journal : List Event) (kept : IsK
       absurd (cc))
       (λ f. f))
     where
-      frozen_before : (x p : ℕ) → is_listed (state sizes journal) x p ≡ true → IsChain (edge_chain sizes journal x) → Meets (edge_chain sizes journal x) Head ((state sizes journal).edges x) → (edge_chain sizes journal x).next (Node p) ≢ nowhere
+      frozen_before : (x p : ℕ) → is_listed (state sizes journal) x p ≡ true → IsChain (edge_chain sizes journal x) → MeetsFrom (edge_chain sizes journal x) Head ((state sizes journal).edges x) → (edge_chain sizes journal x).next (Node p) ≢ nowhere
           → is_frozen (state sizes journal) x ((edge_chain sizes journal x).next (Node p)) ≡ true → is_frozen (state sizes journal) x p ≡ true
       frozen_before x p on chain met some h = by ((state sizes journal).frozen x) h
         where

@@ -1,5 +1,5 @@
 -- A marked link of an edge to which one may come leads to a node of the edge's key exactly where the edge was replaced by that node.
-use Rattle.std.proofs.Common.{◌≡◌, ◌≢◌, ◌⊎◌, ℕ, zero, suc, ◌+◌, ◌<◌, ◌≤◌, Bool, true, false, cond, List, [], ◌∷◌, ◌++◌, Some, None, length, take, inl, inr, refl, sym, ap, ◌∙◌, subst, arith, ⊎_elim}
+use Rattle.std.proofs.Common.{◌≡◌, ◌≢◌, ℕ, zero, suc, ◌<◌, Bool, true, false, cond, List, [], ◌∷◌, ◌++◌, Some, take, inr, refl, sym, ap, ◌∙◌, subst, arith, ⊎_elim}
 use Rattle.std.specs.Prelude.{slice_get, ◌&&◌}
 use Rattle.graph_kinds.proofs.Calls.{and_left, and_right}
 use Rattle.packed_link.specs.Link.{index_of, mark_of, mark_bit, with_mark, nowhere}
@@ -12,19 +12,25 @@ use Rattle.core_journal.specs.Event.{same_life, cuts_edge, replaces, cut_life}
 use Rattle.core_journal.specs.Life.{edge_marked}
 use Rattle.core_journal.specs.Machine.{word_at}
 use Rattle.core_journal.specs.Prefix.{IsPrefix}
-use Rattle.core_journal.specs.State.{Mode, Free, Fresh, Linked, Spent, Node, state}
+use Rattle.core_journal.specs.State.{Mode, Free, Fresh, Linked, Node, state}
 use Rattle.core_journal.proofs.Lists.{prefix_snoc, prefix_take}
 use Rattle.core_journal.proofs.Snoc.{same_is}
 use Rattle.core_kept.specs.Kept.{AllowedAs, IsKept}
-use Rattle.core_kept.specs.Nodes.{node_in, IsUsed, IsLinkedEdge}
+use Rattle.core_kept.specs.Nodes.{node_in, IsUsed, IsLinkedEdge, is_listed}
 use Rattle.core_kept.specs.Edges.{IsReplaceEdge}
-use Rattle.core_lists.specs.Chains.{life_in}
+use Rattle.core_lists.specs.Chains.{life_in, HasList}
+use Rattle.core_kept.specs.Facts.{HasMet}
+use Rattle.core_lists.specs.Walks.{IsMetBehind}
+use Rattle.core_chain.specs.Chain.{Node as At}
+use Rattle.core_lists.proofs.ListChains.{lists}
+use Rattle.core_lists.proofs.ListHoldsKept.{has_open}
+use Rattle.core_lists.proofs.MetWordsLead.{walk_link}
 use Rattle.core_lists.specs.Replacements.{IsReplacedBy, IsInReach, LeadsToItsKey}
 use Rattle.core_kept.proofs.LivesEnd.{any_at}
 use Rattle.core_kept.proofs.Induction.{allowed_at, kept_front}
 use Rattle.core_lists.proofs.LinkedWordsLead.{IsLinkedBehind, edge_leads}
 use Rattle.core_kept.proofs.LinkWords.{used_link}
-use Rattle.core_lists.proofs.MarkedWordsLead.{reach_used, reach_unstored, next_reach, link_same, next_same}
+use Rattle.core_lists.proofs.MarkedWordsLead.{reach_used, reach_unstored, next_reach, next_same}
 use Rattle.core_kept.proofs.MarkedWords.{marked_link_stays}
 use Rattle.core_kept.proofs.Named.{life_is, named}
 use Rattle.core_kept.proofs.OwnMet.{key_word_is}
@@ -202,3 +208,21 @@ module _ (sizes : Sizes) (z : IsLayout sizes) (journal : List Event) (kept : IsK
         is_marked : (b : Bool) → mark_bit b ≡ 1 → b ≡ true
         is_marked true h = refl
         is_marked false h = absurd (omega (arith, h))
+
+-- a link of an edge that leads to a node of its key is marked
+pub same_key_marked : (sizes : Sizes) → IsLayout sizes → (journal : List Event) → IsKept sizes journal → (x : ℕ) → x < sizes.nodes → IsInReach sizes journal x → index_of (word_at sizes journal (link_at sizes x)) ≢ nowhere
+    → word_at sizes journal (key_at sizes (index_of (word_at sizes journal (link_at sizes x)))) ≡ word_at sizes journal (key_at sizes x) → LeadsToItsKey sizes journal x
+same_key_marked sizes z journal kept x there r some same = record { marked = by (node_in sizes journal x).marked (used_link sizes z journal kept x there (reach_used sizes z journal kept x r)).1; some = some; key = same }
+  where
+    rises : mark_of (word_at sizes journal (link_at sizes x)) ≡ 0 → word_at sizes journal (key_at sizes x) < word_at sizes journal (key_at sizes (index_of (word_at sizes journal (link_at sizes x))))
+    rises live = ⊎_elim
+        (λ (l : (home : ℕ) × HasList sizes journal home × (is_listed (state sizes journal) home x ≡ true)).
+        let low = ((lists sizes z journal kept).each l.0 (has_open sizes journal l.0 l.1)).chain.rises (At x) l.2 live some in omega (arith, low))
+        (λ (m : (caller : ℕ) × HasMet sizes journal caller x). ⊎_elim
+        (λ (none : index_of (word_at sizes journal (link_at sizes x)) ≡ nowhere). absurd (some none))
+        (λ (b : IsMetBehind sizes journal m.0 x (index_of (word_at sizes journal (link_at sizes x)))). b.strictly (inr live))
+        (walk_link sizes z journal kept m.0 x there m.1)) r
+
+    by : (b : Bool) → mark_of (word_at sizes journal (link_at sizes x)) ≡ mark_bit b → mark_of (word_at sizes journal (link_at sizes x)) ≡ 1
+    by true h = h
+    by false h = let low = rises h in absurd (omega (arith, low, same))

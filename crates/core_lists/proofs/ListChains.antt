@@ -9,10 +9,10 @@ use Rattle.packed_link.specs.Layout.{Sizes, IsLayout, word_count, key_at, link_a
 use Rattle.packed_link.specs.declared.link.Life.{Life}
 use Rattle.packed_link.proofs.Links.{index_of-pack, index_of-bound}
 use Rattle.core_chain.specs.Chain.{Chain, Position, Head, Node, IsOn, IsChain}
-use Rattle.core_chain.specs.Met.{Meets, IsMet}
+use Rattle.core_chain.specs.Met.{MeetsFrom, IsMet}
 use Rattle.core_chain.specs.Steps.{CanInsert, CanUnlink, Inserts, Joins, Unlinks, SetsMark, Untouched, CanReplace, Replaces}
 use Rattle.core_chain.specs.Table.{StandsAlone, chain_in}
-use Rattle.core_chain.specs.Walk.{IsBelow}
+use Rattle.core_chain.specs.Walk.{StandsBelow}
 use Rattle.core_chain.proofs.Inserts.{IsChain-inserted, IsChain-replaced}
 use Rattle.core_chain.proofs.Marks.{IsChain-marked, IsChain-untouched}
 use Rattle.core_chain.proofs.Meets.{IsMet-from_Meets, IsChain-from_IsMet}
@@ -43,7 +43,7 @@ list_chain sizes s w x = chain_in w (list_places sizes x) (is_listed s x) (λ y.
 -- a chain along which one meets the state's list
 pub record IsList (sizes : Sizes) (s : State) (w : ℕ → ℕ) (x : ℕ) : Type 0 where
   pub chain : IsChain (list_chain sizes s w x)
-  pub met : Meets (list_chain sizes s w x) Head (s.edges x)
+  pub met : MeetsFrom (list_chain sizes s w x) Head (s.edges x)
 
 pub record Lists (sizes : Sizes) (s : State) (w : ℕ → ℕ) : Type 0 where
   pub each : (x : ℕ) → IsOpenIn sizes s x → IsList sizes s w x
@@ -69,14 +69,14 @@ alone sizes x (Node n) = record { words = λ p ne h. word p ne h; keys = λ y h.
 pub stays : (sizes : Sizes) (s s' : State) (w w' : ℕ → ℕ) (x : ℕ) → s'.edges x ≡ s.edges x → Untouched (list_chain sizes s w x) (list_chain sizes s' w' x) → IsList sizes s w x → IsList sizes s' w' x
 stays sizes s s' w w' x same step b = record {
   chain = IsChain-untouched (list_chain sizes s w x) (list_chain sizes s' w' x) b.chain step;
-  met = subst (λ (l : List ℕ). Meets (list_chain sizes s' w' x) Head l) (sym same) (meets_untouched (list_chain sizes s w x) (list_chain sizes s' w' x) (s.edges x) b.chain step b.met);
+  met = subst (λ (l : List ℕ). MeetsFrom (list_chain sizes s' w' x) Head l) (sym same) (meets_untouched (list_chain sizes s w x) (list_chain sizes s' w' x) (s.edges x) b.chain step b.met);
 }
 
 -- a list of which a word gets its mark
 marks : (sizes : Sizes) (s s' : State) (w w' : ℕ → ℕ) (x : ℕ) (at : Position) → s'.edges x ≡ s.edges x → SetsMark (list_chain sizes s w x) (list_chain sizes s' w' x) at → IsList sizes s w x → IsList sizes s' w' x
 marks sizes s s' w w' x at same step b = record {
   chain = IsChain-marked (list_chain sizes s w x) (list_chain sizes s' w' x) at b.chain step;
-  met = subst (λ (l : List ℕ). Meets (list_chain sizes s' w' x) Head l) (sym same) (meets_marked (list_chain sizes s w x) (list_chain sizes s' w' x) at (s.edges x) b.chain step b.met);
+  met = subst (λ (l : List ℕ). MeetsFrom (list_chain sizes s' w' x) Head l) (sym same) (meets_marked (list_chain sizes s w x) (list_chain sizes s' w' x) at (s.edges x) b.chain step b.met);
 }
 
 -- the place of an event is no word and no key of a list
@@ -332,7 +332,7 @@ module _ (sizes : Sizes) (z : IsLayout sizes) (past : List Event) (e : Event) (k
         filled = ap index_of ok.filled.link_word ∙ (index_of-pack (index_of (word_at sizes past e.place)) 0 (node_in sizes past e.life.index).tag (index_of-bound (word_at sizes past e.place)) ∙ ap index_of (sym word));
       }
     where
-      above : (p : Position) → list_word sizes link_home p ≡ e.place → IsBelow (edge_chain sizes past link_home) p (word_at sizes past (key_at sizes e.life.index))
+      above : (p : Position) → list_word sizes link_home p ≡ e.place → StandsBelow (edge_chain sizes past link_home) p (word_at sizes past (key_at sizes e.life.index))
       above Head at = tt
       above (Node y) at = let k = ok.filled.key_word in let g = ok.gap.below y (sym at) in omega arith
 
@@ -364,7 +364,7 @@ module _ (sizes : Sizes) (z : IsLayout sizes) (past : List Event) (e : Event) (k
         let old : IsList sizes (state sizes past) (word_at sizes past) link_home = subst (IsList sizes (state sizes past) (word_at sizes past)) same b in
         subst (IsList sizes link_state w) (sym same) record {
           chain = IsChain-inserted (edge_chain sizes past link_home) (list_chain sizes link_state w link_home) s.at e.life.index old.chain step;
-          met = subst (λ (p : ℕ). Meets (list_chain sizes link_state w link_home) Head (linked_in sizes (second_at sizes link_home) p e.life.index ((state sizes past).edges link_home))) s.place
+          met = subst (λ (p : ℕ). MeetsFrom (list_chain sizes link_state w link_home) Head (linked_in sizes (second_at sizes link_home) p e.life.index ((state sizes past).edges link_home))) s.place
               (meets_inserted sizes (list_places sizes link_home) (list_links sizes link_home) (edge_chain sizes past link_home) (list_chain sizes link_state w link_home) s.at e.life.index ((state sizes past).edges link_home) old.chain step old.met);
         })
         (λ ne. stays sizes (state sizes past) link_state (word_at sizes past) w x (same_link sizes z past e kept x ok ne) (link_others x o ne) b)
@@ -443,7 +443,7 @@ module _ (sizes : Sizes) (z : IsLayout sizes) (past : List Event) (e : Event) (k
       new_list_met : IsList sizes (state sizes past) (word_at sizes past) new_home → IsList sizes new_state w new_home
       new_list_met old = record {
         chain = IsChain-replaced (edge_chain sizes past new_home) (list_chain sizes new_state w new_home) e.old.index e.life.index old.chain new_replaces;
-        met = subst (λ (p : ℕ). Meets (list_chain sizes new_state w new_home) Head (linked_in sizes (second_at sizes new_home) p e.life.index ((state sizes past).edges new_home))) (sym ok.place)
+        met = subst (λ (p : ℕ). MeetsFrom (list_chain sizes new_state w new_home) Head (linked_in sizes (second_at sizes new_home) p e.life.index ((state sizes past).edges new_home))) (sym ok.place)
             (meets_replaced sizes (list_places sizes new_home) (list_links sizes new_home) (edge_chain sizes past new_home) (list_chain sizes new_state w new_home) e.old.index e.life.index ((state sizes past).edges new_home) old.chain new_replaces old.met);
       }
 
@@ -522,7 +522,7 @@ new_list sizes z past e kept ok w a =
         once = λ j k d low high. absurd (omega arith);
         exactly = λ y. ((λ on. absurd (let f : false ≡ true = subst (λ (l : List ℕ). stands y l ≡ true) empty on in cc)), (λ c. absurd (omega (arith, c.1))));
       };
-      met = subst (λ (l : List ℕ). Meets (list_chain sizes s' w i) Head l) (sym empty) none;
+      met = subst (λ (l : List ℕ). MeetsFrom (list_chain sizes s' w i) Head l) (sym empty) none;
     }
 
 -- a list that isn't frozen to its end, after each kind of event

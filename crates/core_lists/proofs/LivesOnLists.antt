@@ -3,7 +3,7 @@ use Rattle.std.proofs.Common.{◌≡◌, ◌≢◌, ℕ, ◌<◌, ◌⊎◌, Boo
 use Rattle.packed_link.specs.Layout.{Sizes, IsLayout, link_at, second_at}
 use Rattle.packed_link.specs.Link.{mark_of, mark_bit}
 use Rattle.packed_link.specs.declared.link.Life.{Life}
-use Rattle.core_chain.specs.Chain.{Position, Head, Node as At, Precedes, rank_of}
+use Rattle.core_chain.specs.Chain.{Node as At, Precedes, rank_of}
 use Rattle.core_chain.proofs.Orders.{by_order, rises_behind}
 use Rattle.core_journal.specs.declared.event.Kind.{Kind}
 use Rattle.core_journal.specs.declared.event.Kind.TheVariants.{PopFree, LinkVertex, UnlinkVertex, LinkEdge, UnlinkEdge, ReplaceEdge}

@@ -1,20 +1,16 @@
 -- A marked link leads to the same life for as long as one may come to its node. So it leads to a node of its own key exactly where
 -- its edge was replaced by that one.
-use Rattle.std.proofs.Common.{◌≡◌, ◌≢◌, ◌⊎◌, ℕ, ◌+◌, ◌<◌, ◌≤◌, Bool, true, false, List, [], ◌∷◌, ◌++◌, Some, None, length, take, inl, inr, refl, sym, ap, ◌∙◌, subst, arith, ⊎_elim}
-use Rattle.std.specs.Prelude.{slice_get}
-use Rattle.packed_link.specs.Link.{index_of, mark_of, mark_bit, nowhere}
-use Rattle.packed_link.specs.Layout.{Sizes, IsLayout, key_at, link_at, second_at}
-use Rattle.packed_link.specs.declared.link.Life.{Life}
+use Rattle.std.proofs.Common.{◌≡◌, ◌≢◌, ◌⊎◌, ℕ, ◌<◌, true, false, List, [], ◌∷◌, ◌++◌, inl, inr, refl, sym, ap, ◌∙◌, subst, arith, ⊎_elim}
+use Rattle.packed_link.specs.Link.{index_of, mark_of, nowhere}
+use Rattle.packed_link.specs.Layout.{Sizes, IsLayout, link_at, second_at}
 use Rattle.core_chain.specs.Chain.{Node as At}
 use Rattle.core_journal.specs.declared.event.Kind.{Kind}
-use Rattle.core_journal.specs.declared.event.Kind.TheVariants.{PopFree, LinkVertex, LinkEdge, UnlinkEdge, MarkEdge, FreezeEdge, ReplaceEdge}
+use Rattle.core_journal.specs.declared.event.Kind.TheVariants.{PopFree, LinkVertex, LinkEdge, UnlinkEdge, ReplaceEdge}
 use Rattle.core_journal.specs.declared.event.Event.{Event}
-use Rattle.core_journal.specs.Event.{same_life, cuts_edge, replaces, cut_life}
-use Rattle.core_journal.specs.Life.{edge_marked}
 use Rattle.core_journal.specs.Machine.{word_at}
 use Rattle.core_journal.specs.Prefix.{IsPrefix}
-use Rattle.core_journal.specs.State.{Mode, Free, Fresh, Linked, Spent, Node, State, state_by, state}
-use Rattle.core_journal.proofs.Lists.{prefix_refl, prefix_snoc, prefix_trans, prefix_take}
+use Rattle.core_journal.specs.State.{Free, Fresh, Linked, Spent, Node, State, state_by, state}
+use Rattle.core_journal.proofs.Lists.{prefix_refl, prefix_snoc, prefix_trans}
 use Rattle.core_journal.proofs.States.{state-snoc}
 use Rattle.core_kept.specs.Kept.{Allowed, AllowedAs, IsKept}
 use Rattle.core_kept.specs.Nodes.{node_in, IsUsed, IsLinkedEdge, is_listed}
@@ -23,8 +19,8 @@ use Rattle.core_kept.specs.Facts.{HasMet}
 use Rattle.core_lists.specs.Replacements.{IsInReach}
 use Rattle.core_lists.specs.Walks.{IsMetBehind}
 use Rattle.core_lists.proofs.ListChains.{lists}
-use Rattle.core_kept.proofs.Induction.{kept_front, kept_snoc, kept_onward}
-use Rattle.core_kept.proofs.LinkWords.{link_words, taken}
+use Rattle.core_kept.proofs.Induction.{kept_snoc, kept_onward}
+use Rattle.core_kept.proofs.LinkWords.{taken}
 use Rattle.core_kept.proofs.NodesOnLists.{unlinked_was, linked_was}
 use Rattle.core_lists.proofs.ListHolds.{open_mode}
 use Rattle.core_lists.proofs.ListHoldsKept.{IsOpenIn, listing, popped_was, open_before, open_linked, has_open, open_has, sources}

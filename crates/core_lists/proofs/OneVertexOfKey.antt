@@ -2,7 +2,7 @@
 use Rattle.std.proofs.Common.{◌≡◌, ℕ, ◌%◌, Bool, true, false, List, Some, refl, sym, ap, ◌∙◌, subst, arith}
 use Rattle.packed_link.specs.Layout.{Sizes, IsLayout}
 use Rattle.packed_link.specs.declared.link.Life.{Life}
-use Rattle.core_chain.specs.Chain.{Position, Node}
+use Rattle.core_chain.specs.Chain.{Node}
 use Rattle.core_journal.specs.declared.event.Event.{Event}
 use Rattle.core_journal.specs.GraphOf.{present_key}
 use Rattle.core_journal.specs.Life.{key_of, vertex_marked, unlinked}
@@ -10,7 +10,7 @@ use Rattle.core_journal.specs.State.{state}
 use Rattle.core_journal.proofs.LivesOf.{present_is}
 use Rattle.core_kept.specs.Kept.{IsKept}
 use Rattle.core_kept.specs.Nodes.{node_in, IsUsed}
-use Rattle.core_lists.specs.Chains.{bucket_chain, IsVertexOf, IsInBucket}
+use Rattle.core_lists.specs.Chains.{IsVertexOf, IsInBucket}
 use Rattle.core_lists.proofs.BucketChains.{is_in, in_is, key_word, home_low, buckets}
 use Rattle.core_kept.proofs.LinkedVertices.{IsLiveVertex, linked_stays, live_vertices}
 use Rattle.core_kept.proofs.Named.{life_is, named}

@@ -1,8 +1,8 @@
 -- What the event that replaces an edge does to the lists and to the graph.
-use Rattle.std.proofs.Common.{◌≡◌, ◌≢◌, ℕ, false, List, [], ◌∷◌, ◌++◌, Bool, Option, Some, None, cond, refl, sym, ap, ◌∙◌, subst, arith}
+use Rattle.std.proofs.Common.{◌≡◌, ◌≢◌, ℕ, false, List, [], ◌∷◌, ◌++◌, Option, Some, None, cond, refl, sym, ap, ◌∙◌, subst, arith}
 use Rattle.std.specs.Prelude.{option_map, option_and_then}
 use Rattle.packed_link.specs.Link.{mark_of}
-use Rattle.packed_link.specs.Layout.{Sizes, IsLayout, link_at, second_at}
+use Rattle.packed_link.specs.Layout.{Sizes, IsLayout}
 use Rattle.packed_link.specs.declared.link.Life.{Life}
 use Rattle.graph_kinds.specs.declared.call.Call.TheVariants.{AddEdge}
 use Rattle.core_chain.specs.Steps.{Replaces, Untouched}
@@ -13,10 +13,10 @@ use Rattle.core_journal.specs.Changes.{IsReplacing, IsReplacedEdge}
 use Rattle.core_journal.specs.GraphOf.{both, weighed, graph_of, call_by, call_of, present_key, present_pair, pair_between, IsRegularEvent}
 use Rattle.core_journal.specs.Life.{link_of, edge_marked}
 use Rattle.core_journal.specs.Machine.{word_at}
-use Rattle.core_journal.specs.State.{State, state_by, state}
+use Rattle.core_journal.specs.State.{State}
 use Rattle.core_journal.proofs.Calls.{changes_edge}
 use Rattle.core_journal.proofs.GraphRows.{replaced_edge_graph, hidden_replaced_graph}
-use Rattle.core_journal.proofs.LivesOf.{IsJoined, present_is, joined_is, key_of_life, only_pair}
+use Rattle.core_journal.proofs.LivesOf.{present_is, joined_is, key_of_life, only_pair}
 use Rattle.core_journal.proofs.Regular.{replaced_edge_regular, hidden_replaced_regular}
 use Rattle.core_kept.specs.Kept.{IsKept}
 use Rattle.core_kept.specs.Nodes.{node_in, IsUsed}
@@ -27,7 +27,6 @@ use Rattle.core_kept.specs.Facts.{IsLinkOf}
 use Rattle.core_kept.proofs.EdgeEnds.{new_here}
 use Rattle.core_lists.proofs.ListChains.{list_chain, new_replaces, new_others}
 use Rattle.core_kept.proofs.LinkWords.{mark_isnt, used_link}
-use Rattle.core_lists.proofs.EventsOnLists.{OtherLists}
 use Rattle.core_kept.proofs.Named.{life_is, named}
 use Rattle.core_lists.proofs.OneEdgeOfPair.{one_pair}
 use Rattle.core_kept.proofs.Replaced.{old_apart}

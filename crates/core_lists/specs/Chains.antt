@@ -1,5 +1,5 @@
 -- The chains of the table at a moment: the vertices of each bucket, and the list of edges of each vertex.
-use Rattle.std.specs.Prelude.{◌≡◌, ℕ, ◌%◌, ◌<◌, ◌⊎◌, ◌==◌, ◌&&◌, Bool, true, false, List, Some}
+use Rattle.std.specs.Prelude.{◌≡◌, ℕ, ◌%◌, ◌<◌, ◌⊎◌, true, false, List, Some}
 use Rattle.packed_link.specs.Link.{index_of, nowhere}
 use Rattle.packed_link.specs.Layout.{Sizes, bucket_at, key_at, link_at, second_at}
 use Rattle.packed_link.specs.declared.link.Life.{Life}
@@ -9,7 +9,7 @@ use Rattle.core_chain.specs.Table.{Places, chain_in}
 use Rattle.core_journal.specs.declared.event.Event.{Event}
 use Rattle.core_journal.specs.Life.{key_of, link_of, edge_marked, unlinked}
 use Rattle.core_journal.specs.Machine.{word_at}
-use Rattle.core_journal.specs.State.{Linked, Spent, State, is_linked, state}
+use Rattle.core_journal.specs.State.{Linked, Spent, state}
 use Rattle.core_kept.specs.Nodes.{is_of_bucket, node_in, is_listed, is_frozen, IsUsed, IsLinkedEdge, IsFrozenToEnd}
 use Rattle.core_kept.specs.Freezing.{IsFrozenWord}
 

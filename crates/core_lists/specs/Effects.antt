@@ -80,8 +80,8 @@ pub record RemovesEdge (sizes : Sizes) (past : List Event) (e : Event) : Type 0 
   pub graph : (a b w : ℕ) → present_pair past e.life ≡ Some ((a, b), w) → CarriesOut past e
   pub none : present_pair past e.life ≡ None → graph_of (past ++ e ∷ []) ≡ graph_of past
 
--- an edge is replaced: it is marked, and the new one joins the list of its source behind it; where both ends are present
--- the graph, which had the pair with another weight, has it with the new one; else the graph stays
+-- an edge is replaced: it is marked, and the new one joins the list of its source behind it; where both ends are
+-- present the graph, which had the pair with another weight, has it with the new one; else the graph stays
 pub record ReplacesEdge (sizes : Sizes) (past : List Event) (e : Event) : Type 0 where
   pub of_source : e.source ≡ (node_in sizes past e.old.index).source
   pub chain : Replaces (edge_chain sizes past e.source.index)

@@ -1,5 +1,9 @@
 pub mod Chains
+pub mod Changed
 pub mod Effects
+pub mod FrozenPaths
+pub mod MarkEffects
 pub mod Raised
 pub mod Replacements
+pub mod Uncounted
 pub mod Walks

@@ -32,8 +32,8 @@ pub record SpentLinks (sizes : Sizes) (journal : List Event) : Type 0 where
       → (node_in sizes journal x).mode ≡ Spent → (node_in sizes journal x).vertex ≡ true
       → LeadsTo (word_at sizes journal (second_at sizes x)) (IsNoEarlier sizes journal x)
 
--- the pass of a caller has met y, which is of the kind of x: a vertex of the same bucket, or an edge of the same source.
--- Its key isn't smaller, and it's greater where x is a vertex or its link is unmarked
+-- the pass of a caller has met y, which is of the kind of x: a vertex of the same bucket, or an edge of the same
+-- source. Its key isn't smaller, and it's greater where x is a vertex or its link is unmarked
 pub record IsMetBehind (sizes : Sizes) (journal : List Event) (caller x y : ℕ) : Type 0 where
   pub there : y < sizes.nodes
   pub met : HasMet sizes journal caller y

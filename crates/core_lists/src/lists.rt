@@ -3,28 +3,33 @@
 //! A vertex has a list while it is linked or spent and its list isn't frozen to its end (`HasList` of
 //! `specs/Chains.antt`). An edge joins the list of its source with its link, or behind the edge that it replaces, and
 //! leaves it when it's unlinked; marked, or handed over with the frozen part, it's on it in between. Keys rise along a
-//! list, and strictly behind an unmarked word, so it has at most one unmarked edge a key.
+//! list, and two neighbours have one key only where the first is marked and was replaced by the second; so it has one
+//! unmarked edge a key.
 
 ghost use Rattle.std.specs.Prelude.{◌≡◌, ◌≢◌, ◌⊎◌, ◌↔◌, ℕ, ◌<◌, false, true, List, Some};
+ghost use Rattle.graph_kinds.specs.Graph.{weight_of};
 ghost use Rattle.packed_link.specs.Link.{mark_of};
-ghost use Rattle.packed_link.specs.Layout.{IsLayout, Sizes, second_at};
+ghost use Rattle.packed_link.specs.Layout.{IsLayout, Sizes, key_at, second_at};
 ghost use Rattle.packed_link.specs.declared.link.Life.{Life};
 ghost use Rattle.core_journal.specs.declared.event.Event.{Event};
+ghost use Rattle.core_journal.specs.GraphOf.{graph_of, present_pair};
 ghost use Rattle.core_journal.specs.Life.{edge_marked, link_of};
 ghost use Rattle.core_journal.specs.Machine.{word_at};
 ghost use Rattle.core_journal.specs.Prefix.{IsPrefix};
-ghost use Rattle.core_journal.specs.State.{Fresh, Spent, state};
+ghost use Rattle.core_journal.specs.State.{Fresh, Linked, Spent, state};
 ghost use Rattle.core_lists.specs.Chains.{EdgeLists, FrozenParts, HasList, IsAtSource, IsEdgeOf, IsInList, IsOlder};
-ghost use Rattle.core_lists.specs.Chains.{Sources, life_in};
+ghost use Rattle.core_lists.specs.Chains.{KeepsList, Sources, life_in};
 ghost use Rattle.core_kept.specs.Kept.{IsKept};
 ghost use Rattle.core_kept.specs.Nodes.{IsFrozenToEnd, IsLinkedEdge, IsLinkedVertex, IsUsed};
 ghost use Rattle.core_kept.specs.Nodes.{is_frozen, is_listed, node_in};
 
 /// From the second word of each vertex that has a list, link after link, one meets the edges of its list, each once, by
-/// rising keys: two neighbours have one key only where the first is marked. They are the lives that were linked as edges of the vertex's life, and not unlinked. Each
-/// linked vertex has a list, and so has each vertex that is linked or spent and whose second word is unmarked. What
-/// stands on any list, also one that is frozen to its end, was linked so and not unlinked; it's an edge node whose
-/// source is the vertex, and stands on no other list.
+/// rising keys: two neighbours have one key only where the first is marked. They are the lives that were linked as
+/// edges of the vertex's life, and not unlinked. Each linked vertex has a list, and so has each vertex that is linked
+/// or spent and whose second word is unmarked. What stands on any list, also one that is frozen to its end, was linked
+/// so and not unlinked; it's an edge node whose source is the vertex, and stands on no other list. The key word of an
+/// edge on a list is the key with which it was linked (`key`), and the edges of a linked vertex are linked
+/// (`listed_linked`): so a collect reads keys from words.
 pub fn lists_hold_their_edges()
     ensures lists { (sizes : Sizes) → IsLayout sizes → (journal : List Event) → IsKept sizes journal
         → EdgeLists sizes journal }
@@ -46,6 +51,13 @@ pub fn lists_hold_their_edges()
     ensures unclosed { (sizes : Sizes) → IsLayout sizes → (journal : List Event) → IsKept sizes journal
         → (x : ℕ) → x < sizes.nodes → IsUsed (node_in sizes journal x).mode → (node_in sizes journal x).vertex ≡ true
         → mark_of (word_at sizes journal (second_at sizes x)) ≡ 0 → HasList sizes journal x }
+    ensures key { (sizes : Sizes) → IsLayout sizes → (journal : List Event) → IsKept sizes journal
+        → (x y : ℕ) → KeepsList sizes journal x → is_listed (state sizes journal) x y ≡ true
+        → (link : Event) → link_of journal (life_in sizes journal y) ≡ Some link
+        → word_at sizes journal (key_at sizes y) ≡ link.key }
+    ensures listed_linked { (sizes : Sizes) → IsLayout sizes → (journal : List Event) → IsKept sizes journal
+        → (x y : ℕ) → x < sizes.nodes → IsLinkedVertex sizes journal x → is_listed (state sizes journal) x y ≡ true
+        → (node_in sizes journal y).mode ≡ Linked }
 {}
 
 /// The frozen part of a list holds exactly its edges that were handed over, and the others are linked. A frozen word
@@ -62,9 +74,9 @@ pub fn frozen_parts_are_handed_over()
         → (is_listed (state sizes journal) x y ≡ true) × ((state sizes journal).frozen x ≡ true) }
 {}
 
-/// While a vertex is in its life, a closed head stays closed, a list that is frozen to its end stays so, and an edge of
-/// the frozen part stays in it until it's given back. No list takes up an edge that isn't fresh; so where each list on
-/// which an edge stood was frozen to its end, each is on which it stands.
+/// While a vertex is in its life, a closed head stays closed, a list that is frozen to its end stays so, and an edge
+/// of the frozen part stays in it until it's given back. No list takes up an edge that isn't fresh; so where each list
+/// on which an edge stood was frozen to its end, each is on which it stands.
 pub fn closed_lists_stay()
     ensures head { (sizes : Sizes) → IsLayout sizes → (x : ℕ) (front journal : List Event) → IsPrefix front journal
         → IsKept sizes journal → (node_in sizes journal x).tag ≡ (node_in sizes front x).tag
@@ -109,7 +121,7 @@ pub fn a_present_edge_is_on_its_list()
 
 /// No two edges that aren't marked have one pair of source and key. Of two edges of one source and one key of which
 /// neither was unlinked, where the source has a list, or one of them isn't marked, the one that was linked first is
-/// marked.
+/// marked. So one present edge has a pair of keys (`pair`), and the graph has the pair with its weight (`weight`).
 pub fn one_edge_has_a_pair()
     ensures listed { (sizes : Sizes) → IsLayout sizes → (journal : List Event) → IsKept sizes journal
         → (source : ℕ) → HasList sizes journal source → (x y : Life)
@@ -122,4 +134,10 @@ pub fn one_edge_has_a_pair()
         → (x y : Life) (a b : Event) → link_of journal x ≡ Some a → link_of journal y ≡ Some b
         → a.source ≡ b.source → a.key ≡ b.key → edge_marked journal x ≡ false → edge_marked journal y ≡ false
         → x ≡ y }
+    ensures pair { (sizes : Sizes) → IsLayout sizes → (journal : List Event) → IsKept sizes journal
+        → (x y : Life) (a b v w : ℕ) → present_pair journal x ≡ Some ((a, b), v)
+        → present_pair journal y ≡ Some ((a, b), w) → x ≡ y }
+    ensures weight { (sizes : Sizes) → IsLayout sizes → (journal : List Event) → IsKept sizes journal
+        → (x : Life) (a b w : ℕ) → present_pair journal x ≡ Some ((a, b), w)
+        → weight_of (graph_of journal) a b ≡ Some w }
 {}

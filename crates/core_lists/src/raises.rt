@@ -14,16 +14,16 @@ ghost use Rattle.core_journal.specs.Life.{edge_linked, link_of, vertex_marked};
 ghost use Rattle.core_journal.specs.Machine.{word_at};
 ghost use Rattle.core_journal.specs.Prefix.{IsPrefix};
 ghost use Rattle.core_journal.specs.State.{Fresh};
-ghost use Rattle.core_kept.specs.Counts.{made};
+ghost use Rattle.core_kept.specs.Counts.{all_made, made};
 ghost use Rattle.core_kept.specs.Edges.{IsRaisedFor};
 ghost use Rattle.core_journal.specs.Reuse.{pass_in};
 ghost use Rattle.core_kept.specs.Kept.{IsKept};
 ghost use Rattle.core_kept.specs.Nodes.{node_in};
 ghost use Rattle.core_lists.specs.Raised.{IsLinkedLower};
 
-/// Each edge that is marked, by its replacement too, while its source isn't was linked at a lower counter of the source.
-/// So was each edge for which a caller raised that counter in its open pass (`raised`), and the source's node isn't
-/// stored for the free list then (`unstored`). A counter never falls while its node isn't taken again.
+/// Each edge that is marked, by its replacement too, while its source isn't was linked at a lower counter of the
+/// source. So was each edge for which a caller raised that counter in its open pass (`raised`), and the source's node
+/// isn't stored for the free list then (`unstored`). A counter never falls while its node isn't taken again.
 pub fn marked_edges_were_linked_at_a_lower_counter()
     ensures marked { (sizes : Sizes) → IsLayout sizes → (journal : List Event) → IsKept sizes journal
         → (p : ℕ) (e link : Event) → slice_get journal p ≡ Some e → cuts_edge e.kind ≡ true
@@ -44,10 +44,12 @@ pub fn marked_edges_were_linked_at_a_lower_counter()
 {}
 
 /// Few edges are ever linked: a caller links at most as many as it took nodes, and lives that differ and were all
-/// linked as edges are at most 2^36.
+/// linked as edges are at most the events that link edges (`links`), and at most 2^36.
 pub fn few_edges_are_linked()
     ensures caller { (sizes : Sizes) (journal : List Event) → IsKept sizes journal → (caller : ℕ)
         → made links_edge caller journal ≤ made pops caller journal }
     ensures all { (sizes : Sizes) → IsLayout sizes → (journal : List Event) → IsKept sizes journal → (xs : List Life)
         → AllPairs ◌≢◌ xs → All (λ (x : Life). edge_linked journal x ≡ true) xs → length xs ≤ 2 ^ 36 }
+    ensures links { (journal : List Event) (xs : List Life) → AllPairs ◌≢◌ xs
+        → All (λ (x : Life). edge_linked journal x ≡ true) xs → length xs ≤ all_made links_edge journal }
 {}

@@ -3,7 +3,8 @@
 //! A walk loads a word, goes to the node to which it leads, loads a word of that node, and so on. Until it's stored for
 //! the free list, a spent node keeps its link, which led to a linked node or to one that was spent with it. So each
 //! word that a walk in an open pass loads leads to none or to a node that this pass has met (`HasMet`), along one
-//! bucket or one list, by rising keys: strictly along a bucket, and behind each unmarked edge.
+//! bucket or one list, by rising keys: two nodes one behind the other have one key only where they are edges and the
+//! first is marked.
 
 ghost use Rattle.std.specs.Prelude.{◌≡◌, ℕ, ◌<◌, true, List};
 ghost use Rattle.graph_kinds.specs.History.{Every};
@@ -26,10 +27,10 @@ pub fn spent_nodes_lead_no_further_back()
 
 /// What a walk in an open pass meets, that pass has met. The word of a bucket leads to none or to a vertex of this
 /// bucket. The link of a node that was met, marked or not, leads to none or to a node of its bucket or its source with
-/// a greater key. The second word of a vertex that was met, closed or not, leads to none or to an edge of its life.
-/// Each linked node is met. So each load of a walk led to none or to a node that the pass had met then, and has met
-/// still, in the same life (`walk`): also where nodes of it were marked, unlinked, or had their lists frozen in
-/// between.
+/// no smaller key, and with a greater one where it's a vertex or the link is unmarked. The second word of a vertex that
+/// was met, closed or not, leads to none or to an edge of its life. Each linked node is met. So each load of a walk led
+/// to none or to a node that the pass had met then, and has met still, in the same life (`walk`): also where nodes of
+/// it were marked, unlinked, or had their lists frozen in between.
 pub fn a_walk_meets_what_its_pass_may_hold()
     ensures head { (sizes : Sizes) → IsLayout sizes → (journal : List Event) → IsKept sizes journal
         → (caller : ℕ) → (pass_in sizes journal caller).is_open ≡ true → (j : ℕ) → j < sizes.buckets

@@ -239,6 +239,21 @@ module _ (v : View) (z : IsLayout v.sizes) (journal : List Event) (r : Reaches v
       let who = part_who v.sizes z v.front old source.index y list.used list.vertex part (used_at source list y on) in
       (record { spent = who.0; mine = who.1 ∙ spent.mine }, ((listing v.sizes z v.front old).on source.index y on).there)
 
+  -- the edge to which an own frozen word leads is in its life still, linked or spent, and stands on the list
+  pub edge_behind : (source : Life) (place : ℕ) (x : Life) → MayFreezeEdge v source place x
+      → ((node_in v.sizes journal x.index).tag ≡ x.tag) × IsUsed (node_in v.sizes journal x.index).mode × (is_listed (state v.sizes journal) source.index x.index ≡ true)
+  edge_behind source place x m =
+      let old : IsKept v.sizes v.front = kept_front v.sizes v.front journal r.front r.kept in
+      let vertex : IsVertex v.sizes v.front source = record { there = m.life.there; life = m.life.tag; used = m.list.used; vertex = m.list.vertex } in
+      let on : is_listed (state v.sizes v.front) source.index x.index ≡ true = ⊎_elim
+      (λ (none : index_of (word_at v.sizes v.front place) ≡ nowhere). absurd (let t = m.edge.there in omega (arith, none, m.leads, t, z.few_nodes)))
+      (λ (h : is_listed (state v.sizes v.front) source.index (index_of (word_at v.sizes v.front place)) ≡ true). subst (λ (i : ℕ). is_listed (state v.sizes v.front) source.index i ≡ true) m.leads h)
+      (kept_leads v.sizes z v.front old source.index place m.list m.frozen) in
+      let b : IsBehind x.tag source.index x.index (state v.sizes journal) =
+      behind_stays v.sizes z v.number v.last place x.index source v.front old r.old vertex m.spent m.frozen (handed_at source m.list m.spent) m.leads m.edge.there x.tag journal r.front r.kept r.quiet
+      record { life = sym m.edge.tag; used = used_at source m.list x.index on; on = on } in
+      (b.life, b.used, b.on)
+
   -- an edge is frozen
   pub lift_freeze_edge : (source : Life) (place : ℕ) (x : Life) → MayFreezeEdge v source place x → mark_of (word_at v.sizes journal (link_at v.sizes x.index)) ≡ 0 → IsFreezeEdge v.sizes journal (freeze_edge_event v x (word_at v.sizes journal (link_at v.sizes x.index)))
   lift_freeze_edge source place x m live =

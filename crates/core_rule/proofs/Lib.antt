@@ -12,3 +12,11 @@ pub mod UnlinkLifts
 pub mod VertexLifts
 pub mod ViewShows
 pub mod ViewsFit
+pub mod OwnStretch
+pub mod CallLimits
+pub mod AlikeViews
+pub mod SpentSince
+pub mod OwnByKind
+pub mod ShownTargets
+pub mod RetiredStays
+pub mod RoomInLimbo

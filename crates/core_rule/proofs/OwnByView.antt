@@ -86,11 +86,13 @@ module _ (v w : View) (own : Option Event) (z : IsLayout v.sizes) (t : Steps v o
       record { spent = record { spent = ap (λ (n : Node). n.mode) h.node ∙ f.spent; mine = ap (λ (n : Node). n.who) h.node ∙ f.mine }; tag = ap (λ (n : Node). n.tag) h.node; vertex = ap (λ (n : Node). n.vertex) h.node }
       (λ e other kept p. let k = spent_still v.sizes t.grown e kept z v.number x other p.spent in record { spent = k.0; tag = k.1 ∙ p.tag; vertex = k.2 ∙ p.vertex })
 
-  pub own_spent_still : (x : Life) → Spares (GivesOther x.index) own → IsLifeAt v x → IsSpentWith v.sizes v.front v.number x.index → IsSpentWith w.sizes w.front w.number x.index × IsLifeAt w x
+  pub own_spent_still : (x : Life) → Spares (GivesOther x.index) own → IsLifeAt v x → IsSpentWith v.sizes v.front v.number x.index
+      → IsSpentWith w.sizes w.front w.number x.index × IsLifeAt w x × ((node_in w.sizes w.front x.index).vertex ≡ (node_in v.sizes v.front x.index).vertex)
   own_spent_still x spares l f =
       let r = spent_there x.index l.there spares f in (
         at_view v w own t (λ (s : Sizes) (j : List Event) (n : ℕ). IsSpentWith s j n x.index) r.spent,
         subst (λ (u : View). IsLifeAt u x) (sym t.view) record { there = l.there; tag = l.tag ∙ sym r.tag },
+        at_view v w own t (λ (s : Sizes) (j : List Event) (n : ℕ). (node_in s j x.index).vertex ≡ (node_in v.sizes v.front x.index).vertex) r.vertex,
       )
 
   pub own_stamp_still : (x stamp : ℕ) → Spares (GivesOther x) own → IsStamped v.sizes v.front v.number x stamp → IsStamped w.sizes w.front w.number x stamp

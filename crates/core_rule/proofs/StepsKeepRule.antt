@@ -7,23 +7,28 @@ use Rattle.atomic_table.specs.Table.{step, Act, Valid, carried_after, keeps, ste
 use Rattle.atomic_table.proofs.Lists.{at_set}
 use Rattle.graph_kinds.specs.History.{Every}
 use Rattle.graph_kinds.specs.declared.entry.Entry.{Entry}
-use Rattle.packed_link.specs.Layout.{Sizes, IsLayout}
+use Rattle.packed_link.specs.Layout.{Sizes, IsLayout, number_at}
 use Rattle.core_journal.specs.Event.{draws}
 use Rattle.core_journal.specs.declared.event.Event.{Event}
-use Rattle.core_journal.specs.Machine.{machine}
+use Rattle.core_journal.specs.Machine.{machine, word_at}
 use Rattle.core_journal.specs.State.{state}
 use Rattle.core_journal.proofs.Lists.{every_map, every_both, every_append, prefix_refl, prefix_trans, prefix_snoc, prefix_length}
 use Rattle.core_journal.proofs.MachineWords.{machine-snoc}
 use Rattle.core_kept.specs.Kept.{Allowed, AllowedAs}
 use Rattle.core_kept.specs.Passes.{IsDrawNumber}
 use Rattle.core_rule.specs.Owes.{Owes, OwesStore}
-use Rattle.core_rule.specs.Plays.{AtSeat, seen, stepped, numbered, replied, draw_event, looking, turning, storing, drawing, replying, meeting, newcomer, stays, both}
+use Rattle.core_rule.specs.Plays.{AtSeat, seen, stepped, numbered, replied, draw_event, looking, turning, storing, drawing, replying, meeting, newcomer, stays, both_fronts}
 use Rattle.core_rule.specs.Rule.{IsAccount, IsDrawer, Fits, Ruled, reach, spent_view, own_account}
 use Rattle.core_rule.specs.declared.view.View.{View}
 use Rattle.core_kept.proofs.Induction.{kept_snoc}
 use Rattle.core_kept.proofs.FirstWords.{numbers}
 use Rattle.core_kept.proofs.Callers.{quiet_end, drawn_other, drawn_draw}
 use Rattle.core_rule.proofs.ViewsFit.{Table, account_more, account_far, fits_more, fits_seen, seats_set, same_words, found_word, sound_after, reaches}
+
+-- the word of numbers that a token with the right to draw finds is its count
+drawn_word : (v : View) (s : Table) (h : Ruled v.sizes s) (i id : ℕ) → get_elem? s.views id ≡ some v → v.draws ≡ true → i ≡ number_at v.sizes → slice_index s.words i ≡ v.drawn
+drawn_word v s h i id me draws at =
+    found_word v.sizes s h i ∙ (ap (word_at v.sizes h.journal) at ∙ ((numbers v.sizes h.journal h.kept).numbers ∙ sym (((h.seats id v me).draws draws).drawn)))
 
 -- a load
 pub looks : (n id i : ℕ) (v : View) → Allows (Ruled v.sizes) n id (v, []) i (λ x. x) (looking (step n i 0 0 none) (v, []))
@@ -35,7 +40,7 @@ looks n id i v s h wide me _ =
       keeps,
       tt,
       after,
-      (record { grows = f.front; word = found_word v.sizes s h i; sound = sound_after v.sizes s i _ id v w me refl after; view = refl }, refl),
+      (record { grows = f.front; word = found_word v.sizes s h i; count = drawn_word v s h i id me; sound = sound_after v.sizes s i _ id v w me refl after; view = refl }, refl),
     )
 
 -- an event of a seat that has a number
@@ -103,7 +108,7 @@ turns n id i a b said v f wins event has owes s h wide me _ = by_case (wins (sli
           subst (λ (y : ℕ). Ruled v.sizes (step_to s i y id [] (seen v h.journal) keeps)) (sym (owes.lose _ is)) after,
           (
             (λ won. absurd (true≢false (sym won ∙ is))),
-            (λ _. record { grows = fits.front; word = found_word v.sizes s h i; sound = sound_after v.sizes s i _ id v (seen v h.journal) me refl after; view = refl }),
+            (λ _. record { grows = fits.front; word = found_word v.sizes s h i; count = drawn_word v s h i id me; sound = sound_after v.sizes s i _ id v (seen v h.journal) me refl after; view = refl }),
             refl,
           ),
         )
@@ -261,11 +266,11 @@ fits_spent : (sizes : Sizes) (journal : List Event) (d : ℕ) (o : ℕ → ℕ) 
 fits_spent sizes journal d o j = record { front = record { rest = journal; whole = refl }; met = record { rest = journal; whole = refl }; draws = λ t. absurd (true≢false (sym t)); numbered = λ t. absurd (true≢false (sym t)); others = tt; apart = λ _. tt }
 
 -- the seat answers for the other's numbers, and takes over the right to draw where the other has it
-pub joins : (sizes : Sizes) (id : ℕ) (v : View) (other : ℕ) (w : View) → v.met ≡ [] → w.met ≡ [] → Joins (Ruled sizes) id v other w (both v w) spent_view
+pub joins : (sizes : Sizes) (id : ℕ) (v : View) (other : ℕ) (w : View) → v.met ≡ [] → w.met ≡ [] → Joins (Ruled sizes) id v other w (both_fronts v w) spent_view
 joins sizes id v other w bare bare' s h me apart there = by_case w.draws refl
   where
     theirs : Fits sizes h.journal h.drawer h.owner other w
-    theirs = ⊎_elim (λ (t : (other ≡ id) × (both v w ≡ w)). absurd (apart t.0)) (λ (t : (other ≢ id) × (get_elem? s.views other ≡ some w)). h.seats other w t.1) (at_set s.views id other (both v w) w there)
+    theirs = ⊎_elim (λ (t : (other ≡ id) × (both_fronts v w ≡ w)). absurd (apart t.0)) (λ (t : (other ≢ id) × (get_elem? s.views other ≡ some w)). h.seats other w t.1) (at_set s.views id other (both_fronts v w) w there)
 
     taken : (k : ℕ) → h.owner k ≡ other → cond (eqb (h.owner k) other) id (h.owner k) ≡ id
     taken k e = ap (λ (c : Bool). cond c id (h.owner k)) (eq-eqb (h.owner k) other e)
@@ -273,41 +278,41 @@ joins sizes id v other w bare bare' s h me apart there = by_case w.draws refl
     kept : (k j : ℕ) → j ≢ other → h.owner k ≡ j → cond (eqb (h.owner k) other) id (h.owner k) ≡ j
     kept k j ne e = ap (λ (c : Bool). cond c id (h.owner k)) (ne_eqb (h.owner k) other (λ q. ne (sym e ∙ q))) ∙ e
 
-    by_case : (b : Bool) → w.draws ≡ b → Ruled sizes (record { words = s.words; homes = s.homes; views = set (set s.views id (both v w)) other spent_view })
+    by_case : (b : Bool) → w.draws ≡ b → Ruled sizes (record { words = s.words; homes = s.homes; views = set (set s.views id (both_fronts v w)) other spent_view })
     by_case b is =
         let f = h.seats id v me in
         let d : ℕ = cond b id h.drawer in
         let o : ℕ → ℕ = λ k. cond (eqb (h.owner k) other) id (h.owner k) in
-        let A : ℕ × ℕ → Type 0 = IsAccount sizes h.journal o id (reach (both v w)) in
-        let short : reach v ≤ reach (both v w) = omega (arith, ap length bare) in
-        let short' : reach w ≤ reach (both v w) = omega (arith, ap length bare') in
+        let A : ℕ × ℕ → Type 0 = IsAccount sizes h.journal o id (reach (both_fronts v w)) in
+        let short : reach v ≤ reach (both_fronts v w) = omega (arith, ap length bare) in
+        let short' : reach w ≤ reach (both_fronts v w) = omega (arith, ap length bare') in
         let away_id : id ≢ other = λ e. apart (sym e) in record {
           journal = h.journal;
           drawer = d;
           owner = o;
           words = h.words;
           kept = h.kept;
-          seats = seats_set sizes h.journal d o (set s.views id (both v w)) other spent_view
+          seats = seats_set sizes h.journal d o (set s.views id (both_fronts v w)) other spent_view
               (λ j u away at. ⊎_elim
-              (λ (x : (j ≡ id) × (both v w ≡ u)). subst (λ (y : ℕ × View). Fits sizes h.journal d o y.0 y.1) (λ i. (sym x.0 i, x.1 i)) record {
+              (λ (x : (j ≡ id) × (both_fronts v w ≡ u)). subst (λ (y : ℕ × View). Fits sizes h.journal d o y.0 y.1) (λ i. (sym x.0 i, x.1 i)) record {
                 front = f.front;
                 met = theirs.front;
                 draws = mine b is;
                 numbered = λ t. account_far sizes h.journal h.owner o id id (length v.front) (length v.front) (v.number, v.last) (kept v.number id away_id) (omega arith) (f.numbered t);
                 others = every_append A v.others (own_account w ++ w.others)
-                    (every_map (IsAccount sizes h.journal h.owner id (reach v)) A (λ a c. account_far sizes h.journal h.owner o id id (reach v) (reach (both v w)) a (kept a.0 id away_id) short c) v.others f.others)
+                    (every_map (IsAccount sizes h.journal h.owner id (reach v)) A (λ a c. account_far sizes h.journal h.owner o id id (reach v) (reach (both_fronts v w)) a (kept a.0 id away_id) short c) v.others f.others)
                     (every_append A (own_account w) w.others (owned w.numbered refl short')
-                    (every_map (IsAccount sizes h.journal h.owner other (reach w)) A (λ a c. account_far sizes h.journal h.owner o other id (reach w) (reach (both v w)) a (taken a.0) short' c) w.others theirs.others));
+                    (every_map (IsAccount sizes h.journal h.owner other (reach w)) A (λ a c. account_far sizes h.journal h.owner o other id (reach w) (reach (both_fronts v w)) a (taken a.0) short' c) w.others theirs.others));
                 apart = λ t. let n = f.numbered t in every_append (λ (a : ℕ × ℕ). a.0 ≢ v.number) v.others (own_account w ++ w.others) (f.apart t)
                     (every_append (λ (a : ℕ × ℕ). a.0 ≢ v.number) (own_account w) w.others (strange w.numbered refl n.own)
                     (every_map (IsAccount sizes h.journal h.owner other (reach w)) (λ (a : ℕ × ℕ). a.0 ≢ v.number) (λ a c same. apart (sym c.own ∙ (ap h.owner same ∙ n.own))) w.others theirs.others));
               })
               (λ (x : (j ≢ id) × (get_elem? s.views j ≡ some u)). fits_drawer sizes h.journal h.drawer d h.owner o j u (λ k e. kept k j away e) (λ t. rest_of b is j u away x.1 t) (h.seats j u x.1))
-              (at_set s.views id j (both v w) u at))
+              (at_set s.views id j (both_fronts v w) u at))
               (fits_spent sizes h.journal d o other);
         }
       where
-        mine : (b : Bool) → w.draws ≡ b → (both v w).draws ≡ true → IsDrawer sizes h.journal (cond b id h.drawer) id (both v w)
+        mine : (b : Bool) → w.draws ≡ b → (both_fronts v w).draws ≡ true → IsDrawer sizes h.journal (cond b id h.drawer) id (both_fronts v w)
         mine true is t = record { one = refl; drawn = ap (λ (c : Bool). cond c w.drawn v.drawn) is ∙ (theirs.draws is).drawn }
         mine false is t = let g = (h.seats id v me).draws (sym (ap (λ (c : Bool). cond c true v.draws) is) ∙ t) in record { one = g.one; drawn = ap (λ (c : Bool). cond c w.drawn v.drawn) is ∙ g.drawn }
 
@@ -315,8 +320,8 @@ joins sizes id v other w bare bare' s h me apart there = by_case w.draws refl
         rest_of true is j u away at t = absurd (away (((h.seats j u at).draws t).one ∙ sym (theirs.draws is).one))
         rest_of false is j u away at t = ((h.seats j u at).draws t).one
 
-        owned : (c : Bool) → w.numbered ≡ c → reach w ≤ reach (both v w) → Every (IsAccount sizes h.journal (λ k. cond (eqb (h.owner k) other) id (h.owner k)) id (reach (both v w))) (cond c ((w.number, w.last) ∷ []) [])
-        owned true has near = (account_far sizes h.journal h.owner (λ k. cond (eqb (h.owner k) other) id (h.owner k)) other id (length w.front) (reach (both v w)) (w.number, w.last) (taken w.number) (omega (arith, near)) (theirs.numbered has), tt)
+        owned : (c : Bool) → w.numbered ≡ c → reach w ≤ reach (both_fronts v w) → Every (IsAccount sizes h.journal (λ k. cond (eqb (h.owner k) other) id (h.owner k)) id (reach (both_fronts v w))) (cond c ((w.number, w.last) ∷ []) [])
+        owned true has near = (account_far sizes h.journal h.owner (λ k. cond (eqb (h.owner k) other) id (h.owner k)) other id (length w.front) (reach (both_fronts v w)) (w.number, w.last) (taken w.number) (omega (arith, near)) (theirs.numbered has), tt)
         owned false has near = tt
 
         strange : (c : Bool) → w.numbered ≡ c → h.owner v.number ≡ id → Every (λ (a : ℕ × ℕ). a.0 ≢ v.number) (cond c ((w.number, w.last) ∷ []) [])

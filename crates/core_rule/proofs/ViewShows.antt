@@ -65,7 +65,8 @@ reply_steps v entry w has s l =
     look_steps v 0 (word_at v.sizes w.front 0) (record w { book = v.book }) has s record {
       grows = l.grows;
       word = refl;
-      sound = record { kept = l.sound.kept; quiet = l.sound.quiet; old = l.sound.old };
+      count = λ _ at. absurd (omega (arith, at));
+      sound = record { kept = l.sound.kept; quiet = l.sound.quiet; old = l.sound.old; others = l.sound.others };
       view = ap (λ (u : View). record u { book = v.book }) l.view;
     }
 
@@ -75,7 +76,8 @@ meet_steps v w has s l =
     look_steps v 0 (word_at v.sizes w.front 0) (record w { met = v.met }) has s record {
       grows = l.grows;
       word = refl;
-      sound = record { kept = l.sound.kept; quiet = l.sound.quiet; old = l.sound.old };
+      count = λ _ at. absurd (omega (arith, at));
+      sound = record { kept = l.sound.kept; quiet = l.sound.quiet; old = l.sound.old; others = l.sound.others };
       view = ap (λ (u : View). record u { met = v.met }) l.view;
     }
 

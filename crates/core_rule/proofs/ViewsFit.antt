@@ -12,7 +12,7 @@ use Rattle.core_journal.specs.declared.event.Event.{Event}
 use Rattle.core_journal.specs.Machine.{opening_words, machine, word_at}
 use Rattle.core_journal.specs.State.{state}
 use Rattle.core_journal.proofs.Lists.{every_map, prefix_refl, prefix_trans, prefix_snoc, prefix_length}
-use Rattle.core_kept.specs.Kept.{IsKept}
+use Rattle.core_kept.specs.Kept.{IsKept, IsQuiet}
 use Rattle.core_rule.specs.Owes.{Reaches}
 use Rattle.core_rule.specs.Plays.{IsSound, seen}
 use Rattle.core_rule.specs.Rule.{IsAccount, Fits, Ruled, reach, first_view}
@@ -100,6 +100,7 @@ sound_at sizes s h id v me same =
       kept = subst (λ (z : Sizes). IsKept z v.front) (sym same) (kept_front sizes v.front h.journal f.front h.kept);
       quiet = λ has. quiet_front v.front h.journal v.number v.last f.front (f.numbered has).quiet;
       old = λ has. (f.numbered has).old;
+      others = every_map (IsAccount sizes h.journal h.owner id (reach v)) (λ (a : ℕ × ℕ). IsQuiet v.front a.0 a.1) (λ a c. quiet_front v.front h.journal a.0 a.1 f.front c.quiet) v.others f.others;
     }
 
 pub sound_after : (sizes : Sizes) (s : Table) (i x id : ℕ) (v w : View) → get_elem? s.views id ≡ some v → w.sizes ≡ sizes → Ruled sizes (step_to s i x id [] w keeps) → IsSound w

@@ -1,7 +1,7 @@
 -- What a token must know by its front, so that its next step of a kind is allowed wherever it wins: one condition a
 -- kind. "Met" is what an open pass has met (`HasMet`). An earlier moment, at which the token loaded a word, stands only
--- in those for taking a node, announcing, moving the epoch on, raising, marking and replacing an edge, and where the node
--- is ripe.
+-- in those for taking a node, announcing, moving the epoch on, raising, marking and replacing an edge, and where the
+-- node is ripe.
 use Rattle.std.specs.Prelude.{◌≡◌, ◌≢◌, ℕ, ◌+◌, ◌%◌, ◌<◌, ◌^◌, ◌⊎◌, true, false, List, Some, length}
 use Rattle.packed_link.specs.Link.{index_of, mark_of, tag_of, nowhere}
 use Rattle.packed_link.specs.Layout.{free_at, epoch_at, bucket_at, key_at, link_at, second_at}
@@ -171,7 +171,8 @@ pub record MayMarkEdge (v : View) (source x : Life) : Type 0 where
   pub raised : IsRaisedFor v.sizes v.front v.number x source
 
 -- the edge was met, and in this pass the token raised the counter of its source when the edge was linked; the word seen
--- is unmarked, and the fresh node is filled with where it leads, with the edge's key and target, and with another weight
+-- is unmarked, and the fresh node is filled with where it leads, with the edge's key and target, and with another
+-- weight
 pub record MayReplaceEdge (v : View) (seen key : ℕ) (source target : Life) (weight : ℕ) (old x : Life) : Type 0 where
   pub life : IsLifeAt v x
   pub edge : MetEdge v source old
@@ -252,9 +253,12 @@ pub record MayStoreFree (v : View) (next : ℕ) (x : Life) : Type 0 where
   pub list : (y : ℕ) → y < v.sizes.nodes → is_listed (state v.sizes v.front) y x.index ≡ true
       → IsFrozenToEnd v.sizes v.front y
 
--- the node is ripe, and its link was stored with where the word seen leads
+-- the word of the free list was seen, the node is ripe, and its link was stored with where that word leads
 pub record MayPushFree (v : View) (seen : ℕ) (x : Life) : Type 0 where
   pub life : IsLifeAt v x
+  pub first : List Event
+  pub before : IsPrefix first v.front
+  pub word : word_at v.sizes first (free_at v.sizes) ≡ seen
   pub ripe : IsRipe v.sizes v.front v.number x.index
   pub stored : (node_in v.sizes v.front x.index).stored ≡ true
   pub ready : index_of (word_at v.sizes v.front (link_at v.sizes x.index)) ≡ index_of seen

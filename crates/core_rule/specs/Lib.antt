@@ -4,3 +4,5 @@ pub mod OwnEvents
 pub mod Plays
 pub mod Rule
 pub mod Views
+pub mod Stretches
+pub mod Retired

@@ -93,8 +93,8 @@ mark_edge_event v x found =
       life = x;
     }
 
--- an edge is replaced: the word seen of its link, marked, then leads to the new one, which has its key, source and target
--- and this weight
+-- an edge is replaced: the word seen of its link, marked, then leads to the new one, which has its key, source and
+-- target and this weight
 abbrev pub replace_event : View → ℕ → ℕ → Life → Life → ℕ → Life → Life → Event
 replace_event v seen key source target weight old x =
     record blank {

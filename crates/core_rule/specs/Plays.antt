@@ -1,7 +1,9 @@
 -- What each step on the one table tells its token.
 use Rattle.std.specs.Prelude.{◌≡◌, ℕ, ◌+◌, ◌≤◌, Bool, true, false, cond, List, [], ◌∷◌, ◌++◌, length}
 use Rattle.atomic_table.specs.Table.{Me, Step}
+use Rattle.graph_kinds.specs.History.{Every}
 use Rattle.graph_kinds.specs.declared.entry.Entry.{Entry}
+use Rattle.packed_link.specs.Layout.{number_at}
 use Rattle.graph_kinds.specs.declared.outcome.Outcome.{Outcome}
 use Rattle.graph_kinds.specs.declared.outcome.Outcome.TheVariants.{Again}
 use Rattle.core_journal.specs.declared.event.Kind.TheVariants.{DrawNumber}
@@ -17,11 +19,13 @@ use Rattle.core_rule.specs.declared.view.View.{View}
 abbrev pub AtSeat : Type 0
 AtSeat = Me (Unit {0}) View
 
--- what holds of a token's view at any time: its front is a kept journal, and its own events end at its last
+-- what holds of a token's view at any time: its front is a kept journal, its own events end at its last, and those of
+-- each number that was joined to it at the length that stands beside the number
 pub record IsSound (v : View) : Type 0 where
   pub kept : IsKept v.sizes v.front
   pub quiet : v.numbered ≡ true → IsQuiet v.front v.number v.last
   pub old : v.numbered ≡ true → v.last ≤ length v.front
+  pub others : Every (λ (a : ℕ × ℕ). IsQuiet v.front a.0 a.1) v.others
 
 -- the view that has seen more of the journal
 abbrev pub seen : View → List Event → View
@@ -49,10 +53,12 @@ ended entry end = record entry { place = place_by entry.answer.outcome entry.pla
 abbrev pub replied : View → List Event → Entry → View
 replied v front entry = record v { front = front; book = v.book ++ ended entry (length front) ∷ [] }
 
--- a load: the token has seen the journal up to then, and the word is as the journal says
+-- a load: the token has seen the journal up to then, and the word is as the journal says. Where it's the word of
+-- numbers, a token with the right to draw has its count there
 pub record Looked (v : View) (place found : ℕ) (w : View) : Type 0 where
   pub grows : IsPrefix v.front w.front
   pub word : found ≡ word_at v.sizes w.front place
+  pub count : v.draws ≡ true → place ≡ number_at v.sizes → found ≡ v.drawn
   pub sound : IsSound w
   pub view : w ≡ seen v w.front
 
@@ -147,10 +153,10 @@ newcomer v =
 abbrev pub stays : View → View
 stays v = record v { draws = false }
 
--- a view to which another is joined: it answers for the other's numbers, has the right to draw of either, and holds the
--- other's front until it looks again
-abbrev pub both : View → View → View
-both v w =
+-- a view to which another is joined: it answers for the other's numbers, has the right to draw of either, and holds
+-- the other's front until it looks again
+abbrev pub both_fronts : View → View → View
+both_fronts v w =
     record v {
       met = w.front;
       others = v.others ++ (own_account w ++ w.others);

@@ -86,6 +86,14 @@ pub record AnswersForAll (v : View) : Type 0 where
   pub draws : v.draws ≡ true
   pub each : (number : ℕ) → number < v.drawn → HasAccount (own_account v ++ v.others) number
 
+-- the accounts of a view: its own, and those of the tokens that were joined to it
+abbrev pub accounts : View → List (ℕ × ℕ)
+accounts v = own_account v ++ v.others
+
+-- each number below that of callers is a token's own or that of a token that was joined to it, whoever may draw
+pub record AnswersForCallers (v : View) : Type 0 where
+  pub each : (number : ℕ) → number < v.sizes.callers → HasAccount (accounts v) number
+
 -- the rule of the one table
 pub record Ruled (sizes : Sizes) (s : TableState (Unit {0}) View) : Type 0 where
   pub journal : List Event

@@ -18,7 +18,8 @@ ghost use Rattle.core_journal.specs.declared.event.Kind.TheVariants.{Announce, L
 ghost use Rattle.core_journal.specs.declared.event.Kind.TheVariants.{MarkVertex};
 ghost use Rattle.core_journal.specs.declared.event.Kind.TheVariants.{FreezeEdge, FreezeHead, MoveEpoch, PopFree};
 ghost use Rattle.core_journal.specs.declared.event.Kind.TheVariants.{PushFree};
-ghost use Rattle.core_journal.specs.declared.event.Kind.TheVariants.{Raise, ReplaceEdge, StoreFree, StorePrivate, UnlinkEdge};
+ghost use Rattle.core_journal.specs.declared.event.Kind.TheVariants.{Raise, ReplaceEdge, StoreFree, StorePrivate};
+ghost use Rattle.core_journal.specs.declared.event.Kind.TheVariants.{UnlinkEdge};
 ghost use Rattle.core_journal.specs.declared.event.Kind.TheVariants.{UnlinkVertex, Withdraw};
 ghost use Rattle.core_journal.specs.Machine.{word_at};
 ghost use Rattle.core_kept.specs.Nodes.{IsSpentWith};
@@ -32,7 +33,8 @@ ghost use Rattle.core_kept.specs.Kept.{AllowedAs};
 ghost use Rattle.core_rule.specs.OwnEvents.{announce_event, freeze_edge_event, freeze_head_event, link_edge_event};
 ghost use Rattle.core_rule.specs.OwnEvents.{link_vertex_event, store_free_event};
 ghost use Rattle.core_rule.specs.OwnEvents.{mark_edge_event, mark_vertex_event, move_event, pop_event, push_event};
-ghost use Rattle.core_rule.specs.OwnEvents.{raise_event, replace_event, store_event, unlink_edge_event, unlink_vertex_event};
+ghost use Rattle.core_rule.specs.OwnEvents.{raise_event, replace_event, store_event, unlink_edge_event};
+ghost use Rattle.core_rule.specs.OwnEvents.{unlink_vertex_event};
 ghost use Rattle.core_rule.specs.OwnEvents.{withdraw_event};
 ghost use Rattle.core_rule.specs.Owes.{Reaches};
 

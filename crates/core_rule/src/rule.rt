@@ -8,14 +8,18 @@ ghost use Rattle.std.specs.Prelude.{◌≡◌, ℕ, ◌+◌, ◌%◌, ◌^◌, �
 ghost use mathlib.Core.Option.{none, some};
 ghost use lib.ListN.{get_elem?};
 ghost use Rattle.atomic_table.specs.Table.{Allows, Joins, Splits, State, opening, step};
+ghost use Rattle.graph_kinds.specs.History.{Every};
 ghost use Rattle.graph_kinds.specs.declared.entry.Entry.{Entry};
 ghost use Rattle.packed_link.specs.Layout.{IsLayout, Sizes};
 ghost use Rattle.core_journal.specs.declared.event.Event.{Event};
 ghost use Rattle.core_journal.specs.Machine.{opening_words, word_at};
 ghost use Rattle.core_rule.specs.declared.view.View.{View};
 ghost use Rattle.core_rule.specs.Owes.{Owes, OwesStore};
-ghost use Rattle.core_rule.specs.Plays.{both, drawing, looking, meeting, newcomer, replying, stays, storing, turning};
-ghost use Rattle.core_rule.specs.Rule.{AnswersForAll, Ruled, first_view, spent_view};
+ghost use Rattle.core_kept.specs.Kept.{IsQuiet};
+ghost use Rattle.core_rule.specs.Plays.{IsSound, both_fronts, drawing, looking, meeting, newcomer, replying, stays, storing};
+ghost use Rattle.core_rule.specs.Plays.{turning};
+ghost use Rattle.core_rule.specs.Rule.{AnswersForAll, AnswersForCallers, Ruled};
+ghost use Rattle.core_rule.specs.Rule.{accounts, first_view, spent_view};
 
 /// A new table with its opening words and its first token meets the rule.
 pub fn a_new_table_meets_the_rule()
@@ -56,16 +60,31 @@ pub fn a_reply_keeps_the_rule()
 pub fn splits_and_joins_keep_the_rule()
     ensures split { (sizes : Sizes) (seat : ℕ) (v : View) → Splits (Ruled sizes) seat v (stays v) (newcomer v) }
     ensures join { (sizes : Sizes) (seat other : ℕ) (v w : View) → v.met ≡ [] → w.met ≡ []
-        → Joins (Ruled sizes) seat v other w (both v w) spent_view }
+        → Joins (Ruled sizes) seat v other w (both_fronts v w) spent_view }
     ensures meet { (slots seat place : ℕ) (v : View)
         → Allows (Ruled v.sizes) slots seat (v, []) place (λ x. x) (meeting (step slots place 0 0 none) (v, [])) }
 {}
 
-/// Where a token answers for each number that was drawn, its front is the whole journal, and the words are those of it.
+/// Where a token answers for each number that was drawn, its front is the whole journal, and the words are those of
+/// it.
 pub fn a_last_token_knows_the_journal()
     ensures journal { (sizes : Sizes) (s : State (Unit {0}) View) (rule : Ruled sizes s) (seat : ℕ) (v : View)
         → get_elem? s.views seat ≡ some v → v.met ≡ [] → AnswersForAll v → rule.journal ≡ v.front }
     ensures word { (sizes : Sizes) (s : State (Unit {0}) View) → Ruled sizes s → (seat place word : ℕ) (v : View)
         → get_elem? s.views seat ≡ some v → v.met ≡ [] → AnswersForAll v → get_elem? s.words place ≡ some word
         → word ≡ word_at sizes v.front place }
+{}
+
+/// Where a token answers for each number below that of callers, its front is the whole journal, whoever has the right
+/// to draw: a token that was split off takes that right with it, so the end of a table can't rest on it. Each account
+/// of a token, its own and those that were joined to it, is quiet in its front: no event of that number stands there
+/// from the account's length on. So after the last join all events of all callers are known.
+pub fn a_token_of_all_callers_knows_the_journal()
+    ensures journal { (sizes : Sizes) (s : State (Unit {0}) View) (rule : Ruled sizes s) (seat : ℕ) (v : View)
+        → get_elem? s.views seat ≡ some v → v.met ≡ [] → v.sizes ≡ sizes → AnswersForCallers v
+        → rule.journal ≡ v.front }
+    ensures word { (sizes : Sizes) (s : State (Unit {0}) View) → Ruled sizes s → (seat place word : ℕ) (v : View)
+        → get_elem? s.views seat ≡ some v → v.met ≡ [] → v.sizes ≡ sizes → AnswersForCallers v
+        → get_elem? s.words place ≡ some word → word ≡ word_at sizes v.front place }
+    ensures quiet { (v : View) → IsSound v → Every (λ (a : ℕ × ℕ). IsQuiet v.front a.0 a.1) (accounts v) }
 {}

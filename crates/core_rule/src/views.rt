@@ -28,7 +28,7 @@ ghost use Rattle.core_rule.specs.Fronts.{IsVertexAbove, IsVertexBelow, LeadsToEd
 ghost use Rattle.core_rule.specs.Fronts.{MayRaise, MetEdge, MetVertex, key_in};
 ghost use Rattle.core_kept.specs.Kept.{IsKept};
 ghost use Rattle.core_kept.specs.Nodes.{IsFreshWith, IsFrozenToEnd, IsLinkedEdge, IsLinkedVertex, IsRipe, is_listed};
-ghost use Rattle.core_kept.specs.Nodes.{IsSpentWith, IsStamped};
+ghost use Rattle.core_kept.specs.Nodes.{IsSpentWith, IsStamped, node_in};
 ghost use Rattle.core_rule.specs.Plays.{IsSound, Looked, Met, Replied, Stored, Won};
 ghost use Rattle.graph_kinds.specs.declared.entry.Entry.{Entry};
 ghost use Rattle.core_rule.specs.Views.{GoesOn, IsEdgeBehind, IsEdgeIn, IsEdgeShown, IsVertexBehind, IsVertexIn};
@@ -36,11 +36,12 @@ ghost use Rattle.core_rule.specs.Views.{Spares, Steps};
 ghost use Rattle.core_lists.specs.Walks.{LeadsTo};
 ghost use Rattle.core_rule.specs.declared.view.View.{View};
 
-/// A load, a won step and a store are steps: others made events, and behind these the token made its own event or none.
-/// A load that ends a call is one but for the entry that it adds to the book (`reply`), and one behind a join but for
-/// the other's front, which is part of its own from then on (`meet`). The new view is of the same table and number, and
-/// its front goes on from the old one and is kept (`view`), with the token's event as its last (`last`). Where that is
-/// no announcement and no withdrawal, the new view is a later one in the same pass, and so it's after several steps.
+/// A load, a won step and a store are steps: others made events, and behind these the token made its own event or
+/// none. A load that ends a call is one but for the entry that it adds to the book (`reply`), and one behind a join
+/// but for the other's front, which is part of its own from then on (`meet`). The new view is of the same table and
+/// number, and its front goes on from the old one and is kept (`view`), with the token's event as its last (`last`).
+/// Where that is no announcement and no withdrawal, the new view is a later one in the same pass, and so it's after
+/// several steps.
 pub fn a_view_goes_on()
     ensures look { (v : View) (place found : ℕ) (w : View) → v.numbered ≡ true → IsSound v → Looked v place found w
         → Steps v None w }
@@ -62,9 +63,10 @@ pub fn a_view_goes_on()
 
 /// What is a token's own by its view is so by the next one, where the step's event, if it made one, spares it. A fresh
 /// node that the event isn't about keeps its words, and no other is taken by it; a spent node stays spent in its life,
-/// stamped and ripe, where it isn't given back, and keeps its key and its link where the event isn't about it; the list
-/// of a spent vertex stays one, with its frozen words, where nothing is stored for the free list or given back; lists
-/// that are frozen to their end stay so; and an event that isn't counted leaves the counts.
+/// a vertex or an edge as it was, stamped and ripe, where it isn't given back, and keeps its key and its link where
+/// the event isn't about it; the list of a spent vertex stays one, with its frozen words, where nothing is stored for
+/// the free list or given back; lists that are frozen to their end stay so; and an event that isn't counted leaves the
+/// counts.
 pub fn a_step_keeps_what_is_the_tokens_own()
     ensures fresh { (v w : View) (own : Option Event) → IsLayout v.sizes → Steps v own w → (x : ℕ) → x < v.sizes.nodes
         → Spares (λ (e : Event). x ≢ e.life.index) own → IsFreshWith v.sizes v.front v.number x
@@ -76,7 +78,8 @@ pub fn a_step_keeps_what_is_the_tokens_own()
     ensures spent { (v w : View) (own : Option Event) → IsLayout v.sizes → Steps v own w → (x : Life)
         → Spares (λ (e : Event). e.kind ≡ PushFree → e.life.index ≢ x.index) own → IsLifeAt v x
         → IsSpentWith v.sizes v.front v.number x.index
-        → IsSpentWith w.sizes w.front w.number x.index × IsLifeAt w x }
+        → IsSpentWith w.sizes w.front w.number x.index × IsLifeAt w x
+        × ((node_in w.sizes w.front x.index).vertex ≡ (node_in v.sizes v.front x.index).vertex) }
     ensures spent_words { (v w : View) (own : Option Event) → IsLayout v.sizes → Steps v own w → (x : ℕ)
         → x < v.sizes.nodes → Spares (λ (e : Event). x ≢ e.life.index) own → IsSpentWith v.sizes v.front v.number x
         → IsKeptSpent v.sizes v.front w.front x }
@@ -109,9 +112,9 @@ pub fn a_step_keeps_what_is_the_tokens_own()
         → made test w.number w.front ≡ made test v.number v.front }
 {}
 
-/// What a view's pass has met, a later view of this pass has met: the same lives, with their keys, and their links once
-/// they're marked. So the words before and behind which a vertex or an edge may stand are such words still, and what
-/// was raised in the pass or may be raised is so still.
+/// What a view's pass has met, a later view of this pass has met: the same lives, with their keys, and their links
+/// once they're marked. So the words before and behind which a vertex or an edge may stand are such words still, and
+/// what was raised in the pass or may be raised is so still.
 pub fn a_later_view_has_met_it()
     ensures vertex { (v w : View) → IsLayout v.sizes → GoesOn v w → (x : Life) → MetVertex v x → MetVertex w x }
     ensures edge { (v w : View) → IsLayout v.sizes → GoesOn v w → (source x : Life) → MetEdge v source x
@@ -158,10 +161,10 @@ pub fn a_word_leads_to_what_is_met()
         → LeadsTo (word_at v.sizes v.front (second_at v.sizes x.index)) (IsEdgeIn v x) }
 {}
 
-/// What the words of a node show that was met: its link has the tag of its life, and so has a vertex's second word; the
-/// key, of an edge also its source, target and weight, are those with which it was linked. Where its link is unmarked
-/// it's linked and not marked, so a vertex is present, and the counter of an edge's source may be raised; where it's
-/// marked, it's marked.
+/// What the words of a node show that was met: its link has the tag of its life, and so has a vertex's second word;
+/// the key, of an edge also its source, target and weight, are those with which it was linked. Where its link is
+/// unmarked it's linked and not marked, so a vertex is present, and the counter of an edge's source may be raised;
+/// where it's marked, it's marked.
 pub fn the_words_of_a_met_node_tell_its_life()
     ensures life { (v : View) → IsLayout v.sizes → IsKept v.sizes v.front → (x : Life) → IsLifeAt v x
         → HasMet v.sizes v.front v.number x.index → tag_of (word_at v.sizes v.front (link_at v.sizes x.index)) ≡ x.tag }

@@ -288,6 +288,9 @@ pub may_push : MayPushFree (view_at 0 50) (pack 3 0 5) (first_life 0)
 unfolding machine word_at state
 may_push = record {
   life = record { there = lit< tt; tag = refl };
+  first = before 50;
+  before = whole (before 50);
+  word = refl;
   ripe = ripe (before 50) 0 (record { rest = drop 47 (before 50); whole = refl }) refl refl refl refl;
   stored = refl;
   ready = refl;

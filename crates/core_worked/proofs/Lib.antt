@@ -1,6 +1,8 @@
 pub mod Beside
 pub mod FirstEvents
 pub mod KnownSteps
+pub mod LawSteps
+pub mod OneNode
 pub mod Refusals
 pub mod Replacing
 pub mod ReplacingBooks
@@ -10,4 +12,7 @@ pub mod SmallSteps
 pub mod TwoCallersKept
 pub mod TwoLives
 pub mod TwoLivesShown
+pub mod WorkedCounts
+pub mod WorkedSweep
 pub mod WorkedWalk
+pub mod MomentsShown

@@ -18,9 +18,9 @@ use Rattle.core_kept.specs.Edges.{IsLinkEdge, IsMarkEdge, IsRaise, IsUnlinkEdge}
 use Rattle.core_kept.specs.FreeNodes.{IsPopFree, IsStoreFree}
 use Rattle.core_kept.specs.Kept.{Allowed, AllowedAs, IsKept}
 use Rattle.core_kept.specs.Passes.{IsChecked, IsMoveEpoch}
-use Rattle.core_worked.specs.Refused.{IsRefused, holding, outside, made_in_a_pass, event_of, inside, moves_own, edgeless, unraised, closed, unmet, raises_again, unmet_source, unmet_target, unmet_list, lagging, early, unclosed}
+use Rattle.core_worked.specs.Refused.{IsRefusedBehind, holding, outside, made_in_a_pass, event_of, inside, moves_own, edgeless, unraised, closed, unmet, raises_again, unmet_source, unmet_target, unmet_list, lagging, early, unclosed}
 use Rattle.core_kept.specs.Nodes.{node_in, IsLinkedVertex}
-use Rattle.core_worked.specs.TwoLives.{raises_source, links_new, marks_first, marks_vertex, unlinks_vertex, stores_link, moves_epoch, with_other, removes_vertex}
+use Rattle.core_worked.specs.TwoLives.{raises_source, links_new, marks_first, marks_a_vertex, unlinks_vertex, stores_link, moves_epoch, with_other, removes_vertex}
 use Rattle.core_kept.proofs.Announcements.{epoch_was}
 use Rattle.core_journal.proofs.KeptLives.{link_more}
 use Rattle.core_lists.proofs.LowerCounters.{edge_event}
@@ -29,7 +29,7 @@ use Rattle.core_kept.proofs.Induction.{allowed_at, kept_snoc}
 use Rattle.core_worked.proofs.SmallSteps.{none_such, none_fresh, announced, filled, withdrawn, moved, at_link}
 use Rattle.core_worked.proofs.TwoLives.{before, kept_3, kept_4, kept_8, kept_16, kept_19, kept_24, kept_27, kept_28, kept_29, kept_32, kept_37, kept_40, kept_41, kept_42, kept_46}
 
-pub refused_holding : IsRefused small holding (takes 0 1 2)
+pub refused_holding : IsRefusedBehind small holding (takes 0 1 2)
 unfolding state
 refused_holding = record {
   front = kept_4;
@@ -68,7 +68,7 @@ passes StoreFree past e a t = absurd (true≢false (sym t))
 passes PushFree past e a t = absurd (true≢false (sym t))
 
 refused_at : (n : ℕ) → IsKept small (before n) → 0 < (state small (before n)).drawn → (pass_in small (before n) 0).is_open ≡ true → slice_get (outside n ++ event_of n ∷ []) (n + 1) ≡ Some (event_of n) → take (n + 1) (outside n ++ event_of n ∷ []) ≡ outside n
-    → in_a_pass (event_of n).kind ≡ true → (pass_in small (outside n) (event_of n).caller).is_open ≡ false → IsRefused small (outside n) (event_of n)
+    → in_a_pass (event_of n).kind ≡ true → (pass_in small (outside n) (event_of n).caller).is_open ≡ false → IsRefusedBehind small (outside n) (event_of n)
 refused_at n kept drawn runs at front is shut = record {
   front = kept_snoc small (before n) (withdraws 0) kept (withdrawn (before n) drawn runs);
   whole = λ now.
@@ -77,7 +77,7 @@ refused_at n kept drawn runs at front is shut = record {
       true≢false (sym (passes (event_of n).kind (outside n) (event_of n) b.as_kind is) ∙ shut);
 }
 
-pub refused_outside : Every (λ (n : ℕ). IsRefused small (outside n) (event_of n)) made_in_a_pass
+pub refused_outside : Every (λ (n : ℕ). IsRefusedBehind small (outside n) (event_of n)) made_in_a_pass
 unfolding state
 refused_outside = (
   refused_at 8 kept_8 (lit< tt) refl refl refl refl refl,
@@ -108,7 +108,7 @@ refused_outside = (
   ),
 )
 
-pub refused_inside : IsRefused small inside moves_own
+pub refused_inside : IsRefusedBehind small inside moves_own
 unfolding state
 refused_inside = record {
   front = kept_3;
@@ -117,7 +117,7 @@ refused_inside = record {
       true≢false a.closed;
 }
 
-pub refused_edgeless : IsRefused small edgeless raises_source
+pub refused_edgeless : IsRefusedBehind small edgeless raises_source
 refused_edgeless = record {
   front = kept_19;
   whole = λ kept.
@@ -127,7 +127,7 @@ refused_edgeless = record {
       none_such (λ d. links_edge d.kind) edgeless refl e.0 a.link e.1 e.2;
 }
 
-pub refused_unraised : IsRefused small unraised marks_first
+pub refused_unraised : IsRefusedBehind small unraised marks_first
 refused_unraised = record {
   front = kept_27;
   whole = λ kept.
@@ -140,7 +140,7 @@ next_in : (journal : List Event) (n : ℕ) → IsKept small (take n journal) →
 next_in journal n = kept_snoc small (take n journal) (get_or journal n blank)
 
 -- the vertex of node 0 may be marked, and then unlinked
-vertex_marked : (past : List Event) → 0 < (state small past).drawn → (node_in small past 0).tag ≡ 1 → IsLinkedVertex small past 0 → word_at small past (link_at small 0) ≡ pack 1 0 1 → (pass_in small past 0).is_open ≡ true → Allowed small past marks_vertex
+vertex_marked : (past : List Event) → 0 < (state small past).drawn → (node_in small past 0).tag ≡ 1 → IsLinkedVertex small past 0 → word_at small past (link_at small 0) ≡ pack 1 0 1 → (pass_in small past 0).is_open ≡ true → Allowed small past marks_a_vertex
 vertex_marked past drawn tag linked link runs = record {
   by = λ _. drawn;
   as_kind = record { life = sym tag; there = lit< tt; place = refl; linked = linked; unmarked = ap mark_of link; word = sym (ap with_mark link); pass = runs };
@@ -178,7 +178,7 @@ closed_40 : IsKept small closed
 unfolding machine word_at state
 closed_40 = next_in closed 39 closed_39 (record { by = λ _. lit< tt; as_kind = record { life = refl; there = lit< tt; place = refl; spent = record { spent = refl; vertex = refl; mine = refl }; unmarked = refl; word = refl } })
 
-pub refused_late : IsRefused small closed (links_new 3 6)
+pub refused_late : IsRefusedBehind small closed (links_new 3 6)
 unfolding machine word_at state
 refused_late = record {
   front = closed_40;
@@ -197,7 +197,7 @@ unmet_44 : IsKept small unmet
 unfolding machine word_at state
 unmet_44 = next_in unmet 43 unmet_43 (announced (take 43 unmet) 0 (lit< tt) refl refl)
 
-pub refused_unmet : IsRefused small unmet raises_again
+pub refused_unmet : IsRefusedBehind small unmet raises_again
 unfolding state
 refused_unmet = record {
   front = unmet_44;
@@ -244,7 +244,7 @@ source_41 : IsKept small unmet_source
 unfolding state
 source_41 = next_in unmet_source 40 source_40 (filled (take 40 unmet_source) 3 3 6 (lit< tt) (lit< tt) (lit< tt) (lit< tt) (λ h. absurd (omega (arith, h))) refl (record { fresh = refl; mine = refl }))
 
-pub refused_unmet_source : IsRefused small unmet_source (links_new 3 6)
+pub refused_unmet_source : IsRefusedBehind small unmet_source (links_new 3 6)
 unfolding state
 refused_unmet_source = record {
   front = source_41;
@@ -307,7 +307,7 @@ target_28 : IsKept small unmet_target
 unfolding state
 target_28 = next_in unmet_target 27 target_27 (filled (take 27 unmet_target) 2 3 5 (lit< tt) (lit< tt) (lit< tt) (lit< tt) (λ h. absurd (omega (arith, h))) refl (record { fresh = refl; mine = refl }))
 
-pub refused_unmet_target : IsRefused small unmet_target (links_new 2 5)
+pub refused_unmet_target : IsRefusedBehind small unmet_target (links_new 2 5)
 unfolding state
 refused_unmet_target = record {
   front = target_28;
@@ -334,7 +334,7 @@ list_33 : IsKept small unmet_list
 unfolding machine word_at state
 list_33 = next_in unmet_list 32 list_32 (announced (take 32 unmet_list) 0 (lit< tt) refl refl)
 
-pub refused_unmet_list : IsRefused small unmet_list (event_of 29)
+pub refused_unmet_list : IsRefusedBehind small unmet_list (event_of 29)
 unfolding state
 refused_unmet_list = record {
   front = list_33;
@@ -349,7 +349,7 @@ lagging_kept : IsKept small lagging
 unfolding machine word_at state
 lagging_kept = kept_snoc small (before 3) (moves_epoch 1) kept_3 (moved (before 3) 0 (lit< tt) refl (inr (lit≤ tt)) refl refl (lit< tt))
 
-pub refused_lagging : IsRefused small lagging (moves_epoch 2)
+pub refused_lagging : IsRefusedBehind small lagging (moves_epoch 2)
 unfolding machine word_at state
 refused_lagging = record {
   front = lagging_kept;
@@ -365,7 +365,7 @@ epoch_early : (state small early).epoch ≡ 1
 unfolding state
 epoch_early = refl
 
-pub refused_early : IsRefused small early (stores_link 3 4)
+pub refused_early : IsRefusedBehind small early (stores_link 3 4)
 refused_early = record {
   front = kept_46;
   whole = λ kept.
@@ -381,7 +381,7 @@ unclosed_kept =
     let two = kept_snoc small (front ++ withdraws 0 ∷ []) (moves_epoch 1) one (moved (front ++ withdraws 0 ∷ []) 0 (lit< tt) refl (inl refl) refl refl (lit< tt)) in
     kept_snoc small (front ++ (withdraws 0 ∷ moves_epoch 1 ∷ [])) (moves_epoch 2) two (moved (front ++ (withdraws 0 ∷ moves_epoch 1 ∷ [])) 1 (lit< tt) refl (inl refl) refl refl (lit< tt))
 
-pub refused_unclosed : IsRefused small unclosed (stores_link 0 4)
+pub refused_unclosed : IsRefusedBehind small unclosed (stores_link 0 4)
 unfolding state
 refused_unclosed = record {
   front = unclosed_kept;

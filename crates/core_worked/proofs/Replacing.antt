@@ -1,7 +1,7 @@
 -- The worked journal in which edges are replaced is kept: its events, one by one.
-use Rattle.std.proofs.Common.{◌≡◌, ℕ, ◌<◌, true≢false, List, [], ◌∷◌, ◌++◌, take, drop, get_or, refl, sym, arith, inl, inr, lit<, lit≤}
+use Rattle.std.proofs.Common.{◌≡◌, ℕ, true≢false, List, [], ◌∷◌, ◌++◌, take, drop, get_or, refl, sym, arith, inl, inr, lit<, lit≤}
 use Rattle.packed_link.specs.Link.{pack, nowhere}
-use Rattle.packed_link.specs.Layout.{link_at, second_at}
+use Rattle.packed_link.specs.Layout.{link_at}
 use Rattle.core_journal.specs.declared.event.Event.{Event}
 use Rattle.core_journal.specs.Event.{blank}
 use Rattle.core_journal.specs.Life.{key_of, link_of}

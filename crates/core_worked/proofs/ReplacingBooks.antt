@@ -1,23 +1,20 @@
 -- The history of the worked journal in which edges are replaced: its books are true, and it's as worked out by hand.
-use Rattle.std.proofs.Common.{◌≡◌, ◌≢◌, ℕ, ◌<◌, Bool, true, false, cond, ◌&&◌, List, [], ◌∷◌, ◌++◌, map, Option, Some, None, refl, sym, ap, ◌∙◌, subst, arith}
+use Rattle.std.proofs.Common.{◌≡◌, ℕ, true, false, cond, ◌&&◌, List, [], ◌∷◌, ◌++◌, map, Option, Some, None, refl, sym, ap, ◌∙◌, subst, arith}
 use Rattle.std.specs.Prelude.{slice_get, take, drop}
 use Rattle.graph_kinds.specs.Graph.{Graph, has, weight_of}
 use Rattle.graph_kinds.specs.Answer.{answer, alters, after, plain, by_weight, there_with}
 use Rattle.graph_kinds.specs.History.{Every, IsLegal}
-use Rattle.graph_kinds.specs.declared.call.Call.{Call}
 use Rattle.graph_kinds.specs.declared.call.Call.TheVariants.{AddVertex, RemoveVertex, AddEdge, RemoveEdge}
 use Rattle.graph_kinds.specs.declared.entry.Entry.{Entry}
 use Rattle.graph_kinds.specs.declared.outcome.Outcome.TheVariants.{Added, Changed, Removed, NoEdge, NoVertex}
-use Rattle.core_journal.specs.declared.book.Book.{Book}
 use Rattle.core_journal.specs.declared.event.Kind.{Kind}
 use Rattle.core_journal.specs.declared.event.Kind.TheVariants.{LinkVertex, MarkVertex, LinkEdge, MarkEdge, FreezeEdge, ReplaceEdge}
 use Rattle.core_journal.specs.declared.event.Event.{Event}
-use Rattle.core_journal.specs.GraphOf.{graph_of, call_of, present_key, present_pair, changes, IsRegular, CarriesOut}
+use Rattle.core_journal.specs.GraphOf.{graph_of, call_of, changes, IsRegular, CarriesOut}
 use Rattle.core_journal.specs.History.{Turn, turn, history, history_of, turns, IsClosed}
 use Rattle.core_journal.specs.Life.{key_of, link_of}
 use Rattle.core_journal.specs.Right.{IsBookOf, CallersApart, OwnReply, RightOwn}
-use Rattle.core_journal.specs.State.{state}
-use Rattle.core_journal.specs.Worked.{small, first_life, own}
+use Rattle.core_journal.specs.Worked.{small, own}
 use Rattle.core_journal.proofs.Calls.{altered}
 use Rattle.core_journal.proofs.Computed.{still, still_turn, idle_turns, answers_added, answers_gone, covers_by, closed_by}
 use Rattle.core_journal.proofs.GraphRows.{has-graph, weight-graph}

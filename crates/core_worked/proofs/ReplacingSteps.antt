@@ -1,12 +1,11 @@
 -- On the worked journal in which edges are replaced a token makes such a step, and four events are refused that break one part of its
 -- condition.
-use Rattle.std.proofs.Common.{◌≡◌, ℕ, ◌<◌, List, [], ◌∷◌, ◌++◌, true, false, not, ◌==◌, length, take, drop, refl, sym, ap, arith, lit<, lit≤}
-use Rattle.std.specs.List.{list_all}
+use Rattle.std.proofs.Common.{◌≡◌, ℕ, List, [], ◌∷◌, ◌++◌, refl, ap, arith, lit<, lit≤}
 use Rattle.packed_link.specs.Link.{pack, nowhere}
-use Rattle.packed_link.specs.Layout.{link_at, second_at, third_at}
+use Rattle.packed_link.specs.Layout.{second_at, third_at}
 use Rattle.packed_link.specs.declared.link.Life.{Life}
 use Rattle.core_journal.specs.declared.event.Event.{Event}
-use Rattle.core_journal.specs.Life.{key_of, link_of}
+use Rattle.core_journal.specs.Life.{link_of}
 use Rattle.core_journal.specs.Machine.{machine, word_at}
 use Rattle.core_journal.specs.State.{state}
 use Rattle.core_journal.specs.TwoCallers.{fills}
@@ -14,10 +13,10 @@ use Rattle.core_journal.specs.Worked.{small, first_life}
 use Rattle.core_journal.specs.Event.{raises}
 use Rattle.core_kept.specs.Edges.{IsReplaceEdge}
 use Rattle.core_rule.specs.Fronts.{MayReplaceEdge}
-use Rattle.core_kept.specs.Kept.{Allowed, IsKept}
+use Rattle.core_kept.specs.Kept.{IsKept}
 use Rattle.core_worked.specs.KnownSteps.{view_replacing, Makes}
 use Rattle.core_rule.specs.OwnEvents.{replace_event}
-use Rattle.core_worked.specs.Refused.{IsRefused}
+use Rattle.core_worked.specs.Refused.{IsRefusedBehind}
 use Rattle.core_worked.specs.Replacing.{replacing, raises_to, replaces_by, not_raised_for, same_weight, other_target, replaces_target, marked_meanwhile}
 use Rattle.core_worked.specs.TwoLives.{marks_first}
 use Rattle.core_kept.proofs.Induction.{allowed_at, kept_snoc}
@@ -47,7 +46,7 @@ may_replace = record {
 }
 
 -- the counter wasn't raised
-pub refused_not_raised : IsRefused small not_raised_for (replaces_by 2 3 6)
+pub refused_not_raised : IsRefusedBehind small not_raised_for (replaces_by 2 3 6)
 refused_not_raised = record {
   front = kept_32;
   whole = λ kept.
@@ -87,7 +86,7 @@ kept_same_weight = kept_snoc small filled_weight (raises_to 1) kept_weight (reco
   };
 })
 
-pub refused_same_weight : IsRefused small same_weight (replaces_by 2 3 5)
+pub refused_same_weight : IsRefusedBehind small same_weight (replaces_by 2 3 5)
 unfolding state
 refused_same_weight = record {
   front = kept_same_weight;
@@ -135,7 +134,7 @@ kept_other_target = kept_snoc small filled_both (raises_to 1) kept_both (record 
   };
 })
 
-pub refused_other_target : IsRefused small other_target replaces_target
+pub refused_other_target : IsRefusedBehind small other_target replaces_target
 unfolding state
 refused_other_target = record {
   front = kept_other_target;
@@ -162,7 +161,7 @@ kept_marked = kept_snoc small (first 33) marks_first kept_33 (record {
   };
 })
 
-pub refused_marked : IsRefused small marked_meanwhile (replaces_by 2 3 6)
+pub refused_marked : IsRefusedBehind small marked_meanwhile (replaces_by 2 3 6)
 unfolding machine word_at
 refused_marked = record {
   front = kept_marked;

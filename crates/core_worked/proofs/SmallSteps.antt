@@ -27,12 +27,12 @@ pub whole : (xs : List Event) → IsPrefix xs xs
 whole xs = record { rest = []; whole = append-nil xs }
 
 -- a test of all numbers below one
-abbrev all_below : ℕ → (ℕ → Bool) → Bool
+abbrev pub all_below : ℕ → (ℕ → Bool) → Bool
 all_below zero test = true
 all_below (suc n) test = test n && all_below n test
 
 -- what passes the test below a number
-below : (n : ℕ) (test : ℕ → Bool) → all_below n test ≡ true → (x : ℕ) → x < n → test x ≡ true
+pub below : (n : ℕ) (test : ℕ → Bool) → all_below n test ≡ true → (x : ℕ) → x < n → test x ≡ true
 below zero test h x t = absurd (omega (arith, t))
 below (suc n) test h x t =
     let rest : all_below n test ≡ true → x < n → test x ≡ true = λ g less. below n test g x less in

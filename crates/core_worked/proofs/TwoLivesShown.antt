@@ -11,7 +11,7 @@ use Rattle.core_journal.specs.Machine.{machine, word_at}
 use Rattle.core_journal.specs.State.{state}
 use Rattle.core_journal.specs.Worked.{small}
 use Rattle.core_kept.specs.Standings.{StandsAs, OnFreeList, FreshWith, OnChain, SpentBy}
-use Rattle.core_worked.specs.TwoLives.{two_lives, with_edge, without_edge, with_other, without_source, two_keys, key_two, lives_words}
+use Rattle.core_worked.specs.TwoLives.{two_lives, with_an_edge, without_edge, with_other, without_source, two_keys, key_two, lives_words}
 
 pub small_layout : IsLayout small
 small_layout = record { some_callers = lit≤ tt; few_callers = lit≤ tt; some_nodes = lit≤ tt; few_nodes = lit≤ tt; some_buckets = lit≤ tt; few_buckets = lit≤ tt }
@@ -36,7 +36,7 @@ kinds_stand MoveEpoch _ = (45, lit< tt, refl)
 kinds_stand StoreFree _ = (47, lit< tt, refl)
 kinds_stand PushFree _ = (48, lit< tt, refl)
 
-pub graph_added : graph_of with_edge ≡ two_keys (((1, 2), 5) ∷ [])
+pub graph_added : graph_of with_an_edge ≡ two_keys (((1, 2), 5) ∷ [])
 unfolding graph_of key_of link_of
 graph_added = refl
 

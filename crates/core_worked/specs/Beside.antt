@@ -11,7 +11,7 @@ use Rattle.core_journal.specs.declared.event.Event.{Event}
 use Rattle.core_journal.specs.Event.{blank}
 use Rattle.core_journal.specs.TwoCallers.{announces, withdraws, takes, fills}
 use Rattle.core_journal.specs.Worked.{small, first_life}
-use Rattle.core_worked.specs.TwoLives.{takes_edge, marks_first, closes_head, with_edge}
+use Rattle.core_worked.specs.TwoLives.{takes_edge, marks_first, closes_head, with_an_edge}
 
 -- the vertex of key 0, that of node 3, is added in front of the one of key 1: events 26 to 33
 abbrev pub adds_vertex : List Event
@@ -87,4 +87,4 @@ removes_source =
 
 -- all events
 abbrev pub beside_others : List Event
-beside_others = with_edge ++ (adds_vertex ++ (adds_edge ++ (removes_behind ++ (adds_behind ++ removes_source))))
+beside_others = with_an_edge ++ (adds_vertex ++ (adds_edge ++ (removes_behind ++ (adds_behind ++ removes_source))))

@@ -1,5 +1,7 @@
 pub mod Beside
+pub mod Counted
 pub mod KnownSteps
 pub mod Refused
 pub mod Replacing
 pub mod TwoLives
+pub mod LawSteps

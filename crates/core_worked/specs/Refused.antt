@@ -5,20 +5,20 @@ use Rattle.packed_link.specs.Layout.{Sizes, epoch_at, link_at, third_at}
 use Rattle.core_journal.specs.declared.event.Event.{Event}
 use Rattle.core_journal.specs.declared.event.Kind.TheVariants.{MarkVertex, MoveEpoch, Raise, UnlinkVertex}
 use Rattle.core_journal.specs.Event.{blank}
-use Rattle.core_journal.specs.TwoCallers.{draws, announces, withdraws, takes, two_vertices}
+use Rattle.core_journal.specs.TwoCallers.{draws_number, announces, withdraws, takes, two_vertices}
 use Rattle.core_journal.specs.Worked.{small, first_life}
 use Rattle.core_kept.specs.Kept.{IsKept}
-use Rattle.core_worked.specs.TwoLives.{takes_edge, removes_vertex, closes_head, moves_epoch, with_edge, without_edge}
+use Rattle.core_worked.specs.TwoLives.{takes_edge, removes_vertex, closes_head, moves_epoch, with_an_edge, without_edge}
 use Rattle.core_worked.specs.TwoLives.{with_other, without_source, two_lives, raises_source, marks_first}
 
 -- a journal is kept, and with this event behind it no longer
-pub record IsRefused (sizes : Sizes) (past : List Event) (e : Event) : Type 0 where
+pub record IsRefusedBehind (sizes : Sizes) (past : List Event) (e : Event) : Type 0 where
   pub front : IsKept sizes past
   pub whole : IsKept sizes (past ++ e ∷ []) → ⊥
 
 -- caller 0 holds a node that it took and hasn't linked: it may not take another one
 abbrev pub holding : List Event
-holding = draws 0 1 ∷ draws 1 2 ∷ announces 0 ∷ takes 0 0 1 ∷ []
+holding = draws_number 0 1 ∷ draws_number 1 2 ∷ announces 0 ∷ takes 0 0 1 ∷ []
 
 -- caller 0 has closed its pass before event n of the worked journal: where that event is made in a pass, it may not be
 -- made now
@@ -36,7 +36,7 @@ event_of n = get_or two_lives n blank
 
 -- caller 0 has a pass: it may not move the epoch on to 1
 abbrev pub inside : List Event
-inside = draws 0 1 ∷ draws 1 2 ∷ announces 0 ∷ []
+inside = draws_number 0 1 ∷ draws_number 1 2 ∷ announces 0 ∷ []
 
 -- caller 0 moves the epoch on while its own pass is open
 abbrev pub moves_own : Event
@@ -48,7 +48,7 @@ edgeless = two_vertices ++ announces 0 ∷ []
 
 -- caller 0 has opened a pass and raised no counter: it may not mark the edge
 abbrev pub unraised : List Event
-unraised = with_edge ++ announces 0 ∷ []
+unraised = with_an_edge ++ announces 0 ∷ []
 
 -- in one pass an edge is filled, its source is removed, and the empty list of that is closed: the edge may not be
 -- linked any more
@@ -81,11 +81,11 @@ unmet_target = two_vertices ++ (announces 0 ∷ removes_other ++ (withdraws 0 �
 -- an edge is marked, and its source was removed before the pass of caller 0 began: the edge may not be unlinked
 abbrev pub unmet_list : List Event
 unmet_list =
-    with_edge ++ (announces 0 ∷ raises_source ∷ marks_first ∷ removes_vertex ++ (withdraws 0 ∷ announces 0 ∷ []))
+    with_an_edge ++ (announces 0 ∷ raises_source ∷ marks_first ∷ removes_vertex ++ (withdraws 0 ∷ announces 0 ∷ []))
 
 -- caller 0 has a pass that announced epoch 0, and the epoch is 1: caller 1 may not move it on to 2
 abbrev pub lagging : List Event
-lagging = draws 0 1 ∷ draws 1 2 ∷ announces 0 ∷ moves_epoch 1 ∷ []
+lagging = draws_number 0 1 ∷ draws_number 1 2 ∷ announces 0 ∷ moves_epoch 1 ∷ []
 
 -- the nodes of an edge and of its source were spent in epoch 0, and the epoch is 1: neither may be given back
 abbrev pub early : List Event

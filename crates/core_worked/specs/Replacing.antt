@@ -1,7 +1,8 @@
--- A worked journal with all eighteen kinds of events, its books and its history. Behind two vertices and an edge between
--- them, caller 0 replaces the edge, replaces the new one, and removes the one that is there then; it adds the pair anew
--- and replaces that edge too. Then it removes the source, whose list is closed: the replaced edge is handed over with
--- its head, and the last one is frozen. Caller 1 moves the epoch on twice, and the node of the first edge is given back.
+-- A worked journal with all eighteen kinds of events, its books and its history. Behind two vertices and an edge
+-- between them, caller 0 replaces the edge, replaces the new one, and removes the one that is there then; it adds the
+-- pair anew and replaces that edge too. Then it removes the source, whose list is closed: the replaced edge is handed
+-- over with its head, and the last one is frozen. Caller 1 moves the epoch on twice, and the node of the first edge is
+-- given back.
 use Rattle.std.specs.Prelude.{ℕ, List, [], ◌∷◌, ◌++◌}
 use Rattle.graph_kinds.specs.History.{Item}
 use Rattle.graph_kinds.specs.declared.call.Call.TheVariants.{AddVertex, RemoveVertex, AddEdge, RemoveEdge}
@@ -16,7 +17,7 @@ use Rattle.core_journal.specs.History.{item}
 use Rattle.core_journal.specs.TwoCallers.{announces, withdraws, takes, fills}
 use Rattle.core_journal.specs.Worked.{small, first_life, own}
 use Rattle.core_worked.specs.TwoLives.{takes_edge, links_new, marks_first, removes_vertex, closes_head, moves_epoch}
-use Rattle.core_worked.specs.TwoLives.{gives_back, with_edge}
+use Rattle.core_worked.specs.TwoLives.{gives_back, with_an_edge}
 
 -- caller 0 raises the counter of the source, the vertex of node 0, to n
 abbrev pub raises_to : ℕ → Event
@@ -65,7 +66,7 @@ freezes_last = record blank { kind = FreezeEdge; place = link_at small 6; word =
 
 -- up to the pass in which the edge is replaced: events 26 to 34
 abbrev pub replaced_once : List Event
-replaced_once = with_edge ++ replaces_edge 1 2 3 6
+replaced_once = with_an_edge ++ replaces_edge 1 2 3 6
 
 -- up to the pass in which it's replaced again: events 35 to 43
 abbrev pub replaced_twice : List Event
@@ -139,16 +140,16 @@ replacing_history =
 
 -- the new edge is filled, and the counter wasn't raised for the old one: it may not be replaced
 abbrev pub not_raised_for : List Event
-not_raised_for = with_edge ++ takes_edge 3 6
+not_raised_for = with_an_edge ++ takes_edge 3 6
 
 -- the new edge has the weight of the old one: that may not be replaced
 abbrev pub same_weight : List Event
-same_weight = with_edge ++ (takes_edge 3 5 ++ raises_to 1 ∷ [])
+same_weight = with_an_edge ++ (takes_edge 3 5 ++ raises_to 1 ∷ [])
 
 -- the new edge is filled for another target, the vertex of node 0: the old one may not be replaced
 abbrev pub other_target : List Event
 other_target =
-    with_edge ++ (announces 0
+    with_an_edge ++ (announces 0
     ∷ takes 0 3 4
     ∷ fills 0 3 (key_at small 3) 2
     ∷ fills 0 3 (link_at small 3) (pack nowhere 0 1)
@@ -163,4 +164,4 @@ replaces_target = record (replaces_by 2 3 6) { target = first_life 0 }
 
 -- the old edge was marked since its link was seen: it may not be replaced
 abbrev pub marked_meanwhile : List Event
-marked_meanwhile = with_edge ++ (takes_edge 3 6 ++ (raises_to 1 ∷ marks_first ∷ []))
+marked_meanwhile = with_an_edge ++ (takes_edge 3 6 ++ (raises_to 1 ∷ marks_first ∷ []))

@@ -61,8 +61,8 @@ removes_edge =
     ∷ []
 
 -- the vertex of node 0 is marked
-abbrev pub marks_vertex : Event
-marks_vertex = record blank { kind = MarkVertex; place = link_at small 0; word = pack 1 1 1; life = first_life 0 }
+abbrev pub marks_a_vertex : Event
+marks_a_vertex = record blank { kind = MarkVertex; place = link_at small 0; word = pack 1 1 1; life = first_life 0 }
 
 -- it's unlinked
 abbrev pub unlinks_vertex : Event
@@ -70,7 +70,7 @@ unlinks_vertex = record blank { kind = UnlinkVertex; place = bucket_at small 0; 
 
 -- the vertex of node 0 is removed
 abbrev pub removes_vertex : List Event
-removes_vertex = marks_vertex ∷ unlinks_vertex ∷ []
+removes_vertex = marks_a_vertex ∷ unlinks_vertex ∷ []
 
 -- its list is closed at its head, which leads to node x
 abbrev pub closes_head : ℕ → Event
@@ -108,12 +108,12 @@ takes_again =
     ∷ []
 
 -- up to the pass that adds the first edge: events 0 to 25
-abbrev pub with_edge : List Event
-with_edge = two_vertices ++ (takes_edge 2 5 ++ links_new 2 5 ∷ withdraws 0 ∷ [])
+abbrev pub with_an_edge : List Event
+with_an_edge = two_vertices ++ (takes_edge 2 5 ++ links_new 2 5 ∷ withdraws 0 ∷ [])
 
 -- up to the pass that removes it: events 26 to 30
 abbrev pub without_edge : List Event
-without_edge = with_edge ++ removes_edge
+without_edge = with_an_edge ++ removes_edge
 
 -- up to the pass that adds the second edge: events 31 to 38
 abbrev pub with_other : List Event
@@ -124,12 +124,12 @@ abbrev pub without_source : List Event
 without_source = with_other ++ (announces 0 ∷ removes_vertex ++ (closes_head 3 ∷ freezes_second ∷ withdraws 0 ∷ []))
 
 -- up to the two nodes being free again: events 45 to 50
-abbrev pub given_back : List Event
-given_back = without_source ++ (moves_epoch 1 ∷ moves_epoch 2 ∷ gives_back 3 4 5 ++ gives_back 0 3 6)
+abbrev pub node_given_back : List Event
+node_given_back = without_source ++ (moves_epoch 1 ∷ moves_epoch 2 ∷ gives_back 3 4 5 ++ gives_back 0 3 6)
 
 -- all events, 0 to 52
 abbrev pub two_lives : List Event
-two_lives = given_back ++ takes_again
+two_lives = node_given_back ++ takes_again
 
 -- the graph with the keys 1 and 2, and these pairs
 abbrev pub two_keys : List ((ℕ × ℕ) × ℕ) → Graph

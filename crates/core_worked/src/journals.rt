@@ -16,11 +16,11 @@ ghost use Rattle.core_journal.specs.Worked.{small};
 ghost use Rattle.core_worked.specs.Beside.{beside_others};
 ghost use Rattle.core_kept.specs.Kept.{IsKept};
 ghost use Rattle.core_kept.specs.Nodes.{node_in};
-ghost use Rattle.core_worked.specs.Refused.{IsRefused, closed, early, edgeless, event_of, holding, inside, lagging};
+ghost use Rattle.core_worked.specs.Refused.{IsRefusedBehind, closed, early, edgeless, event_of, holding, inside, lagging};
 ghost use Rattle.core_worked.specs.Refused.{made_in_a_pass, moves_own, outside, unclosed, unraised};
 ghost use Rattle.core_worked.specs.Refused.{raises_again, unmet, unmet_list, unmet_source, unmet_target};
 ghost use Rattle.core_kept.specs.Standings.{FreshWith, OnChain, OnFreeList, SpentBy, StandsAs};
-ghost use Rattle.core_worked.specs.TwoLives.{two_lives, with_edge, without_edge, with_other, without_source};
+ghost use Rattle.core_worked.specs.TwoLives.{two_lives, with_an_edge, without_edge, with_other, without_source};
 ghost use Rattle.core_worked.specs.TwoLives.{key_two, links_new, lives_words, marks_first, moves_epoch, raises_source};
 ghost use Rattle.core_worked.specs.TwoLives.{stores_link, two_keys};
 
@@ -37,7 +37,7 @@ pub fn a_node_has_two_lives()
     ensures sizes { IsLayout small }
     ensures kept { IsKept small two_lives }
     ensures each_kind { (k : Kind) → k ≢ ReplaceEdge → Contains (map (λ (e : Event). e.kind) two_lives) k }
-    ensures added { graph_of with_edge ≡ two_keys (((1, 2), 5) ∷ []) }
+    ensures added { graph_of with_an_edge ≡ two_keys (((1, 2), 5) ∷ []) }
     ensures removed { graph_of without_edge ≡ two_keys [] }
     ensures added_again { graph_of with_other ≡ two_keys (((1, 2), 6) ∷ []) }
     ensures gone { graph_of two_lives ≡ key_two }
@@ -70,17 +70,17 @@ pub fn nodes_are_linked_beside_others()
 /// from its list, where that vertex was removed before the pass began; the epoch is moved on past an open pass; a node
 /// is stored for the free list one epoch too early; and so is one whose list isn't closed.
 pub fn wrong_events_are_refused()
-    ensures greedy { IsRefused small holding (takes 0 1 2) }
-    ensures outside { Every (λ (n : ℕ). IsRefused small (outside n) (event_of n)) made_in_a_pass }
-    ensures inside { IsRefused small inside moves_own }
-    ensures edgeless { IsRefused small edgeless raises_source }
-    ensures unraised { IsRefused small unraised marks_first }
-    ensures late { IsRefused small closed (links_new 3 6) }
-    ensures unmet { IsRefused small unmet raises_again }
-    ensures unmet_source { IsRefused small unmet_source (links_new 3 6) }
-    ensures unmet_target { IsRefused small unmet_target (links_new 2 5) }
-    ensures unmet_list { IsRefused small unmet_list (event_of 29) }
-    ensures hurried { IsRefused small lagging (moves_epoch 2) }
-    ensures early { IsRefused small early (stores_link 3 4) }
-    ensures unclosed { IsRefused small unclosed (stores_link 0 4) }
+    ensures greedy { IsRefusedBehind small holding (takes 0 1 2) }
+    ensures outside { Every (λ (n : ℕ). IsRefusedBehind small (outside n) (event_of n)) made_in_a_pass }
+    ensures inside { IsRefusedBehind small inside moves_own }
+    ensures edgeless { IsRefusedBehind small edgeless raises_source }
+    ensures unraised { IsRefusedBehind small unraised marks_first }
+    ensures late { IsRefusedBehind small closed (links_new 3 6) }
+    ensures unmet { IsRefusedBehind small unmet raises_again }
+    ensures unmet_source { IsRefusedBehind small unmet_source (links_new 3 6) }
+    ensures unmet_target { IsRefusedBehind small unmet_target (links_new 2 5) }
+    ensures unmet_list { IsRefusedBehind small unmet_list (event_of 29) }
+    ensures hurried { IsRefusedBehind small lagging (moves_epoch 2) }
+    ensures early { IsRefusedBehind small early (stores_link 3 4) }
+    ensures unclosed { IsRefusedBehind small unclosed (stores_link 0 4) }
 {}

@@ -5,6 +5,9 @@
 #![tactic(auto)]
 
 mod journals;
+mod laws_counts;
+mod laws_moments;
+mod laws_views;
 mod lifts;
 mod replacements;
 mod walks;
@@ -12,6 +15,18 @@ mod walks;
 pub use journals::{
     a_node_has_two_lives, a_vertex_is_added, an_overtaken_edge_is_linked,
     nodes_are_linked_beside_others, wrong_events_are_refused,
+};
+pub use laws_counts::{
+    worked_events_are_few, worked_graphs_are_counted, worked_lives_go_one_way,
+    worked_nodes_become_spent, worked_tables_are_swept,
+};
+pub use laws_moments::{
+    a_worked_edge_comes_and_goes, a_worked_vertex_goes, worked_changes_are_counted,
+    worked_lists_stay,
+};
+pub use laws_views::{
+    laws_of_moments_meet_a_worked_journal, laws_of_removal_meet_a_worked_journal,
+    laws_of_stretches_meet_a_worked_journal, laws_of_words_meet_a_worked_journal,
 };
 pub use lifts::{
     a_token_may_lag_behind, a_token_may_make_each_step, a_token_may_step_beside_others,

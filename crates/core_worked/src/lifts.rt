@@ -14,7 +14,8 @@ ghost use Rattle.core_worked.specs.KnownSteps.{Makes, view_among, view_at, view_
 ghost use Rattle.core_rule.specs.OwnEvents.{announce_event, freeze_edge_event, freeze_head_event, link_edge_event};
 ghost use Rattle.core_rule.specs.OwnEvents.{link_vertex_event, store_free_event};
 ghost use Rattle.core_rule.specs.OwnEvents.{mark_edge_event, mark_vertex_event, move_event, pop_event, push_event};
-ghost use Rattle.core_rule.specs.OwnEvents.{raise_event, replace_event, store_event, unlink_edge_event, unlink_vertex_event};
+ghost use Rattle.core_rule.specs.OwnEvents.{raise_event, replace_event, store_event, unlink_edge_event};
+ghost use Rattle.core_rule.specs.OwnEvents.{unlink_vertex_event};
 ghost use Rattle.core_rule.specs.OwnEvents.{withdraw_event};
 ghost use Rattle.core_worked.specs.Replacing.{replacing};
 ghost use Rattle.core_worked.specs.TwoLives.{two_lives};

@@ -1,9 +1,4 @@
-//! The laws of edges that were replaced: what a marked link tells of it.
-//!
-//! An edge is replaced by one write to its link, which marks it and leads to the new edge. A marked link doesn't change
-//! while one may come to its node: the node stands on a list that isn't frozen to its end, or an open pass has met it
-//! (`IsInReach` of `specs/Replacements.antt`). So whoever comes to a marked edge reads off its link whether it was
-//! replaced: then the link leads to a node of its key, and else to none or to one of a greater key.
+//! Edges that are replaced, on a worked journal, and replacements that are refused.
 
 ghost use Rattle.std.specs.Prelude.{◌≡◌, Contains, [], ◌∷◌, map, take};
 ghost use Rattle.graph_kinds.specs.History.{Every, IsLegal};
@@ -17,7 +12,7 @@ ghost use Rattle.core_journal.specs.Right.{CallersApart, IsBookOf};
 ghost use Rattle.core_journal.specs.State.{state};
 ghost use Rattle.core_journal.specs.Worked.{small};
 ghost use Rattle.core_kept.specs.Kept.{IsKept};
-ghost use Rattle.core_worked.specs.Refused.{IsRefused};
+ghost use Rattle.core_worked.specs.Refused.{IsRefusedBehind};
 ghost use Rattle.core_worked.specs.Replacing.{added_anew, frozen_behind, marked_meanwhile, not_raised_for, other_target};
 ghost use Rattle.core_worked.specs.Replacing.{removed_then, replaced_anew, replaced_once, replaced_twice, replaces_by};
 ghost use Rattle.core_worked.specs.Replacing.{replaces_target, replacing, replacing_books, replacing_history};
@@ -59,8 +54,8 @@ pub fn an_edge_is_replaced()
 /// An edge isn't replaced where the counter of its source wasn't raised for it in this pass, by one of its own weight,
 /// by one to another target, or where its link was marked since it was seen.
 pub fn wrong_replacements_are_refused()
-    ensures unraised { IsRefused small not_raised_for (replaces_by 2 3 6) }
-    ensures same_weight { IsRefused small same_weight (replaces_by 2 3 5) }
-    ensures other_target { IsRefused small other_target replaces_target }
-    ensures marked { IsRefused small marked_meanwhile (replaces_by 2 3 6) }
+    ensures unraised { IsRefusedBehind small not_raised_for (replaces_by 2 3 6) }
+    ensures same_weight { IsRefusedBehind small same_weight (replaces_by 2 3 5) }
+    ensures other_target { IsRefusedBehind small other_target replaces_target }
+    ensures marked { IsRefusedBehind small marked_meanwhile (replaces_by 2 3 6) }
 {}

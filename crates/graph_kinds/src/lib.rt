@@ -2,6 +2,7 @@
 #![tactic(auto)]
 
 mod answer;
+mod answer_laws;
 mod call;
 mod entry;
 mod laws;
@@ -13,6 +14,7 @@ mod sink;
 mod source;
 
 pub use answer::{Answer, Keys, Memory};
+pub use answer_laws::a_graph_answers_nothing_of_the_table;
 pub use call::{Call, Row};
 pub use entry::{Class, Entry};
 pub use laws::{

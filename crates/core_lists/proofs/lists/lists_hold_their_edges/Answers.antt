@@ -2,6 +2,7 @@ use Rattle.std.proofs.Common.{◌∙◌, sym, ap, subst, arith}
 use Rattle.packed_link.specs.Link.{mark_bit}
 use Rattle.core_kept.specs.Nodes.{IsUsed}
 use Rattle.core_lists.proofs.FrozenToEndIsList.{edge_on}
+use Rattle.core_lists.proofs.ListedWords.{listed_key, listed_linked}
 use Rattle.core_lists.proofs.SpentWordsLead.{unclosed}
 use Rattle.core_lists.proofs.ListChains.{edge_lists}
 use Rattle.core_lists.proofs.LivesOnLists.{edge_of, of_edge}
@@ -44,3 +45,9 @@ returns-clause-unclosed c = λ sizes z journal kept x there used vertex live. re
   vertex = vertex;
   unfinished = λ f. let m = (((contents sizes z journal kept).each x there).vertex used vertex).second_mark ∙ ap mark_bit f.head in absurd (omega (arith, m, live));
 }
+
+pub returns-clause-key : goal.returns-clause-key
+returns-clause-key c = λ sizes z journal kept x y k on link is. listed_key sizes z journal kept x y k on link is
+
+pub returns-clause-listed_linked : goal.returns-clause-listed_linked
+returns-clause-listed_linked c = λ sizes z journal kept x y there l on. listed_linked sizes z journal kept x y there l.linked l.vertex on

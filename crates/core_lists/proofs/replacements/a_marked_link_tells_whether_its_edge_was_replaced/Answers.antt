@@ -1,9 +1,12 @@
 use Rattle.core_lists.proofs.MarkedWordsLead.{linked_reach, next_reach}
-use Rattle.core_lists.proofs.LinksTellReplaced.{told, old_leads, old_word}
+use Rattle.core_lists.proofs.LinksTellReplaced.{told, old_leads, old_word, same_key_marked}
 use Rattle.core_lists.proofs.replacements.a_marked_link_tells_whether_its_edge_was_replaced.Goals as goal
 
 pub returns-clause-told : goal.returns-clause-told
 returns-clause-told c = λ sizes z journal kept x there tag edge r d. told sizes z journal kept x there tag r d edge
+
+pub returns-clause-same_key : goal.returns-clause-same_key
+returns-clause-same_key c = λ sizes z journal kept x there r some same. same_key_marked sizes z journal kept x there r some same
 
 pub returns-clause-leads : goal.returns-clause-leads
 returns-clause-leads c = λ sizes z journal kept x new tag r b. old_leads sizes z journal kept x new tag r b

@@ -1,0 +1,17 @@
+pub mod FewerOfEachLife
+pub mod SumsOverCallers
+pub mod SumsOverBooks
+pub mod NodesTellStages
+pub mod LivesGoOneWay
+pub mod RaisesOfEdges
+pub mod CountedAreFew
+pub mod BuiltFromNodes
+pub mod GraphNodes
+pub mod AllNodesOfGraph
+pub mod NodesBecomeSpent
+pub mod IdleCallers
+pub mod KnownSpentNodes
+pub mod SweptTables
+pub mod CleanVertices
+pub mod CleanEdges
+pub mod ExactFull

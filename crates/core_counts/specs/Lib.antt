@@ -1,0 +1,4 @@
+pub mod Totals
+pub mod Nodes
+pub mod Spending
+pub mod Swept

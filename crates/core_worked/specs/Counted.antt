@@ -1,0 +1,32 @@
+-- What the laws of counts are shown on beside the journal with two lives: a table with one node, which is taken and
+-- linked, so that the free list is empty and the node is all graph; and books of two callers.
+use Rattle.std.specs.Prelude.{List, [], ◌∷◌}
+use Rattle.packed_link.specs.Link.{pack, nowhere}
+use Rattle.packed_link.specs.Layout.{Sizes, number_at, free_at, announce_at, bucket_at, key_at, link_at, second_at}
+use Rattle.packed_link.specs.Layout.{third_at}
+use Rattle.core_journal.specs.declared.book.Book.{Book}
+use Rattle.core_journal.specs.declared.event.Event.{Event}
+use Rattle.core_journal.specs.declared.event.Kind.TheVariants.{DrawNumber, PopFree, StorePrivate, LinkVertex, Announce}
+use Rattle.core_journal.specs.Event.{blank}
+use Rattle.core_journal.specs.Worked.{first_life}
+
+-- a table for one caller, with one node and one bucket
+abbrev pub least : Sizes
+least = record { callers = 1; nodes = 1; buckets = 1 }
+
+-- a number is drawn, a pass is opened, the node is taken and filled, and it's linked as the vertex of key 7
+abbrev pub one_vertex : List Event
+one_vertex =
+    record blank { kind = DrawNumber; place = number_at least; word = 1 }
+    ∷ record blank { kind = Announce; place = announce_at least 0; word = 1 }
+    ∷ record blank { kind = PopFree; place = free_at least; word = pack nowhere 0 1; life = first_life 0 }
+    ∷ record blank { kind = StorePrivate; place = key_at least 0; word = 7; life = first_life 0 }
+    ∷ record blank { kind = StorePrivate; place = link_at least 0; word = pack nowhere 0 1; life = first_life 0 }
+    ∷ record blank { kind = StorePrivate; place = second_at least 0; word = pack nowhere 0 1; life = first_life 0 }
+    ∷ record blank { kind = StorePrivate; place = third_at least 0; word = 0; life = first_life 0 }
+    ∷ record blank { kind = LinkVertex; place = bucket_at least 0; word = pack 0 0 0; life = first_life 0; key = 7 }
+    ∷ []
+
+-- the books of the two callers of a worked journal, without their entries
+abbrev pub two_books : List Book
+two_books = record { caller = 0; entries = [] } ∷ record { caller = 1; entries = [] } ∷ []
