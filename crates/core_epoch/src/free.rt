@@ -5,7 +5,8 @@
 ghost use Rattle.std.specs.Prelude.{◌≡◌, ℕ, ◌<◌, ◌≤◌, List, true};
 ghost use Rattle.packed_link.specs.Link.{index_of, nowhere};
 ghost use Rattle.core_epoch.specs.Run.{IsRunOf, last_of};
-ghost use Rattle.core_epoch.specs.Free.{Change, FreeList, GivesBack, IsNewPool, IsUnchanged, LeavesFree, Pool, TakesFirst};
+ghost use Rattle.core_epoch.specs.Free.{Change, FreeList, GivesBack, IsNewPool, IsUnchanged, LeavesFree, Pool};
+ghost use Rattle.core_epoch.specs.Free.{TakesFirst};
 
 /// The law of the free list: it leads through exactly the free nodes, each once, its word is unmarked, and its tag
 /// counts its changes. This holds where all nodes are free and each leads to the next, and each change keeps it.

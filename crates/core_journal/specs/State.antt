@@ -25,7 +25,8 @@ pub record Pass : Type 0 where
   pub birth : ℕ
   pub since : ℕ
 
--- a node in its last life: what was linked, and by the event of which number where it's an edge, whether it is marked, and whether its link was stored for the free list;
+-- a node in its last life: what was linked, and by the event of which number where it's an edge, whether it is marked,
+-- and whether its link was stored for the free list;
 -- where an earlier or this life last ended, as the length of the journal after that event, and the epoch then
 pub record Node : Type 0 where
   pub mode : Mode
@@ -163,11 +164,13 @@ state_by LinkEdge sizes e s = record s {
       }) s.node;
   edges = λ x. linked_in sizes (second_at sizes x) e.place e.life.index (s.edges x);
 }
-state_by ReplaceEdge sizes e s = handed ((joined_edge sizes e s).node e.old.index).source.index (record (joined_edge sizes e s) {
-  count = s.count + 1;
-  node =
-      put e.old.index (record ((joined_edge sizes e s).node e.old.index) { marked = true }) (joined_edge sizes e s).node;
-})
+state_by ReplaceEdge sizes e s =
+    handed ((joined_edge sizes e s).node e.old.index).source.index (record (joined_edge sizes e s) {
+      count = s.count + 1;
+      node =
+          put e.old.index (record ((joined_edge sizes e s).node e.old.index) { marked = true })
+          (joined_edge sizes e s).node;
+    })
 state_by MarkEdge sizes e s = handed (s.node e.life.index).source.index (record s {
   count = s.count + 1;
   node = put e.life.index (record (s.node e.life.index) { marked = true }) s.node;

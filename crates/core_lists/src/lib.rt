@@ -1,9 +1,9 @@
 //! Chains and lists over kept journals: what stands on the chain of each bucket and on the list of each vertex, what an
 //! event of each kind does to them and to the graph, and what a walk meets.
 //!
-//! A chain is said as core_chain says it, over the words of the table (`specs/Chains.antt`). Keys rise along a chain, and
-//! two neighbours have one key only where they are edges, the first is marked, and the second replaced it. The crate has
-//! definitions and laws, and no code.
+//! A chain is said as core_chain says it, over the words of the table (`specs/Chains.antt`). Keys rise along a chain,
+//! and two neighbours have one key only where they are edges, the first is marked, and the second replaced it. The
+//! crate has definitions and laws, and no code.
 #![tactic(auto)]
 
 mod buckets;

@@ -2,7 +2,8 @@
 //!
 //! What a token knows by its front is a condition a kind (`specs/Fronts.antt`); a lift makes its step allowed wherever
 //! the step wins, so the step owes no more (`specs/Owes.antt`) and tells its token where it stands in the journal
-//! (`specs/Plays.antt`). The layers above cite the laws of views first. The crate has definitions and laws, and no code.
+//! (`specs/Plays.antt`). The layers above cite the laws of views first. The crate has definitions and laws, and no
+//! code.
 #![tactic(auto)]
 
 mod lifts;

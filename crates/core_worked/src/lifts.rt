@@ -1,4 +1,5 @@
-//! Steps of tokens on the worked journals: each condition over a front is met, and each step makes an event of a journal.
+//! Steps of tokens on the worked journals: each condition over a front is met, and each step makes an event of a
+//! journal.
 
 ghost use Rattle.packed_link.specs.Link.{pack, nowhere};
 ghost use Rattle.packed_link.specs.Layout.{bucket_at, link_at, second_at};

@@ -3,8 +3,8 @@
 //! The order is words, reading, rows, running, writing. Memory may take the place of any answer up to
 //! running, and never comes once writing began. What is written is `Asks` of `specs/Run.antt`.
 
-ghost use Rattle.std.specs.Prelude.{◌≡◌, ◌+◌, ◌<◌, ◌≤◌, ◌⊎◌, ℕ, List, true, false, Ok, Err, All, IfOk, IfErr, IfSome, OnOk};
-ghost use Rattle.std.specs.Prelude.{OnErr, Some, length, vec_len};
+ghost use Rattle.std.specs.Prelude.{◌≡◌, ◌+◌, ◌<◌, ◌≤◌, ◌⊎◌, ℕ, List, true, false, Ok, Err, All, IfOk, IfErr, IfSome};
+ghost use Rattle.std.specs.Prelude.{OnOk, OnErr, Some, length, vec_len};
 ghost use Rattle.graph_kinds.specs.Answer.{IsWellMade};
 ghost use Rattle.graph_kinds.specs.Stream.{Rose, Puts, PutsSome, TakesMany, TakesMore};
 ghost use Rattle.graph_kinds.specs.declared.call.Row.{Row};
@@ -33,14 +33,14 @@ const CALLERS: u32 = 16;
 /// Runs the words on the source and writes to the sink. `run` and `replay` read the source to its end and
 /// write one line per row, in input order, and then the lines of the final graph: both the answers of the rows in
 /// input order on the graph of one caller, until callers run on threads. O(n log n) for n rows
-/// that add, remove and look up, beside one look-up for each vertex at each removal of a vertex where edges
-/// are left, and O((vertices + edges) log vertices) for each row of `reach`, `levels` or `cheapest`.
+/// that add, remove and look up, beside O(log n) for each edge of a vertex that is removed, and
+/// O((vertices + edges) log vertices) of the part that is reached for each row of `reach`, `levels` or `cheapest`.
 ///
 /// # Errors
 /// `Usage` exactly where the words are no command, with the first fault from the left and the source unread, or
-/// with `InputTooLong` where 8,388,609 bytes were taken and the end wasn't answered; `BadRow` exactly where the input was read to its end
-/// and has a bad record; `ReadFault` and `WriteFault` only where the count of faults of the source or the
-/// sink rose; `Memory` where memory ran out, before anything was written.
+/// with `InputTooLong` where 8,388,609 bytes were taken and the end wasn't answered; `BadRow` exactly where the
+/// input was read to its end and has a bad record; `ReadFault` and `WriteFault` only where the count of faults of
+/// the source or the sink rose; `Memory` where memory ran out, before anything was written.
 pub fn graph_main<R: Threads + Sync, S: Source, K: Sink>(
     rt: &R,
     alloc: Global,
