@@ -1,4 +1,4 @@
--- The worked journal with all seventeen kinds of events is kept: its events, one by one.
+-- The worked journal with all kinds of events but replacements is kept: its events, one by one.
 use Rattle.std.proofs.Common.{◌≡◌, ℕ, ◌%◌, ◌<◌, true≢false, List, [], ◌∷◌, ◌++◌, take, drop, get_or, refl, sym, arith, inl, inr, lit<, lit≤}
 use Rattle.packed_link.specs.Link.{pack, nowhere}
 use Rattle.packed_link.specs.Layout.{key_at, second_at}
