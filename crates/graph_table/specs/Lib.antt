@@ -1,0 +1,4 @@
+pub mod Filled
+pub mod Opening
+pub mod Table
+pub mod Tokens

@@ -1,0 +1,12 @@
+//! Proved callers of the shared table: short sequences of calls, each of which meets the conditions of the next.
+//!
+//! They show that the conditions of the table's calls can be met. Nothing stands on this crate.
+#![tactic(auto)]
+
+mod calls;
+#[cfg(test)]
+mod tests;
+
+pub use calls::{
+    check_callers, close_pass, enter, fill_last, open_pass, see_free, split_off, store_key, take,
+};
