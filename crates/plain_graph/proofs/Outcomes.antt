@@ -6,17 +6,22 @@ use Rattle.graph_kinds.specs.declared.call.Call.{Call}
 use Rattle.graph_kinds.specs.declared.call.Call.TheVariants.{AddVertex, RemoveVertex, HasVertex, AddEdge, RemoveEdge, HasEdge, Reach, Levels, Cheapest}
 use Rattle.graph_kinds.specs.declared.outcome.Outcome.{Outcome}
 use Rattle.graph_kinds.specs.declared.outcome.Outcome.TheVariants as out
-use Rattle.graph_kinds.specs.Graph.{Graph, has, weight_of}
+use Rattle.graph_kinds.specs.Graph.{Graph, has, weight_of, IsGraph}
 use Rattle.graph_kinds.specs.Levels.{levels_of, reach_path}
 use Rattle.graph_kinds.specs.Path.{least_cost, cheapest_path}
 use Rattle.graph_kinds.specs.declared.answer.Answer.{Answer}
-use Rattle.graph_kinds.specs.Answer.{answer, alters, after, change, plain, on_keys, by_weight, by_path, by_levels, by_cost, is_change, there_with}
+use Rattle.graph_kinds.specs.Answer.{answer, alters, after, change, plain, on_keys, by_weight, by_path, by_levels, by_cost, is_change, there_with, IsPathCall, IsWellMade}
+use Rattle.graph_kinds.proofs.Calls.{after_valid}
 use Rattle.plain_graph.specs.Calls.{CostIsBelow, replacing}
 
 -- by the outcome, the graph is changed or stays
 pub after_outcome : (g : Graph) (c : Call) (o : Outcome) → plain o ≡ answer g c → cond (is_change o) (change g c) g ≡ after g c
 unfolding after alters
 after_outcome g c o e = ap (λ a. cond (is_change a.outcome) (change g c) g) e
+
+-- what a well-made call leaves of a graph is a graph
+pub after_sound : (g h : Graph) (c : Call) → IsGraph g → IsWellMade c → h ≡ after g c → IsGraph h
+after_sound g h c sound made is = subst IsGraph (sym is) (after_valid g c made sound)
 
 -- what holds in any case holds where a call succeeded
 pub on_ok : {A : Type 0} {E : Type 0} (r : Result A E) (P : Type 0) → P → OnOk r P
@@ -148,17 +153,20 @@ module _ (limit : ℕ) where
   unfolding answer
   levels_below g a = either (has g a) (by_levels (levels_of g a)) (plain out.NoVertex) tt tt
 
-  pub update_below : (g : Graph) (call : Call) → ((a b : ℕ) → call ≡ Reach a b → ⊥) → ((a : ℕ) → call ≡ Levels a → ⊥) → ((a b : ℕ) → call ≡ Cheapest a b → ⊥) → CostIsBelow limit (answer g call).outcome
+  update_below : (g : Graph) (call : Call) → ¬ (IsPathCall call) → CostIsBelow limit (answer g call).outcome
   unfolding answer
-  update_below g (AddVertex k) reach levels cheapest = plain_either (has g k) (out.Present 0) out.Added tt tt
-  update_below g (RemoveVertex k) reach levels cheapest = plain_either (has g k) (out.Removed 0) out.Absent tt tt
-  update_below g (HasVertex k) reach levels cheapest = plain_either (has g k) out.Yes out.No tt tt
-  update_below g (AddEdge a b w) reach levels cheapest = either (has g a && has g b) (by_weight (weight_of g a b) (there_with w) out.Added) (plain out.NoVertex) (weighted (weight_of g a b) (there_with w) out.Added (there_below limit w) tt) tt
-  update_below g (RemoveEdge a b) reach levels cheapest = either (has g a && has g b) (by_weight (weight_of g a b) out.Removed out.NoEdge) (plain out.NoVertex) (weighted (weight_of g a b) out.Removed out.NoEdge (λ _. tt) tt) tt
-  update_below g (HasEdge a b) reach levels cheapest = either (has g a && has g b) (by_weight (weight_of g a b) out.Edge out.NoEdge) (plain out.NoVertex) (weighted (weight_of g a b) out.Edge out.NoEdge (λ _. tt) tt) tt
-  update_below g (Reach a b) reach levels cheapest = absurd (reach a b refl)
-  update_below g (Levels a) reach levels cheapest = absurd (levels a refl)
-  update_below g (Cheapest a b) reach levels cheapest = absurd (cheapest a b refl)
+  update_below g (AddVertex k) update = plain_either (has g k) (out.Present 0) out.Added tt tt
+  update_below g (RemoveVertex k) update = plain_either (has g k) (out.Removed 0) out.Absent tt tt
+  update_below g (HasVertex k) update = plain_either (has g k) out.Yes out.No tt tt
+  update_below g (AddEdge a b w) update = either (has g a && has g b) (by_weight (weight_of g a b) (there_with w) out.Added) (plain out.NoVertex) (weighted (weight_of g a b) (there_with w) out.Added (there_below limit w) tt) tt
+  update_below g (RemoveEdge a b) update = either (has g a && has g b) (by_weight (weight_of g a b) out.Removed out.NoEdge) (plain out.NoVertex) (weighted (weight_of g a b) out.Removed out.NoEdge (λ _. tt) tt) tt
+  update_below g (HasEdge a b) update = either (has g a && has g b) (by_weight (weight_of g a b) out.Edge out.NoEdge) (plain out.NoVertex) (weighted (weight_of g a b) out.Edge out.NoEdge (λ _. tt) tt) tt
+  update_below g (Reach a b) update = absurd (update tt)
+  update_below g (Levels a) update = absurd (update tt)
+  update_below g (Cheapest a b) update = absurd (update tt)
+
+  pub updated_below : (g : Graph) (call : Call) (a : Answer) → ¬ (IsPathCall call) → a ≡ answer g call → CostIsBelow limit a.outcome
+  updated_below g call a update is = subst (λ (x : Answer). CostIsBelow limit x.outcome) (sym is) (update_below g call update)
 
   -- an outcome whose cost, if it's one, is below the limit
   pub outcome_below : (o : Outcome) → ((c : ℕ) → o ≡ out.Cost c → c < limit) → CostIsBelow limit o

@@ -7,7 +7,6 @@ ghost use Rattle.std.specs.Prelude.{◌≡◌, ◌+◌, ◌≤◌, ◌<◌, ◌^
 ghost use Rattle.graph_kinds.specs.Graph.{has, key_count, pair_count, IsGraph};
 ghost use Rattle.graph_kinds.specs.Answer.{IsWellMade, plain, answer, after};
 ghost use Rattle.plain_graph.specs.Calls.{CostIsBelow, IsAdd, replacing};
-ghost use Rattle.graph_kinds.specs.Answer.{IsPathCall};
 ghost use Rattle.scan_record.specs.Asked.{answered};
 
 use crate::graph::PlainGraph;
@@ -64,35 +63,17 @@ impl PlainGraph {
         ensures stays { OnErr result (self.new ≡ self.old) }
         ensures sound { IsGraph self.new }
     {
+        let alloc = self.allocator();
         match *call {
+            Call::AddVertex { key } => Ok(bare(alloc, self.add_vertex(key)?)),
+            Call::RemoveVertex { key } => Ok(bare(alloc, self.remove_vertex(key))),
+            Call::HasVertex { key } => Ok(bare(alloc, self.has_vertex(key))),
+            Call::AddEdge { from, to, weight } => Ok(bare(alloc, self.add_edge(from, to, weight)?)),
+            Call::RemoveEdge { from, to } => Ok(bare(alloc, self.remove_edge(from, to))),
+            Call::HasEdge { from, to } => Ok(bare(alloc, self.has_edge(from, to))),
             Call::Reach { from, to } => self.reach(from, to),
             Call::Levels { from } => self.levels(from),
             Call::Cheapest { from, to } => self.cheapest(from, to),
-            _ => {
-                let outcome = self.outcome(call);
-                let alloc = self.allocator();
-                Ok(bare(alloc, outcome?))
-            }
-        }
-    }
-
-    /// The outcome of a call that asks for no path, with its change.
-    fn outcome(&mut self, call: &Call) -> Result<Outcome, Memory>
-        requires well_made { IsWellMade call.now }
-        requires room { IsAdd call.now → key_count self.old + pair_count self.old < 65536 }
-        requires update { ¬ (IsPathCall call.now) }
-        ensures answer { IfOk result (λ o. plain o ≡ answer self.old call.now) }
-        ensures change { OnOk result (self.new ≡ after self.old call.now) }
-        ensures stays { OnErr result (self.new ≡ self.old) }
-    {
-        match *call {
-            Call::AddVertex { key } => self.add_vertex(key),
-            Call::RemoveVertex { key } => Ok(self.remove_vertex(key)),
-            Call::HasVertex { key } => Ok(self.has_vertex(key)),
-            Call::AddEdge { from, to, weight } => self.add_edge(from, to, weight),
-            Call::RemoveEdge { from, to } => Ok(self.remove_edge(from, to)),
-            Call::HasEdge { from, to } => Ok(self.has_edge(from, to)),
-            Call::Reach { .. } | Call::Levels { .. } | Call::Cheapest { .. } => unreachable!(),
         }
     }
 
