@@ -1,24 +1,17 @@
 -- The end of a life, and safe reuse: a node is taken again only where each of its earlier lives has ended, and each
 -- pass that is open then was announced after that end.
-use Rattle.std.specs.Prelude.{◌≡◌, ℕ, ◌<◌, ◌≤◌, max, true, false, ◌⊎◌, List, Some, slice_get, take}
-use Rattle.packed_link.specs.Layout.{Sizes, epoch_at, announce_at}
+use Rattle.std.specs.Prelude.{◌≡◌, ℕ, ◌<◌, max, true, false, ◌⊎◌, List, Some, slice_get, take}
+use Rattle.packed_link.specs.Layout.{Sizes}
 use Rattle.packed_link.specs.declared.link.Life.{Life}
 use Rattle.core_journal.specs.declared.event.Kind.TheVariants.{PopFree}
 use Rattle.core_journal.specs.declared.event.Event.{Event}
 use Rattle.core_journal.specs.Event.{cuts_edge, cut_life, unlinks, freezes_head}
 use Rattle.core_journal.specs.Life.{link_of, unlinked}
-use Rattle.core_journal.specs.Machine.{word_at}
 use Rattle.core_journal.specs.State.{Pass, state}
 
 -- a caller's pass after a journal
 abbrev pub pass_in : Sizes → List Event → ℕ → Pass
 pass_in sizes journal caller = (state sizes journal).pass caller
-
--- an open pass lags: the epoch that it announced is below the epoch of the machine (an announcement is one above its
--- epoch)
-pub record IsLagging (sizes : Sizes) (journal : List Event) (caller : ℕ) : Type 0 where
-  pub is_open : (pass_in sizes journal caller).is_open ≡ true
-  pub lags : word_at sizes journal (announce_at sizes caller) ≤ word_at sizes journal (epoch_at sizes)
 
 -- the life is unlinked by the event at a place
 pub record IsUnlinkedAt (journal : List Event) (x : Life) (p : ℕ) : Type 0 where

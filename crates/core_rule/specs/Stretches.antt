@@ -5,8 +5,10 @@ use Rattle.packed_link.specs.Link.{index_of, tag_of}
 use Rattle.packed_link.specs.declared.link.Life.{Life}
 use Rattle.packed_link.specs.Layout.{Sizes, key_at, link_at, second_at, third_at}
 use Rattle.core_journal.specs.declared.event.Kind.{Kind}
-use Rattle.core_journal.specs.declared.event.Kind.TheVariants.{StorePrivate, LinkVertex, LinkEdge, ReplaceEdge}
-use Rattle.core_journal.specs.declared.event.Kind.TheVariants.{FreezeHead, StoreFree, PushFree}
+use Rattle.core_journal.specs.declared.event.Kind.TheVariants.{DrawNumber, PopFree, StorePrivate, LinkVertex}
+use Rattle.core_journal.specs.declared.event.Kind.TheVariants.{MarkVertex, UnlinkVertex, LinkEdge, Raise, MarkEdge}
+use Rattle.core_journal.specs.declared.event.Kind.TheVariants.{UnlinkEdge, ReplaceEdge, Announce, Withdraw, MoveEpoch}
+use Rattle.core_journal.specs.declared.event.Kind.TheVariants.{FreezeHead, FreezeEdge, StoreFree, PushFree}
 use Rattle.core_journal.specs.declared.event.Event.{Event}
 use Rattle.core_journal.specs.GraphOf.{changes}
 use Rattle.core_journal.specs.Life.{link_of}
@@ -47,18 +49,45 @@ pub record IsAlike (v w : View) : Type 0 where
 
 -- the kinds of events that are about a fresh node: it's filled or linked
 abbrev pub is_of_fresh : Kind → Bool
+is_of_fresh DrawNumber = false
+is_of_fresh PopFree = false
 is_of_fresh StorePrivate = true
 is_of_fresh LinkVertex = true
+is_of_fresh MarkVertex = false
+is_of_fresh UnlinkVertex = false
 is_of_fresh LinkEdge = true
+is_of_fresh Raise = false
+is_of_fresh MarkEdge = false
+is_of_fresh UnlinkEdge = false
 is_of_fresh ReplaceEdge = true
-is_of_fresh _ = false
+is_of_fresh Announce = false
+is_of_fresh Withdraw = false
+is_of_fresh MoveEpoch = false
+is_of_fresh FreezeHead = false
+is_of_fresh FreezeEdge = false
+is_of_fresh StoreFree = false
+is_of_fresh PushFree = false
 
 -- the kinds of events that change what is kept of a spent node: its list is closed, or it's given back
 abbrev pub is_of_spent : Kind → Bool
+is_of_spent DrawNumber = false
+is_of_spent PopFree = false
+is_of_spent StorePrivate = false
+is_of_spent LinkVertex = false
+is_of_spent MarkVertex = false
+is_of_spent UnlinkVertex = false
+is_of_spent LinkEdge = false
+is_of_spent Raise = false
+is_of_spent MarkEdge = false
+is_of_spent UnlinkEdge = false
+is_of_spent ReplaceEdge = false
+is_of_spent Announce = false
+is_of_spent Withdraw = false
+is_of_spent MoveEpoch = false
 is_of_spent FreezeHead = true
+is_of_spent FreezeEdge = false
 is_of_spent StoreFree = true
 is_of_spent PushFree = true
-is_of_spent _ = false
 
 -- a node is what it was, and so is each of its words but the one at a place
 pub record IsHeldBut (sizes : Sizes) (front journal : List Event) (x place : ℕ) : Type 0 where
