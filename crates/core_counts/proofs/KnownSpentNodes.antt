@@ -22,15 +22,16 @@ use Rattle.core_lists.proofs.EventKeepsRest.{spent_still}
 use Rattle.core_lists.proofs.ListHolds.{part_listed}
 use Rattle.core_lists.proofs.ListHoldsKept.{listing}
 use Rattle.core_lists.proofs.SpentWordsLead.{unclosed}
-use Rattle.core_counts.specs.Spending.{IsOwnUnlink, IsHandedOver, IsOne, IsOnPart, IsHolder, AreFinished, IsKnown, GotOnly, GetsNone}
+use Rattle.core_lists.specs.Chains.{IsBeingFrozen}
+use Rattle.core_counts.specs.Spending.{IsOwnUnlink, IsHandedOver, IsOnPart, IsHolder, AreFinished, IsKnown, GotOnly, GetsNone}
 use Rattle.core_counts.proofs.NodesBecomeSpent.{becoming}
 
 -- whether a vertex is the one whose list is being frozen
-one_or : (but : Option ℕ) (v : ℕ) → IsOne but v ⊎ (IsOne but v → ⊥)
+one_or : (but : Option ℕ) (v : ℕ) → IsBeingFrozen but v ⊎ (IsBeingFrozen but v → ⊥)
 one_or None v = inr (λ x. x)
 one_or (Some x) v = dite (ℕ_discrete v x) (λ is. inl is) (λ ne. inr ne)
 
-on_part : (s : State) (but : Option ℕ) (v y : ℕ) → IsOne but v → is_frozen s v y ≡ true → IsOnPart s but y
+on_part : (s : State) (but : Option ℕ) (v y : ℕ) → IsBeingFrozen but v → is_frozen s v y ≡ true → IsOnPart s but y
 on_part s None v y one h = absurd one
 on_part s (Some x) v y one h = subst (λ (i : ℕ). is_frozen s i y ≡ true) one h
 
@@ -40,7 +41,7 @@ any_more false got y h = h
 
 -- one event of the caller or of others
 module _ (sizes : Sizes) (z : IsLayout sizes) (past : List Event) (e : Event) (kept : IsKept sizes past) (ok : Allowed sizes past e) (c : ℕ) (but : Option ℕ) (fin : AreFinished sizes past c but)
-    (closes : e.caller ≡ c → e.kind ≡ FreezeHead → IsOne but e.life.index) where
+    (closes : e.caller ≡ c → e.kind ≡ FreezeHead → IsBeingFrozen but e.life.index) where
   abbrev s : State
   s = state sizes past
 
@@ -69,10 +70,10 @@ module _ (sizes : Sizes) (z : IsLayout sizes) (past : List Event) (e : Event) (k
   was_closed v closed = closed_by e.kind refl ok.as_kind v (subst (λ (t : State). t.frozen v ≡ true) after_is closed)
 
   -- a vertex whose list the event closes is spent by the event's caller
-  not_mine : (v : ℕ) → (IsOne but v → ⊥) → (node_in sizes past v).who ≡ c → (e.kind ≡ FreezeHead) × (v ≡ i) × IsSpentVertex sizes past e.caller i → ⊥
+  not_mine : (v : ℕ) → (IsBeingFrozen but v → ⊥) → (node_in sizes past v).who ≡ c → (e.kind ≡ FreezeHead) × (v ≡ i) × IsSpentVertex sizes past e.caller i → ⊥
   not_mine v other mine h =
       let by : e.caller ≡ c = sym h.2.mine ∙ (ap (λ (x : ℕ). (s.node x).who) (sym h.1) ∙ mine) in
-      other (subst (λ (x : ℕ). IsOne but x) (sym h.1) (closes by h.0))
+      other (subst (λ (x : ℕ). IsBeingFrozen but x) (sym h.1) (closes by h.0))
 
   -- spent with the caller before, or unlinked by it, or on the part that is being frozen
   abbrev Was : ℕ → Type 0
@@ -81,8 +82,8 @@ module _ (sizes : Sizes) (z : IsLayout sizes) (past : List Event) (e : Event) (k
   new_spent : (y : ℕ) → IsSpentWith sizes after c y → Was y
   new_spent y f = ⊎_elim (λ (a : IsSpentWith sizes past c y ⊎ IsOwnUnlink e c y). inl a)
       (λ (h : IsHandedOver sizes past e c y). ⊎_elim
-      (λ (one : IsOne but h.vertex). inr (on_part (state sizes after) but h.vertex y one h.on))
-      (λ (other : IsOne but h.vertex → ⊥). ⊎_elim
+      (λ (one : IsBeingFrozen but h.vertex). inr (on_part (state sizes after) but h.vertex y one h.on))
+      (λ (other : IsBeingFrozen but h.vertex → ⊥). ⊎_elim
       (λ (closed : s.frozen h.vertex ≡ true). absurd (h.unfinished (fin.each h.vertex other h.spent closed)))
       (λ (now : (e.kind ≡ FreezeHead) × (h.vertex ≡ i) × IsSpentVertex sizes past e.caller i). absurd (not_mine h.vertex other h.spent.mine now))
       (was_closed h.vertex (part_head (state sizes after) h.vertex y h.on)))
@@ -134,32 +135,32 @@ module _ (sizes : Sizes) (z : IsLayout sizes) (past : List Event) (e : Event) (k
   }
 
   -- the part goes on
-  part_on : IsHolder sizes past c but → (IsOne but i → e.kind ≢ PushFree) → (y : ℕ) → IsSpentWith sizes past c y → (node_in sizes after y).mode ≡ Spent → IsOnPart s but y → IsOnPart (state sizes after) but y
+  part_on : IsHolder sizes past c but → (IsBeingFrozen but i → e.kind ≢ PushFree) → (y : ℕ) → IsSpentWith sizes past c y → (node_in sizes after y).mode ≡ Spent → IsOnPart s but y → IsOnPart (state sizes after) but y
   part_on = by but
     where
-      by : (o : Option ℕ) → IsHolder sizes past c o → (IsOne o i → e.kind ≢ PushFree) → (y : ℕ) → IsSpentWith sizes past c y → (node_in sizes after y).mode ≡ Spent → IsOnPart s o y → IsOnPart (state sizes after) o y
+      by : (o : Option ℕ) → IsHolder sizes past c o → (IsBeingFrozen o i → e.kind ≢ PushFree) → (y : ℕ) → IsSpentWith sizes past c y → (node_in sizes after y).mode ≡ Spent → IsOnPart s o y → IsOnPart (state sizes after) o y
       by None h g y was m on = on
       by (Some x) h g y was m on =
           let tx = (spent_still sizes past e kept_after z c x (λ is same. g same is) (record { spent = h.spent; mine = h.mine })).1 in
           let ty = (spent_still sizes past e kept_after z c y (ungiven y m) was).1 in
           part_stays sizes z x y past after (prefix_snoc past e) kept_after tx ty on (subst IsUsed (sym m) tt)
 
-  holder_on : IsHolder sizes past c but → (IsOne but i → e.kind ≢ PushFree) → IsHolder sizes after c but
+  holder_on : IsHolder sizes past c but → (IsBeingFrozen but i → e.kind ≢ PushFree) → IsHolder sizes after c but
   holder_on = by but
     where
-      by : (o : Option ℕ) → IsHolder sizes past c o → (IsOne o i → e.kind ≢ PushFree) → IsHolder sizes after c o
+      by : (o : Option ℕ) → IsHolder sizes past c o → (IsBeingFrozen o i → e.kind ≢ PushFree) → IsHolder sizes after c o
       by None h g = tt
       by (Some x) h g = let r = spent_still sizes past e kept_after z c x (λ is same. g same is) (record { spent = h.spent; mine = h.mine }) in record { spent = r.0.spent; vertex = r.2 ∙ h.vertex; mine = r.0.mine }
 
   -- what was known is known, where all that was got is among what is said to be got now
-  known_on : (from : List Event) (got more : List ℕ) → (IsOne but i → e.kind ≢ PushFree) → IsHolder sizes past c but → ((y : ℕ) → list_any (λ (u : ℕ). u == y) got ≡ true → list_any (λ (u : ℕ). u == y) more ≡ true)
+  known_on : (from : List Event) (got more : List ℕ) → (IsBeingFrozen but i → e.kind ≢ PushFree) → IsHolder sizes past c but → ((y : ℕ) → list_any (λ (u : ℕ). u == y) got ≡ true → list_any (λ (u : ℕ). u == y) more ≡ true)
       → (y : ℕ) → IsSpentWith sizes past c y → IsSpentWith sizes after c y → IsKnown sizes from past c but got y → IsKnown sizes from after c but more y
   known_on from got more g holder grows y was f k = ⊎_elim
       (λ (a : IsSpentWith sizes from c y ⊎ (list_any (λ (u : ℕ). u == y) got ≡ true)). inl (⊎_elim (λ (b : IsSpentWith sizes from c y). inl b) (λ (b : list_any (λ (u : ℕ). u == y) got ≡ true). inr (grows y b)) a))
       (λ (on : IsOnPart s but y). inr (part_on holder g y was f.spent on)) k
 
   -- an event by which the caller unlinks nothing
-  pub got_step : (from : List Event) (got : List ℕ) → (e.caller ≡ c → unlinks e.kind ≡ false) → (IsOne but i → e.kind ≢ PushFree) → IsHolder sizes past c but → ((y : ℕ) → IsSpentWith sizes past c y → IsKnown sizes from past c but got y) → GotOnly sizes from after c but got
+  pub got_step : (from : List Event) (got : List ℕ) → (e.caller ≡ c → unlinks e.kind ≡ false) → (IsBeingFrozen but i → e.kind ≢ PushFree) → IsHolder sizes past c but → ((y : ℕ) → IsSpentWith sizes past c y → IsKnown sizes from past c but got y) → GotOnly sizes from after c but got
   got_step from got none g holder old = record {
     finished = finished_behind;
     holder = holder_on holder g;
@@ -172,7 +173,7 @@ module _ (sizes : Sizes) (z : IsLayout sizes) (past : List Event) (e : Event) (k
   }
 
   -- the caller's own unlink
-  pub got_unlinked : (from : List Event) (got : List ℕ) → (IsOne but i → e.kind ≢ PushFree) → IsHolder sizes past c but → ((y : ℕ) → IsSpentWith sizes past c y → IsKnown sizes from past c but got y) → GotOnly sizes from after c but (i ∷ got)
+  pub got_unlinked : (from : List Event) (got : List ℕ) → (IsBeingFrozen but i → e.kind ≢ PushFree) → IsHolder sizes past c but → ((y : ℕ) → IsSpentWith sizes past c y → IsKnown sizes from past c but got y) → GotOnly sizes from after c but (i ∷ got)
   got_unlinked from got g holder old = record {
     finished = finished_behind;
     holder = holder_on holder g;
@@ -203,7 +204,7 @@ got_beyond sizes z caller last but front journal p kept quiet old from got g =
         given : AllowedAs PushFree sizes past e → ⊥
         given r = other (sym r.ripe.stamped.spent.mine ∙ (ap (λ (y : ℕ). (node_in sizes past y).who) one ∙ h.mine))
 
-    others : (o : Option ℕ) → (past : List Event) (e : Event) → Allowed sizes past e → e.caller ≢ caller → IsHolder sizes past caller o → IsOne o e.life.index → e.kind ≢ PushFree
+    others : (o : Option ℕ) → (past : List Event) (e : Event) → Allowed sizes past e → e.caller ≢ caller → IsHolder sizes past caller o → IsBeingFrozen o e.life.index → e.kind ≢ PushFree
     others None past e ok other h one = absurd one
     others (Some x) past e ok other h one = λ is. by_kind x past e e.kind is ok.as_kind other one h
 

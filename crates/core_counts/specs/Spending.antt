@@ -8,6 +8,7 @@ use Rattle.core_journal.specs.declared.event.Event.{Event}
 use Rattle.core_journal.specs.Event.{draws, unlinks}
 use Rattle.core_journal.specs.State.{State, state}
 use Rattle.core_kept.specs.Freezing.{IsSpentVertex}
+use Rattle.core_lists.specs.Chains.{IsBeingFrozen}
 use Rattle.core_kept.specs.Nodes.{is_frozen, is_listed, IsFrozenToEnd, IsSpentWith, IsLinkedEdge}
 
 -- all kinds but the draw of a number
@@ -30,11 +31,6 @@ pub record IsHandedOver (sizes : Sizes) (past : List Event) (e : Event) (caller 
   pub unfinished : IsFrozenToEnd sizes past vertex → ⊥
   pub on : is_frozen (state sizes (past ++ e ∷ [])) vertex y ≡ true
 
--- a vertex is the one whose list is being frozen, if there is one
-abbrev pub IsOne : Option ℕ → ℕ → Type 0
-IsOne None v = ⊥
-IsOne (Some x) v = v ≡ x
-
 -- a node is of the frozen part of that list
 abbrev pub IsOnPart : State → Option ℕ → ℕ → Type 0
 IsOnPart s None y = ⊥
@@ -48,7 +44,7 @@ IsHolder sizes journal caller (Some x) = IsSpentVertex sizes journal caller x
 -- the list of each vertex that is spent with a caller, but of the one whose list is being frozen, is open at its head
 -- or frozen to its end
 pub record AreFinished (sizes : Sizes) (journal : List Event) (caller : ℕ) (but : Option ℕ) : Type 0 where
-  pub each : (v : ℕ) → (IsOne but v → ⊥) → IsSpentVertex sizes journal caller v → (state sizes journal).frozen v ≡ true
+  pub each : (v : ℕ) → (IsBeingFrozen but v → ⊥) → IsSpentVertex sizes journal caller v → (state sizes journal).frozen v ≡ true
       → IsFrozenToEnd sizes journal v
 
 -- a node is one of some
@@ -72,5 +68,5 @@ pub record GotOnly (sizes : Sizes) (front journal : List Event) (caller : ℕ) (
 -- another list, and no giving back of the vertex whose list is being frozen
 pub record GetsNone (but : Option ℕ) (e : Event) : Type 0 where
   pub unlinks : unlinks e.kind ≡ false
-  pub closes : e.kind ≡ FreezeHead → IsOne but e.life.index
-  pub gives : IsOne but e.life.index → e.kind ≢ PushFree
+  pub closes : e.kind ≡ FreezeHead → IsBeingFrozen but e.life.index
+  pub gives : IsBeingFrozen but e.life.index → e.kind ≢ PushFree

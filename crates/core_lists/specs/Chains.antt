@@ -1,5 +1,5 @@
 -- The chains of the table at a moment: the vertices of each bucket, and the list of edges of each vertex.
-use Rattle.std.specs.Prelude.{◌≡◌, ℕ, ◌%◌, ◌<◌, ◌⊎◌, true, false, List, Some}
+use Rattle.std.specs.Prelude.{◌≡◌, ℕ, ◌%◌, ◌<◌, ◌⊎◌, true, false, List, Option, Some, None}
 use Rattle.packed_link.specs.Link.{index_of, nowhere}
 use Rattle.packed_link.specs.Layout.{Sizes, bucket_at, key_at, link_at, second_at}
 use Rattle.packed_link.specs.declared.link.Life.{Life}
@@ -85,6 +85,11 @@ pub record KeepsList (sizes : Sizes) (journal : List Event) (x : ℕ) : Type 0 w
   pub used : IsUsed (node_in sizes journal x).mode
   pub vertex : (node_in sizes journal x).vertex ≡ true
   pub edges : (y : Life) → IsEdgeOf journal (life_in sizes journal x) y → IsUnstored sizes journal y
+
+-- a vertex is the one whose list is being frozen, if there is one
+abbrev pub IsBeingFrozen : Option ℕ → ℕ → Type 0
+IsBeingFrozen None x = ⊥
+IsBeingFrozen (Some y) x = x ≡ y
 
 -- a life is that of a node on the chain of this bucket
 pub record IsInBucket (sizes : Sizes) (journal : List Event) (j : ℕ) (x : Life) : Type 0 where

@@ -1,6 +1,6 @@
 -- Nodes that a token retires: they're spent with it, and the lists that may lead to them are frozen to their ends, but
 -- for the one that is being frozen.
-use Rattle.std.specs.Prelude.{◌≡◌, ◌≢◌, ℕ, ◌<◌, ◌≤◌, true, List, [], ◌∷◌, Option, Some, None}
+use Rattle.std.specs.Prelude.{◌≡◌, ◌≢◌, ℕ, ◌<◌, ◌≤◌, true, List, [], ◌∷◌, Option}
 use Rattle.graph_kinds.specs.History.{Every}
 use Rattle.packed_link.specs.Layout.{epoch_at}
 use Rattle.packed_link.specs.declared.link.Life.{Life}
@@ -9,13 +9,9 @@ use Rattle.core_journal.specs.Machine.{word_at}
 use Rattle.core_journal.specs.Prefix.{IsPrefix}
 use Rattle.core_journal.specs.State.{state}
 use Rattle.core_kept.specs.Nodes.{node_in, is_listed, IsStamped, IsFrozenToEnd}
+use Rattle.core_lists.specs.Chains.{IsBeingFrozen}
 use Rattle.core_rule.specs.Fronts.{IsLifeAt}
 use Rattle.core_rule.specs.declared.view.View.{View}
-
--- a vertex is the one whose list is being frozen, if there is one
-abbrev pub IsBeingFrozen : Option ℕ → ℕ → Type 0
-IsBeingFrozen None x = ⊥
-IsBeingFrozen (Some y) x = x ≡ y
 
 -- an epoch of at least this was shown
 pub record IsShown (v : View) (stamp : ℕ) : Type 0 where
