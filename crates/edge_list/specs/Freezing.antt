@@ -1,5 +1,5 @@
 -- A list under freezing, and what freezing its head and its edges tells.
-use Rattle.std.specs.Prelude.{◌≡◌, ◌≢◌, ℕ, ◌≤◌, true, false, Option, Some, None}
+use Rattle.std.specs.Prelude.{◌≡◌, ℕ, true, false, [], Option, Some, None}
 use Rattle.packed_link.specs.Layout.{link_at, second_at}
 use Rattle.packed_link.specs.Link.{index_of, nowhere}
 use Rattle.packed_link.specs.declared.link.Life.{Life}

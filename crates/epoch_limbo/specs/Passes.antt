@@ -20,4 +20,4 @@ pub record IsOpened (v w : View) : Type 0 where
   pub found : Moment v.front w.front (EpochIs v epoch) loaded
   pub makes : Makes v (announce_event v epoch ∷ []) w
   pub last : EndsBy (announce_event v epoch) w
-  pub open : HasPass w
+  pub opened : HasPass w
