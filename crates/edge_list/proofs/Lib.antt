@@ -1,0 +1,2 @@
+pub mod FrozenWords
+pub mod ListUnderFreezing

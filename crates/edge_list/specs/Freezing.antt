@@ -44,7 +44,6 @@ pub record IsHandedTo (old : FrozenValue) (v w : View) (x : Life) (new : FrozenV
   pub place : new.place ≡ link_at w.sizes x.index
   pub found : ℕ
   pub makes : Makes v (marking (freeze_edge_event v x) found) w
-  pub keeps : KeepsFrozen old.from v w
   pub held : IsHeldSpent w x
   pub edge : (node_in w.sizes w.front x.index).vertex ≡ false
   pub listed : is_listed (state w.sizes w.front) old.from.index x.index ≡ true
@@ -55,7 +54,6 @@ pub record IsHandedTo (old : FrozenValue) (v w : View) (x : Life) (new : FrozenV
 pub record IsFrozenWhole (old : FrozenValue) (v w : View) (new : FrozenValue) : Type 0 where
   pub same : new ≡ old
   pub makes : Makes v [] w
-  pub keeps : KeepsFrozen old.from v w
   pub leads : index_of (word_at w.sizes w.front old.place) ≡ nowhere
   pub freezing : IsFreezing w new
   pub whole : IsFrozenToEnd w.sizes w.front old.from.index
