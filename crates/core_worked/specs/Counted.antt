@@ -1,6 +1,11 @@
 -- What the laws of counts are shown on beside the journal with two lives: a table with one node, which is taken and
--- linked, so that the free list is empty and the node is all graph; and books of two callers.
+-- linked, so that the free list is empty and the node is all graph; books of two callers; and a call that is given up.
 use Rattle.std.specs.Prelude.{List, [], ◌∷◌}
+use Rattle.graph_kinds.specs.Answer.{plain}
+use Rattle.graph_kinds.specs.declared.call.Call.TheVariants.{AddEdge}
+use Rattle.graph_kinds.specs.declared.outcome.Outcome.TheVariants.{Again}
+use Rattle.graph_kinds.specs.declared.entry.Class.TheVariants.{Silent}
+use Rattle.graph_kinds.specs.declared.entry.Entry.{Entry}
 use Rattle.packed_link.specs.Link.{pack, nowhere}
 use Rattle.packed_link.specs.Layout.{Sizes, number_at, free_at, announce_at, bucket_at, key_at, link_at, second_at}
 use Rattle.packed_link.specs.Layout.{third_at}
@@ -30,3 +35,17 @@ one_vertex =
 -- the books of the two callers of a worked journal, without their entries
 abbrev pub two_books : List Book
 two_books = record { caller = 0; entries = [] } ∷ record { caller = 1; entries = [] } ∷ []
+
+-- caller 0 gives up a call in the worked journal of two callers at once: in its three tries, between events 20 and 28,
+-- caller 1 marked a vertex, unlinked it and closed its list
+abbrev pub given_up : Entry
+given_up =
+    record {
+      call = AddEdge 1 2 5;
+      tries = 3;
+      answer = plain Again;
+      class = Silent;
+      place = 28;
+      start = 20;
+      end = 28;
+    }
