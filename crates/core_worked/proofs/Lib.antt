@@ -19,3 +19,5 @@ pub mod MomentsShown
 pub mod WorkedBounds
 pub mod WorkedOthers
 pub mod WorkedAlike
+pub mod WorkedKept
+pub mod WorkedLists

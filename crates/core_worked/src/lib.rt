@@ -8,6 +8,8 @@ mod journals;
 mod laws_alike;
 mod laws_bounds;
 mod laws_counts;
+mod laws_kept;
+mod laws_lists;
 mod laws_moments;
 mod laws_others;
 mod laws_views;
@@ -29,6 +31,10 @@ pub use laws_bounds::{
 pub use laws_counts::{
     worked_events_are_few, worked_graphs_are_counted, worked_lives_go_one_way,
     worked_nodes_become_spent, worked_tables_are_swept,
+};
+pub use laws_kept::{worked_own_facts_stay, worked_words_tell_the_state};
+pub use laws_lists::{
+    worked_lists_are_closed, worked_met_nodes_keep_their_words, worked_replaced_edges_are_told,
 };
 pub use laws_moments::{
     a_worked_edge_comes_and_goes, a_worked_vertex_goes, worked_changes_are_counted,
