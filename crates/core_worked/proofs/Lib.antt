@@ -21,3 +21,4 @@ pub mod WorkedOthers
 pub mod WorkedAlike
 pub mod WorkedKept
 pub mod WorkedLists
+pub mod WorkedTokens

@@ -18,7 +18,7 @@ use Rattle.core_kept.specs.Nodes.{node_in, IsSpentWith}
 use Rattle.core_kept.proofs.Induction.{last_allowed}
 use Rattle.core_counts.specs.Nodes.{IsAllGraph}
 use Rattle.core_counts.specs.Spending.{IsOwnUnlink, IsHandedOver}
-use Rattle.core_counts.specs.Totals.{GoesOneWay, IsNotOver, IsOver, RaisesApart, RaisesOnce, total}
+use Rattle.core_counts.specs.Totals.{GoesOneWay, IsNotOver, IsEdgeOver, RaisesApart, RaisesOnce, total}
 use Rattle.core_counts.proofs.AllNodesOfGraph.{counted_all, few_nodes_of_graph}
 use Rattle.core_counts.proofs.CleanEdges.{linked_same}
 use Rattle.core_counts.proofs.CountedAreFew.{few_by_kinds, few_by_links, few_of_callers, foreign_few}
@@ -28,8 +28,8 @@ use Rattle.core_counts.proofs.LivesGoOneWay.{one_way}
 use Rattle.core_counts.proofs.NodesBecomeSpent.{becoming}
 use Rattle.core_counts.proofs.RaisesOfEdges.{apart_opening, apart_other, apart_others, apart_raise, once_apart, once_done, once_few, once_links, once_lost, once_opening, once_raise, once_stays}
 use Rattle.core_counts.proofs.SumsOverCallers.{total_most}
-use Rattle.core_worked.specs.Counted.{given_up, least, one_vertex}
-use Rattle.core_worked.specs.Replacing.{raises_to, replaced_anew, replacing, same_weight}
+use Rattle.core_worked.specs.Counted.{given_up, one_node, one_vertex}
+use Rattle.core_worked.specs.Replacing.{raises_to, replaced_anew, replacing_journal, same_weight}
 use Rattle.core_worked.specs.TwoLives.{closes_head, two_lives, with_an_edge}
 use Rattle.core_worked.proofs.OneNode.{least_layout, one_vertex_kept}
 use Rattle.core_worked.proofs.Replacing.{event, first, kept_33, kept_34, kept_68, kept_71, kept_72, replacing_kept}
@@ -75,7 +75,7 @@ done : (start mid end x : ℕ) → first start ++ drop start (first end) ≡ fir
 done start mid end x grows more same marked a =
     once_done 0 0 (first_life x ∷ []) (first start) (first end) (longer start end grows) over (once_stays 0 0 (first_life x ∷ []) (first start) (first mid) (first end) (longer mid end more) same a)
   where
-    over : All (IsOver (first end)) (first_life x ∷ [])
+    over : All (IsEdgeOver (first end)) (first_life x ∷ [])
     over zero d low = inl marked
     over (suc i) d low = absurd (omega (arith, low))
 
@@ -108,11 +108,11 @@ held_fourth : RaisesOnce (first 59) (first 66) 0 0 (first_life 5 ∷ [])
 unfolding link_of
 held_fourth = held 59 65 5 refl refl (record { link = event 57; linked = refl; unmarked = refl; source = refl }) at_59
 
-pub all_done : RaisesOnce replacing replacing 0 0 []
+pub all_done : RaisesOnce replacing_journal replacing_journal 0 0 []
 all_done = done 59 66 78 5 refl refl refl refl held_fourth
 
-pub four_raises : made raises 0 replacing ≤ all_made links_edge replacing + 0
-four_raises = once_links 0 0 [] replacing replacing all_done
+pub four_raises : made raises 0 replacing_journal ≤ all_made links_edge replacing_journal + 0
+four_raises = once_links 0 0 [] replacing_journal replacing_journal all_done
 
 -- a raise that is given up
 
@@ -127,36 +127,36 @@ few_lost = once_few small small_layout same_weight same_weight refused_same_weig
 
 -- lives and sums
 
-pub replaced_way : GoesOneWay replacing (first_life 2)
-replaced_way = one_way small small_layout replacing replacing_kept (first_life 2)
+pub replaced_way : GoesOneWay replacing_journal (first_life 2)
+replaced_way = one_way small small_layout replacing_journal replacing_kept (first_life 2)
 
-pub few_unlinks : all_made unlinks_edge replacing ≤ all_made cuts_edge replacing
-few_unlinks = fewer_cut unlinks_edge replacing (λ x. (one_way small small_layout replacing replacing_kept x).edge_unlinked)
+pub few_unlinks : all_made unlinks_edge replacing_journal ≤ all_made cuts_edge replacing_journal
+few_unlinks = fewer_cut unlinks_edge replacing_journal (λ x. (one_way small small_layout replacing_journal replacing_kept x).edge_unlinked)
 
-pub few_marks : all_made cuts_edge replacing ≤ all_made links_edge replacing
-few_marks = fewer_cuts links_edge replacing (λ x. (one_way small small_layout replacing replacing_kept x).edge_marked)
+pub few_marks : all_made cuts_edge replacing_journal ≤ all_made links_edge replacing_journal
+few_marks = fewer_cuts links_edge replacing_journal (λ x. (one_way small small_layout replacing_journal replacing_kept x).edge_marked)
 
-each_apart : (i : ℕ) → i < 2 → RaisesApart replacing i 0
-each_apart zero low = once_apart 0 0 [] replacing replacing all_done
-each_apart (suc zero) low = once_apart 1 0 [] [] replacing (once_stays 1 0 [] [] [] replacing (record { rest = replacing; whole = refl }) refl (once_opening 1))
+each_apart : (i : ℕ) → i < 2 → RaisesApart replacing_journal i 0
+each_apart zero low = once_apart 0 0 [] replacing_journal replacing_journal all_done
+each_apart (suc zero) low = once_apart 1 0 [] [] replacing_journal (once_stays 1 0 [] [] [] replacing_journal (record { rest = replacing_journal; whole = refl }) refl (once_opening 1))
 each_apart (suc (suc n)) low = absurd (omega (arith, low))
 
-pub below_kinds : all_made counted replacing + all_made replaces replacing ≤ 47
+pub below_kinds : all_made counted replacing_journal + all_made replaces replacing_journal ≤ 47
 unfolding state
-below_kinds = few_by_kinds small small_layout replacing replacing_kept 2 (lit≤ tt) (λ i. 0) each_apart
+below_kinds = few_by_kinds small small_layout replacing_journal replacing_kept 2 (lit≤ tt) (λ i. 0) each_apart
 
-pub below_links : all_made counted replacing ≤ 52
+pub below_links : all_made counted replacing_journal ≤ 52
 unfolding state
-below_links = few_by_links small small_layout replacing replacing_kept 2 (lit≤ tt) (λ i. 0) each_apart
+below_links = few_by_links small small_layout replacing_journal replacing_kept 2 (lit≤ tt) (λ i. 0) each_apart
 
-pub below_takes : all_made counted replacing ≤ 70
+pub below_takes : all_made counted replacing_journal ≤ 70
 unfolding state
-below_takes = few_of_callers small small_layout replacing replacing_kept 2 7 (lit≤ tt) (λ i. 0) each_apart (lit≤ tt) (lit≤ tt)
+below_takes = few_of_callers small small_layout replacing_journal replacing_kept 2 7 (lit≤ tt) (λ i. 0) each_apart (lit≤ tt) (lit≤ tt)
 
-pub below_each : total (λ (i : ℕ). made raises i replacing) 2 ≤ total (λ (i : ℕ). made counted i replacing) 2
-below_each = total_most (λ (i : ℕ). made raises i replacing) (λ (i : ℕ). made counted i replacing) 2 each
+pub below_each : total (λ (i : ℕ). made raises i replacing_journal) 2 ≤ total (λ (i : ℕ). made counted i replacing_journal) 2
+below_each = total_most (λ (i : ℕ). made raises i replacing_journal) (λ (i : ℕ). made counted i replacing_journal) 2 each
   where
-    each : (i : ℕ) → i < 2 → made raises i replacing ≤ made counted i replacing
+    each : (i : ℕ) → i < 2 → made raises i replacing_journal ≤ made counted i replacing_journal
     each zero low = lit≤ tt
     each (suc zero) low = lit≤ tt
     each (suc (suc n)) low = absurd (omega (arith, low))
@@ -186,12 +186,12 @@ few_of_table = few_nodes_of_graph small small_layout (first 68) kept_68
 pub whole_graph : key_count (graph_of one_vertex) + pair_count (graph_of one_vertex) ≡ 1
 unfolding state
 whole_graph =
-    let keys : key_count (graph_of one_vertex) ≡ 1 = keys_are least least_layout one_vertex one_vertex_kept in
-    let pairs : pair_count (graph_of one_vertex) ≡ 0 = pairs_are least least_layout one_vertex one_vertex_kept in
+    let keys : key_count (graph_of one_vertex) ≡ 1 = keys_are one_node least_layout one_vertex one_vertex_kept in
+    let pairs : pair_count (graph_of one_vertex) ≡ 0 = pairs_are one_node least_layout one_vertex one_vertex_kept in
     omega (arith, keys, pairs)
 
-pub only_graph : IsAllGraph least one_vertex
-only_graph = counted_all least least_layout one_vertex one_vertex_kept whole_graph
+pub only_graph : IsAllGraph one_node one_vertex
+only_graph = counted_all one_node least_layout one_vertex one_vertex_kept whole_graph
 
 pub target_stays : node_in small (first 34) 1 ≡ node_in small (first 33) 1
 unfolding state

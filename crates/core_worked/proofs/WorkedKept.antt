@@ -31,7 +31,7 @@ use Rattle.core_kept.proofs.NearEpochs.{checked}
 use Rattle.core_kept.proofs.OwnFacts.{fresh_stays, none_fresh_stays, pass_stays}
 use Rattle.core_kept.proofs.OwnSpent.{spent_stays}
 use Rattle.core_kept.proofs.Ripe.{ripe_before}
-use Rattle.core_worked.specs.Replacing.{replaces_by, replacing}
+use Rattle.core_worked.specs.Replacing.{replaces_by, replacing_journal}
 use Rattle.core_worked.specs.TwoLives.{freezes_second, links_new, two_lives}
 use Rattle.core_worked.proofs.KnownSteps.{front_kept}
 use Rattle.core_worked.proofs.LawSteps.{kept, longer}
@@ -99,8 +99,8 @@ vertex_is_new = new_vertex small small_layout (before 16) (event 16) (kept 16) r
 pub edge_is_new : IsNewEdge (before 24) (links_new 2 5)
 edge_is_new = new_edge small small_layout (before 24) (links_new 2 5) (kept 24) refl (allowed_at small two_lives 24 (links_new 2 5) two_lives_kept refl).as_kind
 
-pub replacing_is_new : IsReplacing (take 33 replacing) (replaces_by 2 3 6)
-replacing_is_new = new_replacing small small_layout (take 33 replacing) (replaces_by 2 3 6) kept_33 refl (allowed_at small replacing 33 (replaces_by 2 3 6) replacing_kept refl).as_kind
+pub replacing_is_new : IsReplacing (take 33 replacing_journal) (replaces_by 2 3 6)
+replacing_is_new = new_replacing small small_layout (take 33 replacing_journal) (replaces_by 2 3 6) kept_33 refl (allowed_at small replacing_journal 33 (replaces_by 2 3 6) replacing_kept refl).as_kind
 
 pub frozen_is_of_marked : IsFrozenEdge (before 43) freezes_second
 frozen_is_of_marked = frozen_edge small small_layout (before 43) freezes_second (kept 43) refl (allowed_at small two_lives 43 freezes_second two_lives_kept refl).as_kind

@@ -29,7 +29,7 @@ use Rattle.core_lists.proofs.OneVertexOfKey.{present_in}
 use Rattle.core_lists.proofs.PartSpender.{part_who}
 use Rattle.core_lists.proofs.RaisedInPass.{raised_in_pass}
 use Rattle.core_lists.proofs.RipeningNodes.{ripe_behind, ripens, stamp_behind, stamp_beyond, stamped}
-use Rattle.core_worked.specs.Replacing.{replacing}
+use Rattle.core_worked.specs.Replacing.{replacing_journal}
 use Rattle.core_worked.specs.TwoLives.{links_new, two_lives}
 use Rattle.core_worked.proofs.LawSteps.{kept, longer}
 use Rattle.core_worked.proofs.Replacing.{event, first, kept_33, kept_35, replacing_kept}
@@ -72,9 +72,9 @@ older_2 = ⊎_elim (λ (same : first_life 3 ≡ first_life 2). let h : 3 ≡ 2 =
     old : IsEdgeOf (first 35) (first_life 0) (first_life 2)
     old = record { link = event 24; is = refl; from = refl; stays = refl }
 
-pub lower_2 : IsLinkedLower small replacing 33 (links_new 2 5)
+pub lower_2 : IsLinkedLower small replacing_journal 33 (links_new 2 5)
 unfolding link_of
-lower_2 = marked_lower small small_layout replacing replacing_kept 33 (event 33) (links_new 2 5) refl refl refl refl
+lower_2 = marked_lower small small_layout replacing_journal replacing_kept 33 (event 33) (links_new 2 5) refl refl refl refl
 
 raised_2 : IsLinkedLower small (first 33) 33 (links_new 2 5) × ((node_in small (first 33) 0).stored ≡ false)
 unfolding link_of state
@@ -90,11 +90,11 @@ pub counter_higher : word_at small (first 26) (third_at small 0) ≤ word_at sma
 unfolding state
 counter_higher = counter_rises small small_layout 0 (first 26) (first 35) (record { rest = drop 26 (first 35); whole = refl }) kept_35 (λ h. absurd (cc)) refl
 
-pub edges_of_nodes : made links_edge 0 replacing ≤ made pops 0 replacing
-edges_of_nodes = edges_paid small replacing replacing_kept 0
+pub edges_of_nodes : made links_edge 0 replacing_journal ≤ made pops 0 replacing_journal
+edges_of_nodes = edges_paid small replacing_journal replacing_kept 0
 
-pub two_links : length {A = Life} (first_life 2 ∷ first_life 3 ∷ []) ≤ all_made links_edge replacing
-two_links = edges_are_links replacing (first_life 2 ∷ first_life 3 ∷ []) apart linked
+pub two_links : length {A = Life} (first_life 2 ∷ first_life 3 ∷ []) ≤ all_made links_edge replacing_journal
+two_links = edges_are_links replacing_journal (first_life 2 ∷ first_life 3 ∷ []) apart linked
   where
     apart : AllPairs ◌≢◌ (first_life 2 ∷ first_life 3 ∷ [])
     apart zero (suc zero) d low high = λ same. let h : 2 ≡ 3 = ap (λ (l : Life). l.index) same in omega (arith, h)
@@ -103,7 +103,7 @@ two_links = edges_are_links replacing (first_life 2 ∷ first_life 3 ∷ []) apa
     apart (suc i) zero d low high = absurd (omega (arith, low))
     apart (suc i) (suc j) d low high = absurd (omega (arith, low, high))
 
-    linked : All (λ (x : Life). edge_linked replacing x ≡ true) (first_life 2 ∷ first_life 3 ∷ [])
+    linked : All (λ (x : Life). edge_linked replacing_journal x ≡ true) (first_life 2 ∷ first_life 3 ∷ [])
     linked zero d low = refl
     linked (suc zero) d low = refl
     linked (suc (suc i)) d low = absurd (omega (arith, low))

@@ -19,7 +19,7 @@ use Rattle.core_lists.specs.Uncounted.{AreUncounted, StaysButUnlinked}
 use Rattle.core_lists.proofs.ChangedByAnother.{bucket_changed, change_counts, free_changed, met_between}
 use Rattle.core_lists.proofs.OwnUnlinksOnly.{list_stays, stays_but_unlinked}
 use Rattle.core_lists.proofs.UncountedEvents.{quiet_uncounted}
-use Rattle.core_worked.specs.Replacing.{replacing}
+use Rattle.core_worked.specs.Replacing.{replacing_journal}
 use Rattle.core_worked.specs.TwoLives.{two_lives}
 use Rattle.core_worked.proofs.KnownSteps.{front_kept}
 use Rattle.core_worked.proofs.Replacing.{kept_51}
@@ -84,19 +84,19 @@ vertex_unlinked = stays_but_unlinked small small_layout (first 24) 1 (drop 24 (f
     each (suc (suc k)) e at = absurd (cc)
 
 abbrev behind : ℕ → List Event
-behind n = take n replacing
+behind n = take n replacing_journal
 
 pub edges_unlinked : StaysButUnlinked small (behind 47) (drop 47 (behind 51)) 0
 edges_unlinked = stays_but_unlinked small small_layout (behind 47) 0 (drop 47 (behind 51)) kept_51 (record { each = each })
   where
-    own : (n : ℕ) (e : Event) → unlinks (get_or replacing n blank).kind ≡ true → (get_or replacing n blank).caller ≡ 0 → get_or replacing n blank ≡ e → (counted e.kind ≡ false) ⊎ ((unlinks e.kind ≡ true) × (e.caller ≡ 0))
+    own : (n : ℕ) (e : Event) → unlinks (get_or replacing_journal n blank).kind ≡ true → (get_or replacing_journal n blank).caller ≡ 0 → get_or replacing_journal n blank ≡ e → (counted e.kind ≡ false) ⊎ ((unlinks e.kind ≡ true) × (e.caller ≡ 0))
     own n e cuts mine same = inr (ap (λ (d : Event). unlinks d.kind) (sym same) ∙ cuts, ap (λ (d : Event). d.caller) (sym same) ∙ mine)
 
     each : (k : ℕ) (e : Event) → slice_get (drop 47 (behind 51)) k ≡ Some e → (counted e.kind ≡ false) ⊎ ((unlinks e.kind ≡ true) × (e.caller ≡ 0))
     each zero e at = own 47 e refl refl (cc)
     each (suc zero) e at = own 48 e refl refl (cc)
     each (suc (suc zero)) e at = own 49 e refl refl (cc)
-    each (suc (suc (suc zero))) e at = let same : get_or replacing 50 blank ≡ e = cc in inl (ap (λ (d : Event). counted d.kind) (sym same))
+    each (suc (suc (suc zero))) e at = let same : get_or replacing_journal 50 blank ≡ e = cc in inl (ap (λ (d : Event). counted d.kind) (sym same))
     each (suc (suc (suc (suc k)))) e at = absurd (cc)
 
 pub three_listed : (state small (behind 47)).edges 0 ≡ 2 ∷ 3 ∷ 4 ∷ []

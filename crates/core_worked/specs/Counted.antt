@@ -16,20 +16,20 @@ use Rattle.core_journal.specs.Event.{blank}
 use Rattle.core_journal.specs.Worked.{first_life}
 
 -- a table for one caller, with one node and one bucket
-abbrev pub least : Sizes
-least = record { callers = 1; nodes = 1; buckets = 1 }
+abbrev pub one_node : Sizes
+one_node = record { callers = 1; nodes = 1; buckets = 1 }
 
 -- a number is drawn, a pass is opened, the node is taken and filled, and it's linked as the vertex of key 7
 abbrev pub one_vertex : List Event
 one_vertex =
-    record blank { kind = DrawNumber; place = number_at least; word = 1 }
-    ∷ record blank { kind = Announce; place = announce_at least 0; word = 1 }
-    ∷ record blank { kind = PopFree; place = free_at least; word = pack nowhere 0 1; life = first_life 0 }
-    ∷ record blank { kind = StorePrivate; place = key_at least 0; word = 7; life = first_life 0 }
-    ∷ record blank { kind = StorePrivate; place = link_at least 0; word = pack nowhere 0 1; life = first_life 0 }
-    ∷ record blank { kind = StorePrivate; place = second_at least 0; word = pack nowhere 0 1; life = first_life 0 }
-    ∷ record blank { kind = StorePrivate; place = third_at least 0; word = 0; life = first_life 0 }
-    ∷ record blank { kind = LinkVertex; place = bucket_at least 0; word = pack 0 0 0; life = first_life 0; key = 7 }
+    record blank { kind = DrawNumber; place = number_at one_node; word = 1 }
+    ∷ record blank { kind = Announce; place = announce_at one_node 0; word = 1 }
+    ∷ record blank { kind = PopFree; place = free_at one_node; word = pack nowhere 0 1; life = first_life 0 }
+    ∷ record blank { kind = StorePrivate; place = key_at one_node 0; word = 7; life = first_life 0 }
+    ∷ record blank { kind = StorePrivate; place = link_at one_node 0; word = pack nowhere 0 1; life = first_life 0 }
+    ∷ record blank { kind = StorePrivate; place = second_at one_node 0; word = pack nowhere 0 1; life = first_life 0 }
+    ∷ record blank { kind = StorePrivate; place = third_at one_node 0; word = 0; life = first_life 0 }
+    ∷ record blank { kind = LinkVertex; place = bucket_at one_node 0; word = pack 0 0 0; life = first_life 0; key = 7 }
     ∷ []
 
 -- the books of the two callers of a worked journal, without their entries

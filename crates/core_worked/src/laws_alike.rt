@@ -42,9 +42,9 @@ pub fn worked_conditions_are_alike()
     ensures push { MayPushFree (view_drawing 50) (pack 3 0 5) (first_life 0) }
 {}
 
-/// What a token knows of lives, of what it met and of what it retired, in the same form
-/// (`facts_of_a_front_are_alike`): of fresh, linked and spent nodes; of words in front of which, behind which and at
-/// which it may step; of no fresh node, of the target of an edge, of a retired node, and of how many nodes it spent.
+/// What a token knows of lives, of what it met and of what it retired, in the same form (`facts_of_a_front_are_alike`):
+/// of fresh, linked and spent nodes; of words in front of which, behind which and at which it may step; of no fresh
+/// node, of the target of an edge, of a retired node, and of how many nodes it spent.
 pub fn worked_facts_are_alike()
     ensures life_at { IsLifeAt (view_drawing 34) (first_life 3) }
     ensures met_edge { MetEdge (view_drawing 28) (first_life 0) (first_life 2) }
@@ -66,10 +66,10 @@ pub fn worked_facts_are_alike()
 {}
 
 /// Stretches of the pass that removes the vertex of node 0 (`own_events_add_up`): from its mark on the unlink, the
-/// closing of the list and the freezing of its edge all leave the graph (`leaves`), and stand elsewhere than at the link
-/// of node 1 (`elsewhere`); from a view to itself and by a load there is no own event (`same`, `look`). The pass is open
-/// still behind them, and goes on from the moment behind the unlink (`a_view_goes_on_between#opened`, `#between`). Two
-/// nodes are spent by then, none before (`own_spent_nodes_are_a_measure#no_fewer`, `#bound`,
+/// closing of the list and the freezing of its edge all leave the graph (`leaves`), and stand elsewhere than at the
+/// link of node 1 (`elsewhere`); from a view to itself and by a load there is no own event (`same`, `look`). The pass
+/// is open still behind them, and goes on from the moment behind the unlink (`a_view_goes_on_between#opened`,
+/// `#between`). Two nodes are spent by then, none before (`own_spent_nodes_are_a_measure#no_fewer`, `#bound`,
 /// `a_limbo_has_room#nodes`).
 pub fn worked_stretches_add_up()
     ensures leaves { Own Leaves (view_at 0 41) (view_behind 43) }

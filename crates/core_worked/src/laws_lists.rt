@@ -17,29 +17,29 @@ ghost use Rattle.core_kept.specs.Nodes.{IsFrozenToEnd, IsRipe, IsStamped, is_fro
 ghost use Rattle.core_lists.specs.Chains.{IsEdgeOf, IsInBucket, IsOlder};
 ghost use Rattle.core_lists.specs.Raised.{IsLinkedLower};
 ghost use Rattle.core_lists.specs.Replacements.{IsReplacedBy, LeadsToItsKey};
-ghost use Rattle.core_worked.specs.Replacing.{replacing};
+ghost use Rattle.core_worked.specs.Replacing.{replacing_journal};
 ghost use Rattle.core_worked.specs.TwoLives.{links_new, two_lives};
 
-/// In the journal with replacements event 33 replaced the edge of node 2 by that of node 3: its link is marked and leads to
-/// that node, of the same key (`a_marked_link_tells_whether_its_edge_was_replaced#same_key`, `#word`), which tells that
-/// it was replaced by it (`#told`). Of the two edges the replaced one is the older (`one_edge_has_a_pair#unmarked`). It
-/// was linked at a lower counter of its source than that of its replacement
+/// In the journal with replacements event 33 replaced the edge of node 2 by that of node 3: its link is marked and
+/// leads to that node, of the same key (`a_marked_link_tells_whether_its_edge_was_replaced#same_key`, `#word`), which
+/// tells that it was replaced by it (`#told`). Of the two edges the replaced one is the older
+/// (`one_edge_has_a_pair#unmarked`). It was linked at a lower counter of its source than that of its replacement
 /// (`marked_edges_were_linked_at_a_lower_counter#marked`), as of the raise before it (`#raised`), whose source isn't
 /// stored (`#unstored`); and that counter never falls (`#rises`). Five edges are linked with seven nodes taken
 /// (`few_edges_are_linked#caller`); two of them are two (`#links`, `#all`).
 pub fn worked_replaced_edges_are_told()
-    ensures same_key { LeadsToItsKey small (take 35 replacing) 2 }
-    ensures told { IsReplacedBy (take 35 replacing) (first_life 2) (first_life 3) }
-    ensures word { (index_of (word_at small (take 35 replacing) (link_at small 2)) ≡ 3)
-        × (mark_of (word_at small (take 35 replacing) (link_at small 2)) ≡ 1) }
-    ensures older { IsOlder small (take 35 replacing) (first_life 2) (first_life 3) }
-    ensures lower { IsLinkedLower small replacing 33 (links_new 2 5) }
-    ensures raised { IsLinkedLower small (take 33 replacing) 33 (links_new 2 5) }
-    ensures unstored { (node_in small (take 33 replacing) 0).stored ≡ false }
-    ensures rises { word_at small (take 26 replacing) (third_at small 0)
-        ≤ word_at small (take 35 replacing) (third_at small 0) }
-    ensures caller { made links_edge 0 replacing ≤ made pops 0 replacing }
-    ensures links { length {A = Life} (first_life 2 ∷ first_life 3 ∷ []) ≤ all_made links_edge replacing }
+    ensures same_key { LeadsToItsKey small (take 35 replacing_journal) 2 }
+    ensures told { IsReplacedBy (take 35 replacing_journal) (first_life 2) (first_life 3) }
+    ensures word { (index_of (word_at small (take 35 replacing_journal) (link_at small 2)) ≡ 3)
+        × (mark_of (word_at small (take 35 replacing_journal) (link_at small 2)) ≡ 1) }
+    ensures older { IsOlder small (take 35 replacing_journal) (first_life 2) (first_life 3) }
+    ensures lower { IsLinkedLower small replacing_journal 33 (links_new 2 5) }
+    ensures raised { IsLinkedLower small (take 33 replacing_journal) 33 (links_new 2 5) }
+    ensures unstored { (node_in small (take 33 replacing_journal) 0).stored ≡ false }
+    ensures rises { word_at small (take 26 replacing_journal) (third_at small 0)
+        ≤ word_at small (take 35 replacing_journal) (third_at small 0) }
+    ensures caller { made links_edge 0 replacing_journal ≤ made pops 0 replacing_journal }
+    ensures links { length {A = Life} (first_life 2 ∷ first_life 3 ∷ []) ≤ all_made links_edge replacing_journal }
 {}
 
 /// In the journal with two lives the list of node 0 is closed at its head, stays so while its edge is frozen (`head` of
@@ -64,9 +64,9 @@ pub fn worked_lists_are_closed()
 {}
 
 /// While the source of its edge is removed in the pass of events 39 to 44, caller 0 has met node 3, also once that is
-/// spent, in the same life, with its key, target, weight and source, and not stored (`what_is_met_keeps_its_words`); the
-/// marked link of node 0 stays (`#link`). Node 2, spent in epoch 0, has the stamp 0, keeps it while caller 1 moves the
-/// epoch on, is ripe in epoch 2, and stays both while node 3 is stored for the free list
+/// spent, in the same life, with its key, target, weight and source, and not stored (`what_is_met_keeps_its_words`);
+/// the marked link of node 0 stays (`#link`). Node 2, spent in epoch 0, has the stamp 0, keeps it while caller 1 moves
+/// the epoch on, is ripe in epoch 2, and stays both while node 3 is stored for the free list
 /// (`spent_nodes_become_ripe#stamp`, `#stamp_beyond`, `#ripens`, `#stamp_behind`, `#ripe_behind`).
 pub fn worked_met_nodes_keep_their_words()
     ensures met { HasMet small (take 44 two_lives) 0 3 }

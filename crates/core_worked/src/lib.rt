@@ -12,6 +12,7 @@ mod laws_kept;
 mod laws_lists;
 mod laws_moments;
 mod laws_others;
+mod laws_tokens;
 mod laws_views;
 mod lifts;
 mod replacements;
@@ -42,6 +43,10 @@ pub use laws_moments::{
 };
 pub use laws_others::{
     worked_unlinks_take_away_no_more, worked_words_are_changed_by_another,
+};
+pub use laws_tokens::{
+    worked_own_things_stay, worked_tables_keep_the_rule, worked_views_go_on,
+    worked_words_are_shown,
 };
 pub use laws_views::{
     laws_of_moments_meet_a_worked_journal, laws_of_removal_meet_a_worked_journal,

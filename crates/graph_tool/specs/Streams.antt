@@ -10,8 +10,8 @@ reader_of s = s.reader
 abbrev pub reader_faults : {R : Type 0} → ReadSource R → ℕ
 reader_faults s = s.faults
 
-abbrev pub reader_has_ended : {R : Type 0} → ReadSource R → Bool
-reader_has_ended s = s.ended
+abbrev pub reader_ended : {R : Type 0} → ReadSource R → Bool
+reader_ended s = s.ended
 
 -- the writer, and the count of writes that failed
 abbrev pub writer_of : {W : Type 0} → WriteSink W → W

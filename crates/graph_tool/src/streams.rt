@@ -40,11 +40,11 @@ impl<R: io::Read> ReadSource<R> {
 }
 
 impl<R: io::Read> Source for ReadSource<R> {
-    ghost use Rattle.graph_tool.specs.Streams.{reader_of, reader_faults, reader_has_ended};
+    ghost use Rattle.graph_tool.specs.Streams.{reader_of, reader_faults, reader_ended};
 
     ghost rest = { λ _. None };
 
-    ghost ended = { reader_has_ended };
+    ghost ended = { reader_ended };
 
     ghost faults = { reader_faults };
 
@@ -54,15 +54,15 @@ impl<R: io::Read> Source for ReadSource<R> {
     fn read(&mut self, into: &mut [u8]) -> ReadAnswer
         requires { 0 < length into.old }
         ensures some { IfGot result (λ n. (0 < n) × (n ≤ length into.old)) }
-        ensures goes_on { IfGot result (λ _. reader_has_ended self.new ≡ reader_has_ended self.old) }
-        ensures end { IfEnd result (reader_has_ended self.new ≡ true) }
-        ensures failed { IfReadFailed result (reader_has_ended self.new ≡ reader_has_ended self.old) }
+        ensures goes_on { IfGot result (λ _. reader_ended self.new ≡ reader_ended self.old) }
+        ensures end { IfEnd result (reader_ended self.new ≡ true) }
+        ensures failed { IfReadFailed result (reader_ended self.new ≡ reader_ended self.old) }
         ensures rose { IfReadFailed result (Rose (reader_faults self.old) (reader_faults self.new)) }
-        ensures stays { reader_has_ended self.old ≡ true → result ≡ ReadAnswer.End }
+        ensures stays { reader_ended self.old ≡ true → result ≡ ReadAnswer.End }
         ensures faults { reader_faults self.old ≤ reader_faults self.new }
         ensures known { IfGot result (λ n. Consumes (R.remaining (reader_of self.old))
             (R.remaining (reader_of self.new)) (take n into.new)) }
-        ensures known_end { IfEnd result (reader_has_ended self.old ≡ false → IsAtEnd (R.remaining (reader_of self.new))) }
+        ensures known_end { IfEnd result (reader_ended self.old ≡ false → IsAtEnd (R.remaining (reader_of self.new))) }
         ensures known_failed { IfReadFailed result (Keeps (R.remaining (reader_of self.old))
             (R.remaining (reader_of self.new))) }
     {
