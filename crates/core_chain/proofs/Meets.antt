@@ -6,7 +6,7 @@ use Rattle.std.proofs.lemmas.List.Elements.{Contains-get_or}
 use Rattle.packed_link.specs.Link.{nowhere}
 use Rattle.core_chain.specs.Chain.{Chain, Position, Head, Node, IsOn, IsChain, Precedes, rank_of, since_of}
 use Rattle.core_chain.specs.Met.{MeetsFrom, RisesAlong, RisesUnmarked, IsMet}
-use Rattle.core_chain.proofs.Orders.{if_equal, by_order, LeadsTo, NotPast, RisesBehind, IsChain-by}
+use Rattle.core_chain.proofs.Orders.{if_equal, by_order, LeadsOnChain, NotPast, RisesBehind, IsChain-by}
 use Rattle.core_chain.proofs.Orders.{before_same, before_both, before_then}
 
 -- nothing is in no list
@@ -54,7 +54,7 @@ Rises-once c p (y ∷ ys) rising (suc i) (suc j) d low high =
 
 -- the nodes are those on the chain that stand behind the word
 abbrev pub AreBehind : Chain → Position → List ℕ → Type 0
-AreBehind c p xs = (x : ℕ) → LeadsTo c p x ↔ Contains xs x
+AreBehind c p xs = (x : ℕ) → LeadsOnChain c p x ↔ Contains xs x
 
 -- what is met from a word of a chain rises, is on it, and is all that stands behind the word
 pub met_behind : (c : Chain) (p : Position) (xs : List ℕ)
@@ -63,7 +63,7 @@ met_behind c p [] chain on none =
     (tt, λ x. (λ h. absurd (chain.last p (Node x) on h.0 h.1 none), λ at. absurd (Contains-none x at)))
 met_behind c p (y ∷ ys) chain on met =
     let some : c.next p ≢ nowhere = λ e. met.1 (sym met.0 ∙ e) in
-    let first : LeadsTo c p y = subst (LeadsTo c p) met.0 (chain.leads p on some) in
+    let first : LeadsOnChain c p y = subst (LeadsOnChain c p) met.0 (chain.leads p on some) in
     let rest = met_behind c (Node y) ys chain first.0 met.2 in (
       (first.1, rest.0),
       λ x. (
@@ -72,7 +72,7 @@ met_behind c p (y ∷ ys) chain on met =
             (λ low. Contains-later x y ys ((rest.1 x).0 (h.0, low)))
             (λ high. absurd (chain.gap p (Node x) on h.0 h.1
             (subst (λ (z : ℕ). Precedes c (Node x) (Node z)) (sym met.0) high))),
-        λ at. by_place x y ys at (λ e. subst (LeadsTo c p) e first)
+        λ at. by_place x y ys at (λ e. subst (LeadsOnChain c p) e first)
             (λ later. let g = (rest.1 x).1 later in (g.0, before_then c p (Node y) (Node x) first.1 g.1)),
       ),
     )
@@ -265,7 +265,7 @@ rises_among c p (y ∷ ys) x met rising at some =
     (λ later. rises_among c (Node y) ys x met.2 rising.1 later some)
 
 module _ (c : Chain) (xs : List ℕ) (met : IsMet c xs) where
-  met_leads : (p : Position) → IsOn c p → c.next p ≢ nowhere → LeadsTo c p (c.next p)
+  met_leads : (p : Position) → IsOn c p → c.next p ≢ nowhere → LeadsOnChain c p (c.next p)
   met_leads Head on some =
       let h = first_led c Head xs met.met met.rising some in ((met.exactly (c.next Head)).1 h.0, h.1)
   met_leads (Node x) on some =

@@ -7,7 +7,7 @@ use Rattle.packed_link.specs.Link.{nowhere}
 use Rattle.core_chain.specs.Chain.{Chain, Position, Head, Node, IsOn, IsChain, Precedes, rank_of, since_of}
 use Rattle.core_chain.specs.Met.{MeetsFrom}
 use Rattle.core_chain.specs.Walk.{StandsBelow, Passes, stands_behind, rest_behind}
-use Rattle.core_chain.proofs.Orders.{IsBelow-precedes, Precedes-below, LeadsTo, NotPast, RisesBehind, IsChain-by}
+use Rattle.core_chain.proofs.Orders.{IsBelow-precedes, Precedes-below, LeadsOnChain, NotPast, RisesBehind, IsChain-by}
 use Rattle.core_chain.proofs.Orders.{by_order, before_then, rises_behind}
 use Rattle.core_chain.proofs.Meets.{met_behind, leader, IsMet-from_chain}
 
@@ -64,7 +64,7 @@ module _ (c : Chain) (p : Position) (chain : IsChain c) (on_p : IsOn c p) where
   behind_test q after = grind (arith, nat_tests)
 
   -- a node of the rest is on the chain, behind the word
-  whole : (x : ℕ) → IsOn (rest_behind c p) (Node x) → LeadsTo c p x
+  whole : (x : ℕ) → IsOn (rest_behind c p) (Node x) → LeadsOnChain c p x
   whole x on =
       let both = and_parts (c.on x) (stands_behind c p (Node x)) on in
       (both.0, behind_true (Node x) both.1)
@@ -74,7 +74,7 @@ module _ (c : Chain) (p : Position) (chain : IsChain c) (on_p : IsOn c p) where
   part x on after = and_from (c.on x) (stands_behind c p (Node x)) on (behind_test (Node x) after)
 
   leads : (q : Position) → IsOn (rest_behind c p) q → (rest_behind c p).next q ≢ nowhere
-      → LeadsTo (rest_behind c p) q ((rest_behind c p).next q)
+      → LeadsOnChain (rest_behind c p) q ((rest_behind c p).next q)
   leads Head on some = let to = chain.leads p on_p some in (part (c.next p) to.0 to.1, inl (omega arith))
   leads (Node x) on some =
       let at = whole x on in

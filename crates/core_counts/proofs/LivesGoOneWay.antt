@@ -77,10 +77,10 @@ times-snoc : (test : Kind → Bool) (at : Event → Life) (x : Life) (past : Lis
 times-snoc test at x past e = count_snoc (λ (d : Event). test d.kind && same_life x (at d)) past e
 
 -- before an event of these kinds its life has none of them, and one of the others
-abbrev Follows : Sizes → (Kind → Bool) → (Event → Life) → (Life → List Event → ℕ) → Type 0
-Follows sizes test at other = (past : List Event) (e : Event) → IsKept sizes past → (k : Kind) → e.kind ≡ k → AllowedAs k sizes past e → test k ≡ true → (times test at (at e) past ≡ 0) × (1 ≤ other (at e) past)
+abbrev FollowsOther : Sizes → (Kind → Bool) → (Event → Life) → (Life → List Event → ℕ) → Type 0
+FollowsOther sizes test at other = (past : List Event) (e : Event) → IsKept sizes past → (k : Kind) → e.kind ≡ k → AllowedAs k sizes past e → test k ≡ true → (times test at (at e) past ≡ 0) × (1 ≤ other (at e) past)
 
-module _ (sizes : Sizes) (test : Kind → Bool) (at : Event → Life) (other : Life → List Event → ℕ) (more : (x : Life) (past : List Event) (e : Event) → other x past ≤ other x (past ++ e ∷ [])) (none : (x : Life) → 0 ≤ other x []) (before : Follows sizes test at other) where
+module _ (sizes : Sizes) (test : Kind → Bool) (at : Event → Life) (other : Life → List Event → ℕ) (more : (x : Life) (past : List Event) (e : Event) → other x past ≤ other x (past ++ e ∷ [])) (none : (x : Life) → 0 ≤ other x []) (before : FollowsOther sizes test at other) where
   follow_step : (past : List Event) (e : Event) → IsKept sizes past → ((x : Life) → times test at x past ≤ other x past) → Allowed sizes past e → (x : Life) → times test at x (past ++ e ∷ []) ≤ other x (past ++ e ∷ [])
   follow_step past e kept h ok x = by (test e.kind) refl (same_life x (at e)) refl (times-snoc test at x past e)
     where
@@ -185,7 +185,7 @@ module _ (sizes : Sizes) (z : IsLayout sizes) where
   takes past e kept PopFree is ok t = (lives sizes z past kept).later pops e.life (omega (arith, (taken sizes z past e kept ok).tag))
   takes past e kept _ is ok t = absurd (cc)
 
-  link_takes : Follows sizes links own (about pops)
+  link_takes : FollowsOther sizes links own (about pops)
   link_takes past e kept LinkVertex is ok t =
       (its sizes z past kept e.life ok.life links ∙ (linked_once sizes z past kept).fresh e.life.index ok.fresh.fresh, was_taken sizes z past kept e.life ok.life (let f = ok.fresh.fresh in λ h. absurd (cc)))
   link_takes past e kept LinkEdge is ok t =
@@ -197,14 +197,14 @@ module _ (sizes : Sizes) (z : IsLayout sizes) where
   at_link : (past : List Event) (e : Event) (i : ℕ) (n : ℕ) → e.place ≡ i → mark_of (word_at sizes past e.place) ≡ n → mark_of (word_at sizes past i) ≡ n
   at_link past e i n p m = ap (λ (j : ℕ). mark_of (word_at sizes past j)) (sym p) ∙ m
 
-  mark_links_vertex : Follows sizes marks_vertex own (about links_vertex)
+  mark_links_vertex : FollowsOther sizes marks_vertex own (about links_vertex)
   mark_links_vertex past e kept MarkVertex is ok t =
       let u = used_linked _ ok.linked.linked in
       let m = not_marked sizes z past kept e.life ok.life ok.there ok.linked.linked (at_link past e _ 0 ok.place ok.unmarked) in
       (vertex_unmarked sizes z past kept e.life ok.life ok.there u ok.linked.vertex m, vertex_link sizes z past kept e.life ok.life ok.there u ok.linked.vertex)
   mark_links_vertex past e kept _ is ok t = absurd (cc)
 
-  unlink_marks_vertex : Follows sizes unlinks_vertex own (about marks_vertex)
+  unlink_marks_vertex : FollowsOther sizes unlinks_vertex own (about marks_vertex)
   unlink_marks_vertex past e kept UnlinkVertex is ok t =
       let u = used_linked _ ok.linked.linked in
       (not_unlinked sizes z past kept e.life ok.life unlinks_vertex within ok.linked.linked, vertex_mark sizes z past kept e.life ok.life ok.there u ok.linked.vertex (is_marked sizes z past kept e.life ok.life ok.there ok.linked.linked ok.dead))
@@ -214,7 +214,7 @@ module _ (sizes : Sizes) (z : IsLayout sizes) where
       within _ h = absurd (cc)
   unlink_marks_vertex past e kept _ is ok t = absurd (cc)
 
-  close_unlinks_vertex : Follows sizes freezes_head own (about unlinks_vertex)
+  close_unlinks_vertex : FollowsOther sizes freezes_head own (about unlinks_vertex)
   close_unlinks_vertex past e kept FreezeHead is ok t =
       let u = used_spent _ ok.spent.spent in
       let words = ((contents sizes z past kept).each e.life.index ok.there).vertex u ok.spent.vertex in
@@ -230,7 +230,7 @@ module _ (sizes : Sizes) (z : IsLayout sizes) where
   cuts_itself : (e : Event) (k : Kind) → e.kind ≡ k → marks_edge k ≡ true → cut_life e ≡ e.life
   cuts_itself e k is m = own_cut e (ap marks_edge is ∙ m)
 
-  mark_links_edge : Follows sizes cuts_edge cut_life (about links_edge)
+  mark_links_edge : FollowsOther sizes cuts_edge cut_life (about links_edge)
   mark_links_edge past e kept MarkEdge is ok t = subst (IsToMark past) (sym (cuts_itself e MarkEdge is refl))
       (to_mark sizes z past kept e.life ok.life ok.there ok.linked.linked ok.linked.edge (at_link past e _ 0 ok.place ok.unmarked))
   mark_links_edge past e kept FreezeEdge is ok t = subst (IsToMark past) (sym (cuts_itself e FreezeEdge is refl))
@@ -239,7 +239,7 @@ module _ (sizes : Sizes) (z : IsLayout sizes) where
       (to_mark sizes z past kept e.old ok.old_life ok.old_there ok.linked.linked ok.linked.edge (at_link past e _ 0 ok.place ok.unmarked))
   mark_links_edge past e kept _ is ok t = absurd (cc)
 
-  unlink_marks_edge : Follows sizes unlinks_edge own cuts
+  unlink_marks_edge : FollowsOther sizes unlinks_edge own cuts
   unlink_marks_edge past e kept UnlinkEdge is ok t =
       let u = used_linked _ ok.linked.linked in
       (not_unlinked sizes z past kept e.life ok.life unlinks_edge within ok.linked.linked, edge_mark sizes z past kept e.life ok.life ok.there u ok.linked.edge (is_marked sizes z past kept e.life ok.life ok.there ok.linked.linked ok.dead))
@@ -249,14 +249,14 @@ module _ (sizes : Sizes) (z : IsLayout sizes) where
       within _ h = absurd (cc)
   unlink_marks_edge past e kept _ is ok t = absurd (cc)
 
-  push_takes : Follows sizes pushes own (about pops)
+  push_takes : FollowsOther sizes pushes own (about pops)
   push_takes past e kept PushFree is ok t =
       let s = ok.ripe.stamped.spent.spent in
       (its sizes z past kept e.life ok.life pushes ∙ ((told sizes z past kept).each e.life.index).back (λ h. absurd (cc)), was_taken sizes z past kept e.life ok.life (λ h. absurd (cc)))
   push_takes past e kept _ is ok t = absurd (cc)
 
   -- the list of a vertex that's stored is closed, and a spent edge is marked
-  push_closes : Follows sizes pushes own (λ (x : Life) (j : List Event). about freezes_head x j + cuts x j)
+  push_closes : FollowsOther sizes pushes own (λ (x : Life) (j : List Event). about freezes_head x j + cuts x j)
   push_closes past e kept PushFree is ok t =
       let v : Node = node_in sizes past e.life.index in
       let s = ok.ripe.stamped.spent.spent in

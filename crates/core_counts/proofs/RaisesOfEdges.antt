@@ -13,7 +13,7 @@ use Rattle.core_kept.specs.Kept.{IsKept, IsQuiet}
 use Rattle.core_kept.proofs.Callers.{made_none, made_quiet}
 use Rattle.core_kept.proofs.PastLives.{count_snoc}
 use Rattle.core_lists.proofs.FewEdges.{edges_are_links, edges_few}
-use Rattle.core_counts.specs.Totals.{IsOver, IsNotOver, RaisesApart, RaisesOnce}
+use Rattle.core_counts.specs.Totals.{IsEdgeOver, IsNotOver, RaisesApart, RaisesOnce}
 
 still_linked : (front rest : List Event) (xs : List Life) → All (λ (x : Life). edge_linked front x ≡ true) xs → All (λ (x : Life). edge_linked (front ++ rest) x ≡ true) xs
 still_linked front rest xs h = λ i d low. edge_linked_more front rest _ (h i d low)
@@ -66,11 +66,11 @@ apart_raise caller again past e x is a new = record {
 }
 
 -- an edge that's over stays so
-over_more : (front rest : List Event) (x : Life) → IsOver front x → IsOver (front ++ rest) x
+over_more : (front rest : List Event) (x : Life) → IsEdgeOver front x → IsEdgeOver (front ++ rest) x
 over_more front rest x (inl h) = inl (edge_marked_more front rest x h)
 over_more front rest x (inr h) = inr record { link = h.link; linked = link_more front rest x h.link h.linked; marked = vertex_marked_more front rest h.link.source h.marked }
 
-still_over : (front rest : List Event) (xs : List Life) → All (IsOver front) xs → All (IsOver (front ++ rest)) xs
+still_over : (front rest : List Event) (xs : List Life) → All (IsEdgeOver front) xs → All (IsEdgeOver (front ++ rest)) xs
 still_over front rest xs h = λ i d low. over_more front rest _ (h i d low)
 
 pub once_opening : (caller : ℕ) → RaisesOnce [] [] caller 0 []
@@ -89,7 +89,7 @@ value : (a b : Event) → Some a ≡ Some b → a ≡ b
 value a b h = cc
 
 -- one that isn't over differs from those that are
-new_edge : (front rest : List Event) (x y : Life) → IsNotOver front (front ++ rest) x → IsOver front y → x ≢ y
+new_edge : (front rest : List Event) (x y : Life) → IsNotOver front (front ++ rest) x → IsEdgeOver front y → x ≢ y
 new_edge front rest x y n (inl h) same = let t = sym n.unmarked ∙ (ap (edge_marked front) same ∙ h) in absurd (cc)
 new_edge front rest x y n (inr h) same =
     let link : n.link ≡ h.link = value n.link h.link (sym n.linked ∙ (ap (link_of (front ++ rest)) same ∙ link_more front rest y h.link h.linked)) in
@@ -115,15 +115,15 @@ once_raise caller again held start past e x p n new a =
       few = omega (arith, most, few);
     }
 
-still_there : (start journal : List Event) (xs : List Life) → IsPrefix start journal → All (IsOver start) xs → All (IsOver journal) xs
-still_there start journal xs p h = subst (λ (j : List Event). All (IsOver j) xs) p.whole (still_over start p.rest xs h)
+still_there : (start journal : List Event) (xs : List Life) → IsPrefix start journal → All (IsEdgeOver start) xs → All (IsEdgeOver journal) xs
+still_there start journal xs p h = subst (λ (j : List Event). All (IsEdgeOver j) xs) p.whole (still_over start p.rest xs h)
 
-pub once_done : (caller again : ℕ) (held : List Life) (start journal : List Event) → IsPrefix start journal → All (IsOver journal) held → RaisesOnce start journal caller again held → RaisesOnce journal journal caller again []
+pub once_done : (caller again : ℕ) (held : List Life) (start journal : List Event) → IsPrefix start journal → All (IsEdgeOver journal) held → RaisesOnce start journal caller again held → RaisesOnce journal journal caller again []
 once_done caller again held start journal p h a = record {
   edges = held ++ a.edges;
   apart = a.apart;
   linked = a.linked;
-  over = all_both (IsOver journal) held a.edges h (still_there start journal a.edges p a.over);
+  over = all_both (IsEdgeOver journal) held a.edges h (still_there start journal a.edges p a.over);
   few = a.few;
 }
 
@@ -134,12 +134,12 @@ less_linked : (P : Life → Type 0) (x : Life) (xs : List Life) → All P (x ∷
 less_linked P x xs h = λ i d low. h (suc i) d (omega (arith, low))
 
 -- an edge that was raised for and isn't over may be raised for again
-pub once_lost : (caller again : ℕ) (x : Life) (held : List Life) (start journal : List Event) → IsPrefix start journal → All (IsOver journal) held → RaisesOnce start journal caller again (x ∷ held) → RaisesOnce journal journal caller (again + 1) []
+pub once_lost : (caller again : ℕ) (x : Life) (held : List Life) (start journal : List Event) → IsPrefix start journal → All (IsEdgeOver journal) held → RaisesOnce start journal caller again (x ∷ held) → RaisesOnce journal journal caller (again + 1) []
 once_lost caller again x held start journal p h a = record {
   edges = held ++ a.edges;
   apart = less_apart x (held ++ a.edges) a.apart;
   linked = less_linked (λ (y : Life). edge_linked journal y ≡ true) x (held ++ a.edges) a.linked;
-  over = all_both (IsOver journal) held a.edges h (still_there start journal a.edges p a.over);
+  over = all_both (IsEdgeOver journal) held a.edges h (still_there start journal a.edges p a.over);
   few = let g = a.few in omega (arith, g);
 }
 

@@ -22,12 +22,12 @@ use Rattle.core_journal.proofs.Calls.{removes_there, answers_removed, there_remo
 use Rattle.core_journal.proofs.Turns.{Does, RunsFrom, runs_at, SilentBy, OwnReplyBy, OwnBy, StandsBy, BookIn, graph_at, stands_at, each_at, IsFree, EntryIn, BooksIn, entries_in}
 use Rattle.core_journal.proofs.Lists.{every_append, every_left, every_right, every_map, every_both, every_none, every_filter, get_short, get_here}
 
-pub record IsQuiet (x : Graph) (i : Item) : Type 0 where
+pub record IsQuietItem (x : Graph) (i : Item) : Type 0 where
   pub meets : (later : List Item) → Meets i.reply x i later
   pub stays : next x i.call i.reply ≡ x
 
 -- items that change nothing are legal before legal ones
-pub silent_legal : (x last : Graph) (items later : List Item) → Every (IsQuiet x) items → LegalFrom x later last → LegalFrom x (items ++ later) last
+pub silent_legal : (x last : Graph) (items later : List Item) → Every (IsQuietItem x) items → LegalFrom x later last → LegalFrom x (items ++ later) last
 silent_legal x last [] later q l = l
 silent_legal x last (i ∷ items) later q l = (q.0.meets (items ++ later), subst (λ (g : Graph). LegalFrom g (items ++ later) last) (sym q.0.stays) (silent_legal x last items later q.1 l))
 
@@ -43,15 +43,15 @@ quiet_by Again x caller e out s = (λ later. tt, refl)
 quiet_by Full x caller e out s = (λ later. s, refl)
 quiet_by o x caller e out s = (λ later. (plain_item o x caller e later out s.reply).0, (plain_item o x caller e [] out s.reply).1 ∙ after_same x e.call s.stays)
 
-quiet_entry : (x : Graph) (caller : ℕ) (e : Entry) → SilentBy e.answer.outcome x e → IsQuiet x (item caller e)
+quiet_entry : (x : Graph) (caller : ℕ) (e : Entry) → SilentBy e.answer.outcome x e → IsQuietItem x (item caller e)
 quiet_entry x caller e s = let both = quiet_by e.answer.outcome x caller e refl s in record { meets = both.0; stays = both.1 }
 
 -- silent entries are such items
-pub silent_items : (ts : List Turn) (books : List Book) (p : ℕ) → Every (λ (b : Book). Every (EntryIn ts books b.caller) b.entries) books → Every (IsQuiet (graph_at ts p)) (entries_at Silent p books)
-silent_items ts books p h = each_at Silent p (λ (b : Book). Every (EntryIn ts books b.caller) b.entries) (IsQuiet (graph_at ts p))
-    (λ b k. every_map (EntryIn ts books b.caller) (λ (e : Entry). StandsAt Silent p e → IsQuiet (graph_at ts p) (item b.caller e)) (λ e g s. one b.caller e g s) b.entries k) books h
+pub silent_items : (ts : List Turn) (books : List Book) (p : ℕ) → Every (λ (b : Book). Every (EntryIn ts books b.caller) b.entries) books → Every (IsQuietItem (graph_at ts p)) (entries_at Silent p books)
+silent_items ts books p h = each_at Silent p (λ (b : Book). Every (EntryIn ts books b.caller) b.entries) (IsQuietItem (graph_at ts p))
+    (λ b k. every_map (EntryIn ts books b.caller) (λ (e : Entry). StandsAt Silent p e → IsQuietItem (graph_at ts p) (item b.caller e)) (λ e g s. one b.caller e g s) b.entries k) books h
   where
-    one : (caller : ℕ) (e : Entry) → EntryIn ts books caller e → StandsAt Silent p e → IsQuiet (graph_at ts p) (item caller e)
+    one : (caller : ℕ) (e : Entry) → EntryIn ts books caller e → StandsAt Silent p e → IsQuietItem (graph_at ts p) (item caller e)
     one caller e g s = quiet_entry (graph_at ts p) caller e
         (subst (λ (q : ℕ). SilentBy e.answer.outcome (graph_at ts q) e) s.place (subst (λ (c : Class). StandsBy c ts caller e) s.class g.stands))
 

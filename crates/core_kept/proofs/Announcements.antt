@@ -15,10 +15,10 @@ use Rattle.core_journal.proofs.MachineWords.{word_first}
 use Rattle.core_kept.specs.Kept.{AllowedAs, IsKept}
 use Rattle.core_kept.specs.Moments.{clock_by, clock_in}
 use Rattle.core_kept.proofs.Induction.{kept_front}
-use Rattle.core_kept.proofs.ByKind.{IsAfter, Keeps, put_same, put_other, holds_all, holds_onward}
+use Rattle.core_kept.proofs.ByKind.{IsAfter, KeepsByKind, put_same, put_other, holds_all, holds_onward}
 use Rattle.core_kept.proofs.FirstWords.{numbers}
 
-rises_step : (sizes : Sizes) (low : ℕ) → Keeps sizes (λ (s : State) (w : ℕ → ℕ). low ≤ s.epoch)
+rises_step : (sizes : Sizes) (low : ℕ) → KeepsByKind sizes (λ (s : State) (w : ℕ → ℕ). low ≤ s.epoch)
 rises_step sizes low past e kept h MoveEpoch by ok w a = omega (arith, h)
 rises_step sizes low past e kept h _ by ok w a = h
 
@@ -91,7 +91,7 @@ clock_step Withdraw sizes past e kept ok w a =
 clock_step MoveEpoch sizes past e kept ok w a = move record { passes = passes_stay sizes past e w (state_by MoveEpoch sizes e (state sizes past)) a (λ i small h. omega (arith, ok.place, h, small)) (λ i. refl); epoch = refl; count = refl }
 clock_step k sizes past e kept ok w a = rest record { passes = passes_stay sizes past e w (state_by k sizes e (state sizes past)) a (λ i small h. omega (arith, ok.place, ok.there, h, small)) (λ i. refl); epoch = refl; count = refl }
 
-announcements_step : (sizes : Sizes) → Keeps sizes (λ (s : State) (w : ℕ → ℕ). Announcements sizes.callers (clock_by sizes s w))
+announcements_step : (sizes : Sizes) → KeepsByKind sizes (λ (s : State) (w : ℕ → ℕ). Announcements sizes.callers (clock_by sizes s w))
 announcements_step sizes past e kept c k by ok w a = announcements_kept sizes.callers (clock_in sizes past) (clock_by sizes (state_by k sizes e (state sizes past)) w) c (clock_step k sizes past e kept ok w a)
 
 -- each announcement

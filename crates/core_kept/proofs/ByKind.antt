@@ -31,21 +31,21 @@ pub writes_at : (sizes : Sizes) (past : List Event) (e : Event) (w : ℕ → ℕ
 writes_at sizes past e w place word a at near is = record { written = ap w at ∙ (a.here near ∙ is); others = λ i ne. a.else i (λ h. ne (h ∙ sym at)) }
 
 -- a fact of the state and the words is kept by an event, by its kind
-abbrev pub Keeps : Sizes → (State → (ℕ → ℕ) → Type 0) → Type 0
-Keeps sizes P = (past : List Event) (e : Event) → IsKept sizes past → P (state sizes past) (word_at sizes past)
+abbrev pub KeepsByKind : Sizes → (State → (ℕ → ℕ) → Type 0) → Type 0
+KeepsByKind sizes P = (past : List Event) (e : Event) → IsKept sizes past → P (state sizes past) (word_at sizes past)
     → (k : Kind) → (draws k ≡ false → e.caller < (state sizes past).drawn) → AllowedAs k sizes past e
     → (w : ℕ → ℕ) → IsAfter sizes past e w → P (state_by k sizes e (state sizes past)) w
 
 module _ (sizes : Sizes) (P : State → (ℕ → ℕ) → Type 0) where
-  pub kept_step : Keeps sizes P → (past : List Event) (e : Event) → IsKept sizes past → P (state sizes past) (word_at sizes past) → Allowed sizes past e → P (state sizes (past ++ e ∷ [])) (word_at sizes (past ++ e ∷ []))
+  pub kept_step : KeepsByKind sizes P → (past : List Event) (e : Event) → IsKept sizes past → P (state sizes past) (word_at sizes past) → Allowed sizes past e → P (state sizes (past ++ e ∷ [])) (word_at sizes (past ++ e ∷ []))
   kept_step step past e kept p ok = subst (λ (s : State). P s (word_at sizes (past ++ e ∷ []))) (sym (state-snoc sizes past e)) (step past e kept p e.kind ok.by ok.as_kind (word_at sizes (past ++ e ∷ [])) (after_event sizes past e))
 
   -- what holds at opening and is kept by each kind holds after each kept journal
-  pub holds_all : Keeps sizes P → P (opening sizes) (word_at sizes []) → (journal : List Event) → IsKept sizes journal → P (state sizes journal) (word_at sizes journal)
+  pub holds_all : KeepsByKind sizes P → P (opening sizes) (word_at sizes []) → (journal : List Event) → IsKept sizes journal → P (state sizes journal) (word_at sizes journal)
   holds_all step first journal kept = kept_all sizes (λ (j : List Event). P (state sizes j) (word_at sizes j)) (kept_step step) (subst (λ (s : State). P s (word_at sizes [])) (sym (state-nil sizes)) first) journal kept
 
   -- what holds of a front and is kept by each kind holds of the journal
-  pub holds_onward : Keeps sizes P → (front journal : List Event) → IsPrefix front journal → IsKept sizes journal → P (state sizes front) (word_at sizes front) → P (state sizes journal) (word_at sizes journal)
+  pub holds_onward : KeepsByKind sizes P → (front journal : List Event) → IsPrefix front journal → IsKept sizes journal → P (state sizes front) (word_at sizes front) → P (state sizes journal) (word_at sizes journal)
   holds_onward step front journal p kept first = kept_onward sizes (λ (j : List Event). P (state sizes j) (word_at sizes j)) (kept_step step) front journal p kept first
 
 -- the same of a fact that also speaks of the journal

@@ -12,7 +12,7 @@ use Rattle.core_journal.specs.State.{Free, Fresh, Linked, Spent, Node, State, pu
 use Rattle.core_kept.specs.Kept.{IsKept}
 use Rattle.core_kept.specs.Nodes.{node_in, IsUsed}
 use Rattle.core_kept.specs.Facts.{IsContent, Contents}
-use Rattle.core_kept.proofs.ByKind.{IsAfter, Keeps, put_case, put_both, handed_case, marked_state, closed_state, holds_all}
+use Rattle.core_kept.proofs.ByKind.{IsAfter, KeepsByKind, put_case, put_both, handed_case, marked_state, closed_state, holds_all}
 
 -- a node keeps what its words mean
 record IsSameNode (v v' : Node) : Type 0 where
@@ -97,7 +97,7 @@ put_linked : (sizes : Sizes) (s : State) (i : ℕ) (v : Node) (w : ℕ → ℕ) 
 put_linked sizes s i v w others new x t = put_case (λ (u : Node). IsContent sizes u (s.frozen x) x w) i v s.node x
     (λ same. subst (λ (y : ℕ). IsContent sizes v (s.frozen y) y w) (sym same) (new (omega (arith, same, t)))) (λ _. others x t)
 
-contents_step : (sizes : Sizes) → IsLayout sizes → Keeps sizes (Contents sizes)
+contents_step : (sizes : Sizes) → IsLayout sizes → KeepsByKind sizes (Contents sizes)
 contents_step sizes z past e kept c PopFree by ok w a = record {
   each = λ x t. put_both (λ (v : Node) (b : Bool). IsContent sizes v b x w) e.life.index _ false (state sizes past).node (state sizes past).frozen x
       (λ _. record { vertex = λ u _. absurd u; edge = λ u _. absurd u; fresh = λ _. refl })

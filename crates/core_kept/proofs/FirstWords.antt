@@ -8,9 +8,9 @@ use Rattle.core_journal.specs.State.{state}
 use Rattle.core_journal.proofs.MachineWords.{word_first}
 use Rattle.core_kept.specs.Kept.{IsKept}
 use Rattle.core_kept.specs.Facts.{FirstWords}
-use Rattle.core_kept.proofs.ByKind.{Keeps, holds_all}
+use Rattle.core_kept.proofs.ByKind.{KeepsByKind, holds_all}
 
-numbers_step : (sizes : Sizes) → Keeps sizes (FirstWords sizes)
+numbers_step : (sizes : Sizes) → KeepsByKind sizes (FirstWords sizes)
 numbers_step sizes past e kept c DrawNumber by ok w a =
     let here : w 1 ≡ e.word = subst (λ (i : ℕ). w i ≡ e.word) ok.place (a.here (omega (arith, ok.place))) in
     record { numbers = omega (arith, here, ok.word, c.numbers); room = omega (arith, ok.there, ok.caller); epoch = omega (arith, a.else 2 (omega (arith, ok.place)), c.epoch) }

@@ -20,7 +20,7 @@ use Rattle.core_kept.specs.FreeNodes.{IsPopFree, IsPushFree}
 use Rattle.core_kept.specs.Nodes.{node_in}
 use Rattle.core_kept.specs.Free.{is_free, pool_by, pool_in}
 use Rattle.core_kept.proofs.Induction.{kept_front}
-use Rattle.core_kept.proofs.ByKind.{IsAfter, Keeps, put_case, put_same, put_other, handed_case, marked_state, closed_state, holds_all, holds_onward}
+use Rattle.core_kept.proofs.ByKind.{IsAfter, KeepsByKind, put_case, put_same, put_other, handed_case, marked_state, closed_state, holds_all, holds_onward}
 
 pub free_is : (m : Mode) → is_free m ≡ true → m ≡ Free
 free_is Free h = refl
@@ -159,7 +159,7 @@ pool_step PopFree sizes past e ok w a = take e.life.index (takes sizes past e ok
 pool_step PushFree sizes past e ok w a = give e.life.index (gives_back sizes past e ok w a)
 pool_step k sizes past e ok w a = leave (other_kinds sizes past e k ok w a tt)
 
-free_step : (sizes : Sizes) → IsLayout sizes → Keeps sizes (λ (s : State) (w : ℕ → ℕ). FreeList sizes.nodes (pool_by sizes s w))
+free_step : (sizes : Sizes) → IsLayout sizes → KeepsByKind sizes (λ (s : State) (w : ℕ → ℕ). FreeList sizes.nodes (pool_by sizes s w))
 free_step sizes z past e kept f k by ok w a = free_kept sizes.nodes (pool_in sizes past) (pool_by sizes (state_by k sizes e (state sizes past)) w) (few_nodes sizes z) f (pool_step k sizes past e ok w a)
 
 pub last_word : (sizes : Sizes) (x : ℕ) → x + 1 ≡ sizes.nodes → word_at sizes [] (link_at sizes x) ≡ pack nowhere 1 0
@@ -178,11 +178,11 @@ pub first_is_free : (sizes : Sizes) → IsLayout sizes → (journal : List Event
 first_is_free sizes z journal kept x t h = free_is (node_in sizes journal x).mode (first_of_pool_is_free sizes.nodes (pool_in sizes journal) x (few_nodes sizes z) (free_list sizes z journal kept) t h)
 
 -- the word of the free list comes back to no other word
-unchanged_step : (sizes : Sizes) → IsLayout sizes → (seen next : ℕ) → index_of seen < sizes.nodes → Keeps sizes (λ (s : State) (w : ℕ → ℕ). IsUnchanged seen next (pool_by sizes s w))
+unchanged_step : (sizes : Sizes) → IsLayout sizes → (seen next : ℕ) → index_of seen < sizes.nodes → KeepsByKind sizes (λ (s : State) (w : ℕ → ℕ). IsUnchanged seen next (pool_by sizes s w))
 unchanged_step sizes z seen next there past e kept c k by ok w a =
     unchanged_kept sizes.nodes seen next (few_nodes sizes z) there (pool_in sizes past) (pool_by sizes (state_by k sizes e (state sizes past)) w) (free_list sizes z past kept) c (pool_step k sizes past e ok w a)
 
-changes_step : (sizes : Sizes) (low : ℕ) → Keeps sizes (λ (s : State) (w : ℕ → ℕ). low ≤ s.changes)
+changes_step : (sizes : Sizes) (low : ℕ) → KeepsByKind sizes (λ (s : State) (w : ℕ → ℕ). low ≤ s.changes)
 changes_step sizes low past e kept h PopFree by ok w a = omega (arith, h)
 changes_step sizes low past e kept h PushFree by ok w a = omega (arith, h)
 changes_step sizes low past e kept h _ by ok w a = h

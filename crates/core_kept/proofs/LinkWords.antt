@@ -13,7 +13,7 @@ use Rattle.core_kept.specs.Kept.{IsKept}
 use Rattle.core_kept.specs.FreeNodes.{IsPopFree}
 use Rattle.core_kept.specs.Nodes.{node_in, IsUsed}
 use Rattle.core_kept.specs.Facts.{IsDeadLink, IsFreshLink, IsLiveLink, IsLinkWord, LinkWords}
-use Rattle.core_kept.proofs.ByKind.{IsAfter, Keeps, put_case, handed_case, marked_state, closed_state, holds_all}
+use Rattle.core_kept.proofs.ByKind.{IsAfter, KeepsByKind, put_case, handed_case, marked_state, closed_state, holds_all}
 use Rattle.core_kept.proofs.FreeList.{first_is_free, last_word, next_word}
 
 module _ (sizes : Sizes) (v : Node) (word : ℕ) where
@@ -95,7 +95,7 @@ linked_now : (sizes : Sizes) (v v' : Node) (word next : ℕ) → next < 16777216
 linked_now sizes v v' word next fits m c is m' tag mark stored =
     as_linked sizes v' word m' (omega (arith, is, tag, fits)) (let e : mark_of word ≡ 0 = omega (arith, is, fits) in e ∙ ap mark_bit (sym (mark ∙ (c.unmarked m).0))) (stored ∙ (c.unmarked m).1)
 
-link_words_step : (sizes : Sizes) → IsLayout sizes → Keeps sizes (LinkWords sizes)
+link_words_step : (sizes : Sizes) → IsLayout sizes → KeepsByKind sizes (LinkWords sizes)
 link_words_step sizes z past e kept c PopFree by ok w a =
     let m : (node_in sizes past e.life.index).mode ≡ Free = first_is_free sizes z past kept e.life.index ok.there ok.seen in
     let d = (c.each e.life.index ok.there).free m in

@@ -46,10 +46,10 @@ abbrev pub life_of : ℕ → Node → Life
 life_of x v = record { index = x; tag = v.tag }
 
 -- the life of a node that is fresh or linked wasn't unlinked
-pub record Standing (journal : List Event) (s : State) : Type 0 where
+pub record StandLinked (journal : List Event) (s : State) : Type 0 where
   pub each : (x : ℕ) → IsStanding (s.node x).mode → unlinked journal (life_of x (s.node x)) ≡ false
 
-put_standing : (past : List Event) (e : Event) (s : State) (i : ℕ) (v : Node) → unlinks e.kind ≡ false → Standing past s → (IsStanding v.mode → IsStanding (s.node i).mode) → v.tag ≡ (s.node i).tag
+put_standing : (past : List Event) (e : Event) (s : State) (i : ℕ) (v : Node) → unlinks e.kind ≡ false → StandLinked past s → (IsStanding v.mode → IsStanding (s.node i).mode) → v.tag ≡ (s.node i).tag
     → (x : ℕ) → IsStanding (put i v s.node x).mode → unlinked (past ++ e ∷ []) (life_of x (put i v s.node x)) ≡ false
 put_standing past e s i v other c mode tag x = put_case (λ (u : Node). IsStanding u.mode → unlinked (past ++ e ∷ []) (life_of x u) ≡ false) i v s.node x
     (λ same h.
@@ -58,16 +58,16 @@ put_standing past e s i v other c mode tag x = put_case (λ (u : Node). IsStandi
     ap (λ (y : ℕ). unlinked (past ++ e ∷ []) (record { index = x; tag = y })) t ∙ (unlinked_skip past e other (life_of x (s.node x)) ∙ c.each x old))
     (λ _ h. unlinked_skip past e other (life_of x (s.node x)) ∙ c.each x h)
 
-handed_standing : (journal : List Event) (s : State) (v : ℕ) → Standing journal s → Standing journal (handed v s)
+handed_standing : (journal : List Event) (s : State) (v : ℕ) → StandLinked journal s → StandLinked journal (handed v s)
 handed_standing journal s v c = record { each = λ x. handed_case (λ (u : Node). IsStanding u.mode → unlinked journal (life_of x u) ≡ false) s v x (c.each x) (λ _ _ _ h. absurd h) }
 
 -- the node that is unlinked is spent, and no other life is unlinked
-cut_standing : (past : List Event) (e : Event) (s : State) (v : Node) → v.mode ≡ Spent → Standing past s → (x : ℕ) → IsStanding (put e.life.index v s.node x).mode → unlinked (past ++ e ∷ []) (life_of x (put e.life.index v s.node x)) ≡ false
+cut_standing : (past : List Event) (e : Event) (s : State) (v : Node) → v.mode ≡ Spent → StandLinked past s → (x : ℕ) → IsStanding (put e.life.index v s.node x).mode → unlinked (past ++ e ∷ []) (life_of x (put e.life.index v s.node x)) ≡ false
 cut_standing past e s v m c x = put_case (λ (u : Node). IsStanding u.mode → unlinked (past ++ e ∷ []) (life_of x u) ≡ false) e.life.index v s.node x
     (λ _ h. absurd (subst IsStanding m h))
     (λ ne h. unlinked_other past e (life_of x (s.node x)) (other_index (life_of x (s.node x)) e.life ne) ∙ c.each x h)
 
-standing_step : (sizes : Sizes) → IsLayout sizes → KeepsIn sizes (λ (j : List Event) (s : State) (w : ℕ → ℕ). Standing j s)
+standing_step : (sizes : Sizes) → IsLayout sizes → KeepsIn sizes (λ (j : List Event) (s : State) (w : ℕ → ℕ). StandLinked j s)
 standing_step sizes z past e kept c PopFree is ok w a = record {
   each = λ x. put_case (λ (u : Node). IsStanding u.mode → unlinked (past ++ e ∷ []) (life_of x u) ≡ false) e.life.index _ (state sizes past).node x
       (λ same _.
@@ -98,8 +98,8 @@ standing_step sizes z past e kept c UnlinkVertex is ok w a = record { each = cut
 standing_step sizes z past e kept c UnlinkEdge is ok w a = record { each = cut_standing past e (state sizes past) _ refl c }
 standing_step sizes z past e kept c _ is ok w a = record { each = λ x h. unlinked_skip past e (ap unlinks is) (life_of x (node_in sizes past x)) ∙ c.each x h }
 
-pub standing : (sizes : Sizes) → IsLayout sizes → (journal : List Event) → IsKept sizes journal → Standing journal (state sizes journal)
-standing sizes z journal kept = all_in sizes (λ (j : List Event) (s : State) (w : ℕ → ℕ). Standing j s) (standing_step sizes z) (record { each = λ x h. refl }) journal kept
+pub standing : (sizes : Sizes) → IsLayout sizes → (journal : List Event) → IsKept sizes journal → StandLinked journal (state sizes journal)
+standing sizes z journal kept = all_in sizes (λ (j : List Event) (s : State) (w : ℕ → ℕ). StandLinked j s) (standing_step sizes z) (record { each = λ x h. refl }) journal kept
 
 -- the life of a linked node wasn't unlinked
 pub linked_stays : (sizes : Sizes) → IsLayout sizes → (journal : List Event) → IsKept sizes journal → (x : Life) → x.tag ≡ (node_in sizes journal x.index).tag → (node_in sizes journal x.index).mode ≡ Linked → unlinked journal x ≡ false

@@ -30,7 +30,7 @@ use Rattle.core_kept.proofs.ReplaceCases.{new_edge_node, else_marked, replaced_c
 use Rattle.core_kept.specs.Edges.{IsReplaceEdge}
 use Rattle.packed_link.specs.Layout.{second_at}
 use Rattle.core_kept.proofs.ListedSources.{On, Closed, part_on, listed, closed}
-use Rattle.core_kept.proofs.Ripe.{end_by, ended, IsOver, over_step}
+use Rattle.core_kept.proofs.Ripe.{end_by, ended, HasEndedIn, over_step}
 
 -- a life has an end before a length of the journal
 pub record HasEnd (journal : List Event) (x : Life) (limit : ℕ) : Type 0 where
@@ -180,7 +180,7 @@ module _ (sizes : Sizes) (z : IsLayout sizes) (past : List Event) (e : Event) (k
   gone_step k is allowed x c =
       let v : Node = node_in sizes past x.index in
       let not : (unlinks e.kind && same_life x e.life) ≡ false = by (unlinks e.kind && same_life x e.life) refl in
-      let later : IsOver x.tag 0 v.epoch ((state_by k sizes e (state sizes past)).node x.index) = over_step sizes z x.index x.tag 0 v.epoch past e kept record { low = c.low; fresh = c.fresh; linked = c.linked; epoch_is = λ _. refl } k
+      let later : HasEndedIn x.tag 0 v.epoch ((state_by k sizes e (state sizes past)).node x.index) = over_step sizes z x.index x.tag 0 v.epoch past e kept record { low = c.low; fresh = c.fresh; linked = c.linked; epoch_is = λ _. refl } k
       (λ h. ok.by (ap draws is ∙ h)) allowed (word_at sizes (past ++ e ∷ [])) (after_event sizes past e) in
       record {
         life = record {

@@ -10,7 +10,7 @@ use Rattle.core_journal.specs.Machine.{word_at}
 use Rattle.core_journal.specs.State.{Fresh, Node, State, put, handed, state_by, state, joined_edge}
 use Rattle.core_kept.specs.Kept.{AllowedAs, IsKept}
 use Rattle.core_kept.specs.Nodes.{node_in}
-use Rattle.core_kept.proofs.ByKind.{Keeps, put_case, put_same, handed_case, marked_state, closed_state, holds_onward}
+use Rattle.core_kept.proofs.ByKind.{KeepsByKind, put_case, put_same, handed_case, marked_state, closed_state, holds_onward}
 use Rattle.core_kept.proofs.LinkWords.{taken}
 use Rattle.core_kept.proofs.PastLives.{IsWithin, same_tag}
 use Rattle.core_kept.proofs.LinkedOnce.{fresh_before}
@@ -69,7 +69,7 @@ module _ (sizes : Sizes) (z : IsLayout sizes) (x place tag word : ℕ) (at : (pl
       let u = stored link in absurd (cc)
   not_written past e _ o ok is fresh stored = λ h. omega (arith, at, ok.place, ok.there, h)
 
-  still_step : Keeps sizes (IsStill sizes x place tag word)
+  still_step : KeepsByKind sizes (IsStill sizes x place tag word)
   still_step past e kept c PopFree by ok w a =
       let t = taken sizes z past e kept ok in record {
         low = put_case (λ (u : Node). tag ≤ u.tag) e.life.index _ (state sizes past).node x (λ same. let n : (node_in sizes past x).tag ≡ (node_in sizes past e.life.index).tag = ap (λ (y : ℕ). (node_in sizes past y).tag) same in omega (arith, c.low, n, t.tag)) (λ _. c.low);

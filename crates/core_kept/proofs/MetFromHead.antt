@@ -9,10 +9,10 @@ use Rattle.packed_link.specs.Link.{nowhere}
 use Rattle.packed_link.specs.Layout.{Sizes, link_at}
 use Rattle.core_chain.specs.Chain.{Chain, Position, Head, Node, IsOn, IsChain, Precedes}
 use Rattle.core_chain.specs.Met.{MeetsFrom, RisesAlong, IsMet}
-use Rattle.core_chain.specs.Steps.{Inserts, Replaces, Unlinks, SetsMark, Untouched, Joins, Leaves}
+use Rattle.core_chain.specs.Steps.{Inserts, Replaces, Unlinks, SetsMark, Untouched, Joins, Departs}
 use Rattle.core_chain.specs.Table.{Places}
 use Rattle.core_chain.proofs.Orders.{if_same, one_leads, before_same, before_then}
-use Rattle.core_chain.proofs.Inserts.{Puts, Puts-inserted, Puts-replaced}
+use Rattle.core_chain.proofs.Inserts.{PutsNode, PutsNode-inserted, PutsNode-replaced}
 use Rattle.core_chain.proofs.Marks.{next-marked}
 use Rattle.core_chain.proofs.Meets.{met_behind}
 use Rattle.core_journal.specs.State.{put_behind, linked_in, unlinked_from}
@@ -102,7 +102,7 @@ pub record AreLinks (sizes : Sizes) (places : Places) : Type 0 where
   pub apart : (x : ℕ) → places.word_at Head ≢ link_at sizes x
 
 -- a node that is inserted behind the link of a node stands behind that node
-put_in : (sizes : Sizes) (c d : Chain) (x n : ℕ) (p : Position) (xs : List ℕ) → Puts c d (Node x) n → p ≢ Node x → MeetsFrom c p xs → RisesAlong c p xs → MeetsFrom d p (put_behind (λ y. link_at sizes x == link_at sizes y) n xs)
+put_in : (sizes : Sizes) (c d : Chain) (x n : ℕ) (p : Position) (xs : List ℕ) → PutsNode c d (Node x) n → p ≢ Node x → MeetsFrom c p xs → RisesAlong c p xs → MeetsFrom d p (put_behind (λ y. link_at sizes x == link_at sizes y) n xs)
 put_in sizes c d x n p [] step ne met rising = step.words.next p ne ∙ met
 put_in sizes c d x n p (y ∷ ys) step ne met rising = dite (ℕ_discrete y x)
     (λ same.
@@ -135,12 +135,12 @@ module _ (sizes : Sizes) (places : Places) (are : AreLinks sizes places) where
       subst (λ (l : List ℕ). MeetsFrom d Head l) (sym (at_head n xs))
       (step.leads, step.can.named, moved c d Head Head (Node n) xs step.words.next (apart_from c Head Head xs (inl refl) (met_behind c Head xs chain tt met).0) to met)
   meets_inserted c d (Node x) n xs chain step met =
-      subst (λ (l : List ℕ). MeetsFrom d Head l) (sym (at_node x n xs)) (put_in sizes c d x n Head xs (Puts-inserted c d (Node x) n chain step) (λ e. absurd (cc)) met (met_behind c Head xs chain tt met).0)
+      subst (λ (l : List ℕ). MeetsFrom d Head l) (sym (at_node x n xs)) (put_in sizes c d x n Head xs (PutsNode-inserted c d (Node x) n chain step) (λ e. absurd (cc)) met (met_behind c Head xs chain tt met).0)
 
   -- so after a node is replaced
   pub meets_replaced : (c d : Chain) (x n : ℕ) (xs : List ℕ) → IsChain c → Replaces c d x n → MeetsFrom c Head xs → MeetsFrom d Head (linked_in sizes (places.word_at Head) (places.word_at (Node x)) n xs)
   meets_replaced c d x n xs chain step met =
-      subst (λ (l : List ℕ). MeetsFrom d Head l) (sym (at_node x n xs)) (put_in sizes c d x n Head xs (Puts-replaced c d x n chain step) (λ e. absurd (cc)) met (met_behind c Head xs chain tt met).0)
+      subst (λ (l : List ℕ). MeetsFrom d Head l) (sym (at_node x n xs)) (put_in sizes c d x n Head xs (PutsNode-replaced c d x n chain step) (λ e. absurd (cc)) met (met_behind c Head xs chain tt met).0)
 
 -- a node that is taken out is no more met
 take_out : (c d : Chain) (at : Position) (n : ℕ) (p : Position) (xs : List ℕ) → IsChain c → Unlinks c d at n → IsOn c p → p ≢ Node n → MeetsFrom c p xs → RisesAlong c p xs → MeetsFrom d p (unlinked_from n xs)
@@ -208,8 +208,8 @@ module _ (sizes : Sizes) (places : Places) (are : AreLinks sizes places) where
   }
 
 -- a node leaves the list without it
-pub leaves_unlinked : (n : ℕ) (xs : List ℕ) → Leaves (λ x. stands x xs) (λ x. stands x (unlinked_from n xs)) n
-leaves_unlinked n xs = record { leaves = λ h. gone xs h; others = λ x ne. stays x ne xs }
+pub leaves_unlinked : (n : ℕ) (xs : List ℕ) → Departs (λ x. stands x xs) (λ x. stands x (unlinked_from n xs)) n
+leaves_unlinked n xs = record { departs = λ h. gone xs h; others = λ x ne. stays x ne xs }
   where
     gone : (xs : List ℕ) → stands n (unlinked_from n xs) ≡ true → ⊥
     gone [] h = absurd (cc)
@@ -231,7 +231,7 @@ leaves_unlinked n xs = record { leaves = λ h. gone xs h; others = λ x ne. stay
 pub unlinked_stands : (n x : ℕ) (xs : List ℕ) → stands x (unlinked_from n xs) ≡ true → (x ≢ n) × (stands x xs ≡ true)
 unlinked_stands n x xs h =
     let l = leaves_unlinked n xs in
-    let ne : x ≢ n = λ e. l.leaves (subst (λ (y : ℕ). stands y (unlinked_from n xs) ≡ true) e h) in
+    let ne : x ≢ n = λ e. l.departs (subst (λ (y : ℕ). stands y (unlinked_from n xs) ≡ true) e h) in
     (ne, sym (l.others x ne) ∙ h)
 
 -- a node off the chain is none of those that are met

@@ -11,7 +11,7 @@ use Rattle.core_kept.specs.Kept.{AllowedAs, IsKept}
 use Rattle.core_kept.specs.Nodes.{node_in}
 use Rattle.core_kept.specs.Facts.{HasMet}
 use Rattle.core_kept.proofs.Induction.{kept_front}
-use Rattle.core_kept.proofs.ByKind.{Keeps, put_case, handed_case, marked_state, closed_state, holds_onward}
+use Rattle.core_kept.proofs.ByKind.{KeepsByKind, put_case, handed_case, marked_state, closed_state, holds_onward}
 use Rattle.core_kept.proofs.Announcements.{announcements}
 use Rattle.core_kept.proofs.LinkWords.{taken}
 use Rattle.core_kept.proofs.Ripe.{ripe_before}
@@ -78,7 +78,7 @@ record IsStaying (caller x : ℕ) (n : Node) (since : ℕ) (s : State) : Type 0 
   pub low : since < s.count
   pub here : (s.pass caller).is_open ≡ true → (s.pass caller).since ≡ since → IsHere n since (s.node x)
 
-staying_step : (sizes : Sizes) → IsLayout sizes → (caller x : ℕ) (n : Node) (since : ℕ) → Keeps sizes (λ (s : State) (w : ℕ → ℕ). IsStaying caller x n since s)
+staying_step : (sizes : Sizes) → IsLayout sizes → (caller x : ℕ) (n : Node) (since : ℕ) → KeepsByKind sizes (λ (s : State) (w : ℕ → ℕ). IsStaying caller x n since s)
 staying_step sizes z caller x n since past e kept c Announce by ok w a = record {
   low = omega (arith, c.low);
   here = put_case (λ (q : Pass). q.is_open ≡ true → q.since ≡ since → IsHere n since (node_in sizes past x)) e.caller _ (state sizes past).pass caller (λ _ _ h. absurd (omega (arith, c.low, h))) (λ _. c.here);

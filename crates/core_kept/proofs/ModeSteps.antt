@@ -22,13 +22,13 @@ use Rattle.core_kept.specs.Edges.{IsReplaceEdge}
 
 -- what an event makes of the mode of a node: it stays, or the node is spent and its link leads on as before or to the
 -- edge that replaces it, linked, taken, or given back
-pub data Turn (sizes : Sizes) (past : List Event) (e : Event) (w : ℕ → ℕ) (x : ℕ) (v : Node) : Type 0 where
-  stays : v.mode ≡ (node_in sizes past x).mode → v.ended ≡ (node_in sizes past x).ended → v.tag ≡ (node_in sizes past x).tag → v.vertex ≡ (node_in sizes past x).vertex → Turn sizes past e w x v
-  spends : (node_in sizes past x).mode ≡ Linked → v.mode ≡ Spent → v.ended ≡ (state sizes past).count + 1 → index_of (w (link_at sizes x)) ≡ index_of (word_at sizes past (link_at sizes x)) → Turn sizes past e w x v
-  swaps : e.kind ≡ ReplaceEdge → IsReplaceEdge sizes past e → x ≡ e.old.index → (node_in sizes past x).mode ≡ Linked → v.mode ≡ Spent → v.ended ≡ (state sizes past).count + 1 → w (link_at sizes x) ≡ e.word → Turn sizes past e w x v
-  links : (node_in sizes past x).mode ≡ Fresh → v.mode ≡ Linked → Turn sizes past e w x v
-  takes : (node_in sizes past x).mode ≡ Free → v.mode ≡ Fresh → Turn sizes past e w x v
-  frees : (node_in sizes past x).mode ≡ Spent → v.mode ≡ Free → Turn sizes past e w x v
+pub data ModeStep (sizes : Sizes) (past : List Event) (e : Event) (w : ℕ → ℕ) (x : ℕ) (v : Node) : Type 0 where
+  stays : v.mode ≡ (node_in sizes past x).mode → v.ended ≡ (node_in sizes past x).ended → v.tag ≡ (node_in sizes past x).tag → v.vertex ≡ (node_in sizes past x).vertex → ModeStep sizes past e w x v
+  spends : (node_in sizes past x).mode ≡ Linked → v.mode ≡ Spent → v.ended ≡ (state sizes past).count + 1 → index_of (w (link_at sizes x)) ≡ index_of (word_at sizes past (link_at sizes x)) → ModeStep sizes past e w x v
+  swaps : e.kind ≡ ReplaceEdge → IsReplaceEdge sizes past e → x ≡ e.old.index → (node_in sizes past x).mode ≡ Linked → v.mode ≡ Spent → v.ended ≡ (state sizes past).count + 1 → w (link_at sizes x) ≡ e.word → ModeStep sizes past e w x v
+  links : (node_in sizes past x).mode ≡ Fresh → v.mode ≡ Linked → ModeStep sizes past e w x v
+  takes : (node_in sizes past x).mode ≡ Free → v.mode ≡ Fresh → ModeStep sizes past e w x v
+  frees : (node_in sizes past x).mode ≡ Spent → v.mode ≡ Free → ModeStep sizes past e w x v
 
 module _ (sizes : Sizes) (z : IsLayout sizes) (past : List Event) (e : Event) (kept : IsKept sizes past) (w : ℕ → ℕ) (a : IsAfter sizes past e w) where
   -- an event that only sets a mark leaves where words lead
@@ -37,18 +37,18 @@ module _ (sizes : Sizes) (z : IsLayout sizes) (past : List Event) (e : Event) (k
       (λ h. let here : w i ≡ e.word = ap w h ∙ a.here near in let old : word_at sizes past i ≡ word_at sizes past e.place = ap (word_at sizes past) h in omega (arith, here, old, is))
       (λ ne. ap index_of (a.else i ne))
 
-  turn_put : (i : ℕ) (v : Node) (x : ℕ) → (x ≡ i → Turn sizes past e w x v) → Turn sizes past e w x (put i v (state sizes past).node x)
-  turn_put i v x new = put_case (λ (u : Node). Turn sizes past e w x u) i v (state sizes past).node x new (λ _. stays refl refl refl refl)
+  turn_put : (i : ℕ) (v : Node) (x : ℕ) → (x ≡ i → ModeStep sizes past e w x v) → ModeStep sizes past e w x (put i v (state sizes past).node x)
+  turn_put i v x new = put_case (λ (u : Node). ModeStep sizes past e w x u) i v (state sizes past).node x new (λ _. stays refl refl refl refl)
 
   mode_of : (x i : ℕ) (m : Mode) → x ≡ i → (node_in sizes past i).mode ≡ m → (node_in sizes past x).mode ≡ m
   mode_of x i m same is = ap (λ (y : ℕ). (node_in sizes past y).mode) same ∙ is
 
   -- a node of which something else changes
-  turn_same : (i x : ℕ) → x ≡ i → {marked stored : Bool} → Turn sizes past e w x (record (node_in sizes past i) { marked = marked; stored = stored })
+  turn_same : (i x : ℕ) → x ≡ i → {marked stored : Bool} → ModeStep sizes past e w x (record (node_in sizes past i) { marked = marked; stored = stored })
   turn_same i x same = stays (ap (λ (y : ℕ). (node_in sizes past y).mode) (sym same)) (ap (λ (y : ℕ). (node_in sizes past y).ended) (sym same)) (ap (λ (y : ℕ). (node_in sizes past y).tag) (sym same)) (ap (λ (y : ℕ). (node_in sizes past y).vertex) (sym same))
 
   -- a node that is unlinked keeps its marked link
-  turn_cut : (i x : ℕ) (v : Node) → (node_in sizes past i).mode ≡ Linked → mark_of (word_at sizes past e.place) ≡ 0 → mark_of (word_at sizes past (link_at sizes i)) ≡ 1 → v.mode ≡ Spent → v.ended ≡ (state sizes past).count + 1 → Turn sizes past e w x (put i v (state sizes past).node x)
+  turn_cut : (i x : ℕ) (v : Node) → (node_in sizes past i).mode ≡ Linked → mark_of (word_at sizes past e.place) ≡ 0 → mark_of (word_at sizes past (link_at sizes i)) ≡ 1 → v.mode ≡ Spent → v.ended ≡ (state sizes past).count + 1 → ModeStep sizes past e w x (put i v (state sizes past).node x)
   turn_cut i x v linked live dead spent end = turn_put i v x
       (λ same.
       let d : mark_of (word_at sizes past (link_at sizes x)) ≡ 1 = ap (λ (y : ℕ). mark_of (word_at sizes past (link_at sizes y))) same ∙ dead in
@@ -56,14 +56,14 @@ module _ (sizes : Sizes) (z : IsLayout sizes) (past : List Event) (e : Event) (k
       spends (mode_of x i Linked same linked) spent end (ap index_of (a.else (link_at sizes x) apart)))
 
   -- a node is marked, and the frozen part of a list is handed over
-  turn_marked : (i v x : ℕ) → e.word ≡ with_mark (word_at sizes past e.place) → e.place < word_count sizes → Turn sizes past e w x ((handed v (marked_state (state sizes past) i)).node x)
-  turn_marked i v x is near = handed_case (λ (u : Node). Turn sizes past e w x u) (marked_state (state sizes past) i) v x
-      (put_case (λ (u : Node). Turn sizes past e w x u) i (record (node_in sizes past i) { marked = true }) (state sizes past).node x (λ same. turn_same i x same) (λ _. stays refl refl refl refl))
+  turn_marked : (i v x : ℕ) → e.word ≡ with_mark (word_at sizes past e.place) → e.place < word_count sizes → ModeStep sizes past e w x ((handed v (marked_state (state sizes past) i)).node x)
+  turn_marked i v x is near = handed_case (λ (u : Node). ModeStep sizes past e w x u) (marked_state (state sizes past) i) v x
+      (put_case (λ (u : Node). ModeStep sizes past e w x u) i (record (node_in sizes past i) { marked = true }) (state sizes past).node x (λ same. turn_same i x same) (λ _. stays refl refl refl refl))
       (λ m _ _. spends
       (put_case (λ (u : Node). u.mode ≡ Linked → (node_in sizes past x).mode ≡ Linked) i (record (node_in sizes past i) { marked = true }) (state sizes past).node x (λ same l. mode_of x i Linked same l) (λ _ l. l) m)
       refl refl (marks_lead is near (link_at sizes x)))
 
-  turn_by : (k : Kind) → e.kind ≡ k → AllowedAs k sizes past e → (x : ℕ) → Turn sizes past e w x ((state_by k sizes e (state sizes past)).node x)
+  turn_by : (k : Kind) → e.kind ≡ k → AllowedAs k sizes past e → (x : ℕ) → ModeStep sizes past e w x ((state_by k sizes e (state sizes past)).node x)
   turn_by PopFree is ok x = turn_put e.life.index _ x (λ same. takes (mode_of x e.life.index Free same (taken sizes z past e kept ok).free) refl)
   turn_by LinkVertex is ok x = turn_put e.life.index _ x (λ same. links (mode_of x e.life.index Fresh same ok.fresh.fresh) refl)
   turn_by LinkEdge is ok x = turn_put e.life.index _ x (λ same. links (mode_of x e.life.index Fresh same ok.fresh.fresh) refl)
@@ -72,9 +72,9 @@ module _ (sizes : Sizes) (z : IsLayout sizes) (past : List Event) (e : Event) (k
   turn_by UnlinkVertex is ok x = turn_cut e.life.index x _ ok.linked.linked ok.unmarked ok.dead refl refl
   turn_by UnlinkEdge is ok x = turn_cut e.life.index x _ ok.linked.linked ok.unmarked ok.dead refl refl
   turn_by PushFree is ok x = turn_put e.life.index _ x (λ same. frees (mode_of x e.life.index Spent same ok.ripe.stamped.spent.spent) refl)
-  turn_by ReplaceEdge is ok x = replaced_case sizes z past e kept ok (λ (u : Node). Turn sizes past e w x u) x
+  turn_by ReplaceEdge is ok x = replaced_case sizes z past e kept ok (λ (u : Node). ModeStep sizes past e w x u) x
       (λ same. links (mode_of x e.life.index Fresh same ok.fresh.fresh) refl)
-      (λ _. put_case (λ (u : Node). Turn sizes past e w x u) e.old.index (record (node_in sizes past e.old.index) { marked = true }) (state sizes past).node x (λ same. turn_same e.old.index x same) (λ _. stays refl refl refl refl))
+      (λ _. put_case (λ (u : Node). ModeStep sizes past e w x u) e.old.index (record (node_in sizes past e.old.index) { marked = true }) (state sizes past).node x (λ same. turn_same e.old.index x same) (λ _. stays refl refl refl refl))
       (λ _ m _ _.
       let was : (node_in sizes past x).mode ≡ Linked = put_case (λ (u : Node). u.mode ≡ Linked → (node_in sizes past x).mode ≡ Linked) e.old.index (record (node_in sizes past e.old.index) { marked = true }) (state sizes past).node x (λ same l. mode_of x e.old.index Linked same l) (λ _ l. l) m in
       dite (ℕ_discrete x e.old.index)
@@ -82,7 +82,7 @@ module _ (sizes : Sizes) (z : IsLayout sizes) (past : List Event) (e : Event) (k
       (λ ne. spends was refl refl (ap index_of (a.else (link_at sizes x) (λ h. ne (omega (arith, h, ok.place)))))))
   turn_by MarkEdge is ok x = turn_marked e.life.index (node_in sizes past e.life.index).source.index x ok.word (omega (arith, ok.place, ok.there))
   turn_by FreezeEdge is ok x = turn_marked e.life.index (node_in sizes past e.life.index).source.index x ok.word (omega (arith, ok.place, ok.there))
-  turn_by FreezeHead is ok x = handed_case (λ (u : Node). Turn sizes past e w x u) (closed_state (state sizes past) e.life.index) e.life.index x (stays refl refl refl refl) (λ m _ _. spends m refl refl (marks_lead ok.word (omega (arith, ok.place, ok.there)) (link_at sizes x)))
+  turn_by FreezeHead is ok x = handed_case (λ (u : Node). ModeStep sizes past e w x u) (closed_state (state sizes past) e.life.index) e.life.index x (stays refl refl refl refl) (λ m _ _. spends m refl refl (marks_lead ok.word (omega (arith, ok.place, ok.there)) (link_at sizes x)))
   turn_by _ is ok x = stays refl refl refl refl
 
   -- a list that is closed by an event is that of a spent vertex, and its head leads on as before
@@ -154,8 +154,8 @@ pass_by _ sizes past e i o = inl record { open_before = o; since = refl }
 
 -- the same from journal to journal
 module _ (sizes : Sizes) (z : IsLayout sizes) (past : List Event) (e : Event) (kept : IsKept sizes past) (ok : Allowed sizes past e) where
-  pub turn : (x : ℕ) → Turn sizes past e (word_at sizes (past ++ e ∷ [])) x (node_in sizes (past ++ e ∷ []) x)
-  turn x = subst (λ (s : State). Turn sizes past e (word_at sizes (past ++ e ∷ [])) x (s.node x)) (sym (state-snoc sizes past e))
+  pub turn : (x : ℕ) → ModeStep sizes past e (word_at sizes (past ++ e ∷ [])) x (node_in sizes (past ++ e ∷ []) x)
+  turn x = subst (λ (s : State). ModeStep sizes past e (word_at sizes (past ++ e ∷ [])) x (s.node x)) (sym (state-snoc sizes past e))
       (turn_by sizes z past e kept (word_at sizes (past ++ e ∷ [])) (after_event sizes past e) e.kind refl ok.as_kind x)
 
   pub closing : (x : ℕ) → (state sizes past).frozen x ≡ false → (state sizes (past ++ e ∷ [])).frozen x ≡ true → IsClosing sizes z past e kept (word_at sizes (past ++ e ∷ [])) (after_event sizes past e) x

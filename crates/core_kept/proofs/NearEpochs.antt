@@ -13,11 +13,11 @@ use Rattle.core_kept.specs.Kept.{AllowedAs, IsKept}
 use Rattle.core_kept.specs.Moments.{clock_by, clock_in}
 use Rattle.core_kept.specs.Passes.{IsChecked}
 use Rattle.core_kept.proofs.Induction.{kept_front}
-use Rattle.core_kept.proofs.ByKind.{Keeps, holds_all, holds_onward}
+use Rattle.core_kept.proofs.ByKind.{KeepsByKind, holds_all, holds_onward}
 use Rattle.core_kept.proofs.FirstWords.{numbers}
 use Rattle.core_kept.proofs.Announcements.{announcements, clock_step, epoch_was}
 
-clear_step : (sizes : Sizes) (seen i : ℕ) → Keeps sizes (λ (s : State) (w : ℕ → ℕ). IsClear seen i (clock_by sizes s w))
+clear_step : (sizes : Sizes) (seen i : ℕ) → KeepsByKind sizes (λ (s : State) (w : ℕ → ℕ). IsClear seen i (clock_by sizes s w))
 clear_step sizes seen i past e kept c k by ok w a = clear_kept sizes.callers (clock_in sizes past) (clock_by sizes (state_by k sizes e (state sizes past)) w) seen i c (clock_step k sizes past e kept ok w a)
 
 -- a caller that was checked after the epoch was seen has no pass that began before that epoch, whatever began in between
@@ -38,7 +38,7 @@ moves_clear MoveEpoch sizes past e kept ok w more i small =
     record { reached = omega arith; born = λ o. omega (arith, c.born o, ok.seen, epoch) }
 moves_clear _ sizes past e kept ok w more i small = absurd (omega (arith, more))
 
-near_step : (sizes : Sizes) → Keeps sizes (λ (s : State) (w : ℕ → ℕ). IsNear (clock_by sizes s w))
+near_step : (sizes : Sizes) → KeepsByKind sizes (λ (s : State) (w : ℕ → ℕ). IsNear (clock_by sizes s w))
 near_step sizes past e kept c k by ok w a = near_kept sizes.callers (clock_in sizes past) (clock_by sizes (state_by k sizes e (state sizes past)) w) (announcements sizes past kept) c (clock_step k sizes past e kept ok w a) (moves_clear k sizes past e kept ok w)
 
 -- the epoch and open passes after each kept journal

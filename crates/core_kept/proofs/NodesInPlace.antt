@@ -10,7 +10,7 @@ use Rattle.core_journal.specs.State.{Free, Fresh, Node, State, is_linked, put, h
 use Rattle.core_kept.specs.Kept.{IsKept}
 use Rattle.core_kept.specs.Nodes.{node_in}
 use Rattle.core_kept.specs.Nodes.{is_of_bucket}
-use Rattle.core_kept.proofs.ByKind.{Keeps, put_case, put_other, handed_case, marked_state, closed_state, holds_all}
+use Rattle.core_kept.proofs.ByKind.{KeepsByKind, put_case, put_other, handed_case, marked_state, closed_state, holds_all}
 use Rattle.core_kept.proofs.MetFromHead.{stands, linked_stands, unlinked_stands}
 
 -- a node past the end of the table is free
@@ -23,7 +23,7 @@ put_beyond sizes s i v there c x far = put_case (λ (u : Node). u.mode ≡ Free)
 handed_beyond : (sizes : Sizes) (s : State) (v : ℕ) → FreeBeyond sizes s → FreeBeyond sizes (handed v s)
 handed_beyond sizes s v c = record { each = λ x far. handed_case (λ (u : Node). u.mode ≡ Free) s v x (c.each x far) (λ m _ _. let f = c.each x far in absurd (cc)) }
 
-beyond_step : (sizes : Sizes) → Keeps sizes (λ (s : State) (w : ℕ → ℕ). FreeBeyond sizes s)
+beyond_step : (sizes : Sizes) → KeepsByKind sizes (λ (s : State) (w : ℕ → ℕ). FreeBeyond sizes s)
 beyond_step sizes past e kept c PopFree by ok w a = record { each = put_beyond sizes (state sizes past) e.life.index _ ok.there c }
 beyond_step sizes past e kept c LinkVertex by ok w a = record { each = put_beyond sizes (state sizes past) e.life.index _ ok.there c }
 beyond_step sizes past e kept c MarkVertex by ok w a = record { each = put_beyond sizes (state sizes past) e.life.index _ ok.there c }
@@ -75,7 +75,7 @@ joined_lists sizes past e c = record {
       (λ ne. c.each x y (sym (linked_stands sizes (second_at sizes x) e.place e.life.index y ((state sizes past).edges x) ne) ∙ h));
 }
 
-lists_step : (sizes : Sizes) → Keeps sizes (λ (s : State) (w : ℕ → ℕ). OnLists s)
+lists_step : (sizes : Sizes) → KeepsByKind sizes (λ (s : State) (w : ℕ → ℕ). OnLists s)
 lists_step sizes past e kept c PopFree by ok w a =
     let v : Node = record (node_in sizes past e.life.index) { mode = Fresh; who = e.caller; tag = e.life.tag; marked = false; stored = false } in
     record {

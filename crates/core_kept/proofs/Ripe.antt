@@ -12,7 +12,7 @@ use Rattle.core_kept.specs.Kept.{AllowedAs, IsKept}
 use Rattle.core_kept.specs.Nodes.{node_in, IsRipe}
 use Rattle.core_kept.specs.Moments.{is_spent, clock_by, ends_by, clock_in, ends_in}
 use Rattle.core_kept.proofs.Induction.{kept_front}
-use Rattle.core_kept.proofs.ByKind.{Keeps, put_case, handed_case, marked_state, closed_state, holds_all, holds_onward}
+use Rattle.core_kept.proofs.ByKind.{KeepsByKind, put_case, handed_case, marked_state, closed_state, holds_all, holds_onward}
 use Rattle.core_kept.proofs.FirstWords.{numbers}
 use Rattle.core_kept.proofs.Announcements.{announcements, clock_step, epoch_was}
 use Rattle.core_kept.proofs.LinkWords.{taken}
@@ -62,7 +62,7 @@ ends_some k sizes past e ok x = ⊎_elim
     (λ same. inl record { ended = same.0; epoch = same.1 })
     (λ now. inr record { ended = now.0; epoch = now.1; spent = ap is_spent now.2 }) (end_by k sizes past e ok x)
 
-ended_step : (sizes : Sizes) → Keeps sizes (λ (s : State) (w : ℕ → ℕ). Ended (clock_by sizes s w) (ends_by s))
+ended_step : (sizes : Sizes) → KeepsByKind sizes (λ (s : State) (w : ℕ → ℕ). Ended (clock_by sizes s w) (ends_by s))
 ended_step sizes past e kept c k by ok w a = ended_kept sizes.callers (clock_in sizes past) (clock_by sizes (state_by k sizes e (state sizes past)) w) (ends_in sizes past) (ends_by (state_by k sizes e (state sizes past))) c
     (clock_step k sizes past e kept ok w a) (ends_some k sizes past e ok)
 
@@ -71,23 +71,23 @@ pub ended : (sizes : Sizes) (journal : List Event) → IsKept sizes journal → 
 ended sizes journal kept = holds_all sizes (λ (s : State) (w : ℕ → ℕ). Ended (clock_by sizes s w) (ends_by s)) (ended_step sizes) (record { epoch = λ x. omega arith; ended = λ x. omega arith }) journal kept
 
 -- a life that is over stays so, with the same end
-pub record IsOver (tag end epoch : ℕ) (v : Node) : Type 0 where
+pub record HasEndedIn (tag end epoch : ℕ) (v : Node) : Type 0 where
   pub low : tag ≤ v.tag
   pub fresh : v.tag ≡ tag → v.mode ≢ Fresh
   pub linked : v.tag ≡ tag → v.mode ≢ Linked
   pub epoch_is : v.tag ≡ tag → v.epoch ≡ epoch
 
 module _ (sizes : Sizes) (z : IsLayout sizes) (x tag end epoch : ℕ) where
-  over_put : (s : State) (i : ℕ) (v : Node) → IsOver tag end epoch (s.node x) → (IsOver tag end epoch (s.node i) → IsOver tag end epoch v) → IsOver tag end epoch (put i v s.node x)
-  over_put s i v c new = put_case (λ (u : Node). IsOver tag end epoch u) i v s.node x (λ same. new (subst (λ (y : ℕ). IsOver tag end epoch (s.node y)) same c)) (λ _. c)
+  over_put : (s : State) (i : ℕ) (v : Node) → HasEndedIn tag end epoch (s.node x) → (HasEndedIn tag end epoch (s.node i) → HasEndedIn tag end epoch v) → HasEndedIn tag end epoch (put i v s.node x)
+  over_put s i v c new = put_case (λ (u : Node). HasEndedIn tag end epoch u) i v s.node x (λ same. new (subst (λ (y : ℕ). HasEndedIn tag end epoch (s.node y)) same c)) (λ _. c)
 
-  over_handed : (s : State) (v : ℕ) → IsOver tag end epoch (s.node x) → IsOver tag end epoch ((handed v s).node x)
-  over_handed s v c = handed_case (λ (u : Node). IsOver tag end epoch u) s v x c (λ m _ _. record { low = c.low; fresh = λ h l. absurd (cc); linked = λ h l. absurd (cc); epoch_is = λ h. absurd (c.linked h m) })
+  over_handed : (s : State) (v : ℕ) → HasEndedIn tag end epoch (s.node x) → HasEndedIn tag end epoch ((handed v s).node x)
+  over_handed s v c = handed_case (λ (u : Node). HasEndedIn tag end epoch u) s v x c (λ m _ _. record { low = c.low; fresh = λ h l. absurd (cc); linked = λ h l. absurd (cc); epoch_is = λ h. absurd (c.linked h m) })
 
-  over_mark : (v : Node) → IsOver tag end epoch v → IsOver tag end epoch (record v { marked = true })
+  over_mark : (v : Node) → HasEndedIn tag end epoch v → HasEndedIn tag end epoch (record v { marked = true })
   over_mark v c = record { low = c.low; fresh = c.fresh; linked = c.linked; epoch_is = c.epoch_is }
 
-  pub over_step : Keeps sizes (λ (s : State) (w : ℕ → ℕ). IsOver tag end epoch (s.node x))
+  pub over_step : KeepsByKind sizes (λ (s : State) (w : ℕ → ℕ). HasEndedIn tag end epoch (s.node x))
   over_step past e kept c PopFree by ok w a = over_put (state sizes past) e.life.index _ c (λ d. let t = taken sizes z past e kept ok in record { low = omega (arith, d.low, t.tag); fresh = λ h. absurd (omega (arith, d.low, t.tag, h)); linked = λ h. absurd (omega (arith, d.low, t.tag, h)); epoch_is = λ h. absurd (omega (arith, d.low, t.tag, h)) })
   over_step past e kept c LinkVertex by ok w a = over_put (state sizes past) e.life.index _ c (λ d. record { low = d.low; fresh = λ h l. absurd (cc); linked = λ h. absurd (d.fresh h ok.fresh.fresh); epoch_is = λ h. absurd (d.fresh h ok.fresh.fresh) })
   over_step past e kept c LinkEdge by ok w a = over_put (state sizes past) e.life.index _ c (λ d. record { low = d.low; fresh = λ h l. absurd (cc); linked = λ h. absurd (d.fresh h ok.fresh.fresh); epoch_is = λ h. absurd (d.fresh h ok.fresh.fresh) })
@@ -99,7 +99,7 @@ module _ (sizes : Sizes) (z : IsLayout sizes) (x tag end epoch : ℕ) where
   over_step past e kept c ReplaceEdge by ok w a =
       let s : State = state sizes past in
       let j : State = joined_edge sizes e s in
-      let joined : IsOver tag end epoch (j.node x) = over_put s e.life.index (new_edge_node (s.node e.life.index) e s.count) c (λ d. record { low = d.low; fresh = λ h l. absurd (cc); linked = λ h. absurd (d.fresh h ok.fresh.fresh); epoch_is = λ h. absurd (d.fresh h ok.fresh.fresh) }) in
+      let joined : HasEndedIn tag end epoch (j.node x) = over_put s e.life.index (new_edge_node (s.node e.life.index) e s.count) c (λ d. record { low = d.low; fresh = λ h l. absurd (cc); linked = λ h. absurd (d.fresh h ok.fresh.fresh); epoch_is = λ h. absurd (d.fresh h ok.fresh.fresh) }) in
       over_handed (marked_state j e.old.index) (j.node e.old.index).source.index (over_put j e.old.index _ joined (over_mark (j.node e.old.index)))
   over_step past e kept c MarkEdge by ok w a = over_handed (marked_state (state sizes past) e.life.index) (node_in sizes past e.life.index).source.index (over_put (state sizes past) e.life.index _ c (over_mark (node_in sizes past e.life.index)))
   over_step past e kept c FreezeEdge by ok w a = over_handed (marked_state (state sizes past) e.life.index) (node_in sizes past e.life.index).source.index (over_put (state sizes past) e.life.index _ c (over_mark (node_in sizes past e.life.index)))
@@ -113,7 +113,7 @@ ripe_now sizes z past caller x kept r =
     let then = kept_front sizes r.stamped.when past r.stamped.when_before kept in
     let tag = (node_in sizes r.stamped.when x).tag in
     let epoch = (node_in sizes r.stamped.when x).epoch in
-    let over : IsOver tag 0 epoch (node_in sizes past x) = holds_onward sizes (λ (s : State) (w : ℕ → ℕ). IsOver tag 0 epoch (s.node x)) (over_step sizes z x tag 0 epoch) r.stamped.when past r.stamped.when_before kept
+    let over : HasEndedIn tag 0 epoch (node_in sizes past x) = holds_onward sizes (λ (s : State) (w : ℕ → ℕ). HasEndedIn tag 0 epoch (s.node x)) (over_step sizes z x tag 0 epoch) r.stamped.when past r.stamped.when_before kept
     (record { low = omega arith; fresh = λ _ h. absurd (cc); linked = λ _ h. absurd (cc); epoch_is = λ _. refl }) in
     omega (arith, over.epoch_is (sym r.stamped.when_life), (ended sizes r.stamped.when then).epoch x, (numbers sizes r.stamped.when then).epoch, r.stamped.when_epoch, r.shown_epoch, epoch_was sizes r.shown past r.shown_before kept)
 
@@ -153,7 +153,7 @@ gives_old k sizes z past e kept ok x was now = ⊎_elim
     (λ m. let t = ap is_spent m in absurd (cc))
     (λ old. old) (spent_stays k sizes z past e kept ok x (spent_is (node_in sizes past x).mode was))
 
-ordered_step : (sizes : Sizes) → IsLayout sizes → Keeps sizes (λ (s : State) (w : ℕ → ℕ). Ordered (clock_by sizes s w) (ends_by s))
+ordered_step : (sizes : Sizes) → IsLayout sizes → KeepsByKind sizes (λ (s : State) (w : ℕ → ℕ). Ordered (clock_by sizes s w) (ends_by s))
 ordered_step sizes z past e kept c k by ok w a = ordered_kept sizes.callers (clock_in sizes past) (clock_by sizes (state_by k sizes e (state sizes past)) w) (ends_in sizes past) (ends_by (state_by k sizes e (state sizes past)))
     (announcements sizes past kept) (near sizes past kept) (ended sizes past kept) c (clock_step k sizes past e kept ok w a) (ends_some k sizes past e ok) (gives_old k sizes z past e kept ok)
 

@@ -12,7 +12,7 @@ use Rattle.core_kept.specs.Nodes.{node_in}
 use Rattle.core_kept.proofs.LinkWords.{taken}
 use Rattle.core_kept.proofs.PastLives.{same_tag}
 use Rattle.core_kept.proofs.ReplaceCases.{new_edge_node}
-use Rattle.core_kept.proofs.ByKind.{Keeps, put_case, handed_case, marked_state, closed_state, holds_onward}
+use Rattle.core_kept.proofs.ByKind.{KeepsByKind, put_case, handed_case, marked_state, closed_state, holds_onward}
 
 -- what a node says of its life, which isn't fresh
 pub record SaysSame (n v : Node) : Type 0 where
@@ -49,7 +49,7 @@ module _ (n : Node) where
   of_fresh : (v u : Node) → v.mode ≡ Fresh → u.tag ≡ v.tag → IsOfLife n v → IsOfLife n u
   of_fresh v u m tag c = record { low = omega (arith, c.low, tag); same = λ t. absurd ((c.same (sym tag ∙ t)).fresh m) }
 
-  of_step : (sizes : Sizes) → IsLayout sizes → (x : ℕ) → Keeps sizes (λ (s : State) (w : ℕ → ℕ). IsOfLife n (s.node x))
+  of_step : (sizes : Sizes) → IsLayout sizes → (x : ℕ) → KeepsByKind sizes (λ (s : State) (w : ℕ → ℕ). IsOfLife n (s.node x))
   of_step sizes z x past e kept c PopFree by ok w a =
       let t = (taken sizes z past e kept ok).tag in
       of_put (state sizes past) e.life.index x _ c (λ d. record { low = omega (arith, d.low, t); same = λ h. absurd (omega (arith, d.low, t, h)) })

@@ -10,7 +10,7 @@ use Rattle.packed_link.specs.Layout.{Sizes, IsLayout, Bucket, word_count, bucket
 use Rattle.packed_link.proofs.Links.{index_of-pack, index_of-bound}
 use Rattle.core_chain.specs.Chain.{Chain, Position, Head, Node, IsOn, IsChain}
 use Rattle.core_chain.specs.Met.{MeetsFrom, IsMet}
-use Rattle.core_chain.specs.Steps.{CanInsert, CanUnlink, Inserts, Joins, Leaves, Marks, Unlinks, Untouched}
+use Rattle.core_chain.specs.Steps.{CanInsert, CanUnlink, Inserts, Joins, Departs, Marks, Unlinks, Untouched}
 use Rattle.core_chain.specs.Table.{StandsAlone, chain_in}
 use Rattle.core_chain.specs.Walk.{StandsBelow}
 use Rattle.core_chain.proofs.Inserts.{IsChain-inserted}
@@ -29,7 +29,7 @@ use Rattle.core_kept.specs.Nodes.{node_in, IsUsed, IsLinkedVertex}
 use Rattle.core_kept.specs.Vertices.{IsLinkVertex, IsMarkVertex, IsUnlinkVertex}
 use Rattle.core_lists.specs.Chains.{bucket_word, bucket_places, bucket_chain, BucketChains}
 use Rattle.core_kept.specs.Nodes.{is_of_bucket}
-use Rattle.core_kept.proofs.ByKind.{IsAfter, Keeps, put_case, put_same, put_other, marked_state, closed_state, holds_all, writes_at}
+use Rattle.core_kept.proofs.ByKind.{IsAfter, KeepsByKind, put_case, put_same, put_other, marked_state, closed_state, holds_all, writes_at}
 use Rattle.core_kept.proofs.LinkWords.{taken}
 use Rattle.core_kept.proofs.Contents.{contents}
 use Rattle.core_kept.proofs.NodesInPlace.{on_lists, used_there, marked_lists, handed_bucket, joined_lists}
@@ -40,12 +40,12 @@ abbrev pub chain_of : Sizes → State → (ℕ → ℕ) → ℕ → Chain
 chain_of sizes s w j = chain_in w (bucket_places sizes j) (is_of_bucket sizes s j) (λ x. 0)
 
 -- a node on a bucket is a linked vertex with a key of the bucket
-pub record IsVertexIn (sizes : Sizes) (v : Nodes) (j : ℕ) : Type 0 where
+pub record IsNodeOfBucket (sizes : Sizes) (v : Nodes) (j : ℕ) : Type 0 where
   pub linked : v.mode ≡ Linked
   pub vertex : v.vertex ≡ true
   pub of_bucket : v.key % sizes.buckets ≡ j
 
-pub is_in : (sizes : Sizes) (s : State) (j x : ℕ) → is_of_bucket sizes s j x ≡ true → IsVertexIn sizes (s.node x) j
+pub is_in : (sizes : Sizes) (s : State) (j x : ℕ) → is_of_bucket sizes s j x ≡ true → IsNodeOfBucket sizes (s.node x) j
 is_in sizes s j x h =
     let a = and_parts (is_linked (s.node x).mode) ((s.node x).vertex && ((s.node x).key % sizes.buckets == j)) h in
     let b = and_parts (s.node x).vertex ((s.node x).key % sizes.buckets == j) a.1 in
@@ -55,13 +55,13 @@ is_in sizes s j x h =
     linked Linked h = refl
     linked _ h = absurd (cc)
 
-pub in_is : (sizes : Sizes) (s : State) (j x : ℕ) → IsVertexIn sizes (s.node x) j → is_of_bucket sizes s j x ≡ true
+pub in_is : (sizes : Sizes) (s : State) (j x : ℕ) → IsNodeOfBucket sizes (s.node x) j → is_of_bucket sizes s j x ≡ true
 in_is sizes s j x v =
     let key : ((s.node x).key % sizes.buckets == j) ≡ true = eq-eqb ((s.node x).key % sizes.buckets) j v.of_bucket in
     and_from (is_linked (s.node x).mode) ((s.node x).vertex && ((s.node x).key % sizes.buckets == j)) (ap is_linked v.linked) (and_from (s.node x).vertex ((s.node x).key % sizes.buckets == j) v.vertex key)
 
 -- a node that isn't linked, or is no vertex, or has a key of another bucket, is on no chain of this one
-not_in : (sizes : Sizes) (v : Nodes) (j : ℕ) → (IsVertexIn sizes v j → ⊥) → (is_linked v.mode && (v.vertex && (v.key % sizes.buckets == j))) ≡ false
+not_in : (sizes : Sizes) (v : Nodes) (j : ℕ) → (IsNodeOfBucket sizes v j → ⊥) → (is_linked v.mode && (v.vertex && (v.key % sizes.buckets == j))) ≡ false
 not_in sizes v j none = by (is_linked v.mode && (v.vertex && (v.key % sizes.buckets == j))) refl
   where
     linked : (m : Mode) → is_linked m ≡ true → m ≡ Linked
@@ -99,7 +99,7 @@ stays sizes s s' w w' j same step b = record {
 
 -- an event that writes no word of a bucket's chain leaves it as it is, where the nodes on it stay
 pub untouched : (sizes : Sizes) (past : List Event) (e : Event) (w : ℕ → ℕ) (s' : State) (j : ℕ) → IsAfter sizes past e w → e.place ≢ bucket_at sizes j
-    → ((x : ℕ) → IsVertexIn sizes (node_in sizes past x) j → (e.place ≢ link_at sizes x) × (e.place ≢ key_at sizes x))
+    → ((x : ℕ) → IsNodeOfBucket sizes (node_in sizes past x) j → (e.place ≢ link_at sizes x) × (e.place ≢ key_at sizes x))
     → ((x : ℕ) → is_of_bucket sizes s' j x ≡ is_of_bucket sizes (state sizes past) j x) → Untouched (bucket_chain sizes past j) (chain_of sizes s' w j)
 untouched sizes past e w s' j a head links same = record {
   nodes = same;
@@ -128,7 +128,7 @@ stands_alone sizes j (Node n) low = record { words = λ p ne h. word p ne h; key
 
 module _ (sizes : Sizes) (z : IsLayout sizes) (past : List Event) (kept : IsKept sizes past) where
   -- the key word of a vertex on a chain is its key
-  pub key_word : (x j : ℕ) → IsVertexIn sizes (node_in sizes past x) j → word_at sizes past (key_at sizes x) ≡ (node_in sizes past x).key
+  pub key_word : (x j : ℕ) → IsNodeOfBucket sizes (node_in sizes past x) j → word_at sizes past (key_at sizes x) ≡ (node_in sizes past x).key
   key_word x j v =
       let there : x < sizes.nodes = used_there sizes past x kept (λ f. let m = v.linked in absurd (cc)) in
       (((contents sizes z past kept).each x there).vertex (subst IsUsed (sym v.linked) tt) v.vertex).key_word
@@ -141,7 +141,7 @@ module _ (sizes : Sizes) (z : IsLayout sizes) (past : List Event) (kept : IsKept
   home_low key = mod-lt key (omega (arith, z.some_buckets))
 
 -- an event writes a word of the chain of a bucket
-pub record IsSpot (sizes : Sizes) (past : List Event) (e : Event) (j : ℕ) : Type 0 where
+pub record IsBucketSpot (sizes : Sizes) (past : List Event) (e : Event) (j : ℕ) : Type 0 where
   pub at : Position
   pub place : bucket_word sizes j at ≡ e.place
   pub on : IsOn (bucket_chain sizes past j) at
@@ -150,7 +150,7 @@ module _ (sizes : Sizes) (z : IsLayout sizes) (past : List Event) (e : Event) (k
   abbrev link_home : ℕ
   link_home = e.key % sizes.buckets
 
-  pub link_spot : IsSpot sizes past e link_home
+  pub link_spot : IsBucketSpot sizes past e link_home
   link_spot = ⊎_elim
       (λ h. record { at = Head; place = ap (bucket_at sizes) (sym (ok.gap.bucket_word ok.bucket h.0 h.1)) ∙ sym h.0; on = tt })
       (λ h.
@@ -166,10 +166,10 @@ module _ (sizes : Sizes) (z : IsLayout sizes) (past : List Event) (e : Event) (k
   abbrev link_state : State
   link_state = state_by LinkVertex sizes e (state sizes past)
 
-  link_fresh : (j : ℕ) → IsVertexIn sizes (node_in sizes past e.life.index) j → ⊥
+  link_fresh : (j : ℕ) → IsNodeOfBucket sizes (node_in sizes past e.life.index) j → ⊥
   link_fresh j v = let m = v.linked in let f = ok.fresh.fresh in absurd (cc)
 
-  pub link_can : (s : IsSpot sizes past e link_home) → CanInsert (bucket_chain sizes past link_home) s.at e.life.index
+  pub link_can : (s : IsBucketSpot sizes past e link_home) → CanInsert (bucket_chain sizes past link_home) s.at e.life.index
   link_can s =
       let word : word_at sizes past (bucket_word sizes link_home s.at) ≡ word_at sizes past e.place = ap (word_at sizes past) s.place in
       record {
@@ -195,7 +195,7 @@ module _ (sizes : Sizes) (z : IsLayout sizes) (past : List Event) (e : Event) (k
   -- the nodes on the chain of its bucket, and on the others
   link_nodes : Joins (is_of_bucket sizes (state sizes past) link_home) (is_of_bucket sizes link_state link_home) e.life.index
   link_nodes = record {
-    joins = in_is sizes link_state link_home e.life.index (subst (λ (u : Nodes). IsVertexIn sizes u link_home) (sym (put_same e.life.index link_node (state sizes past).node)) record { linked = refl; vertex = refl; of_bucket = refl });
+    joins = in_is sizes link_state link_home e.life.index (subst (λ (u : Nodes). IsNodeOfBucket sizes u link_home) (sym (put_same e.life.index link_node (state sizes past).node)) record { linked = refl; vertex = refl; of_bucket = refl });
     others = λ x ne. ap (λ (u : Nodes). is_linked u.mode && (u.vertex && (u.key % sizes.buckets == link_home))) (put_other e.life.index link_node (state sizes past).node x ne);
   }
 
@@ -206,13 +206,13 @@ module _ (sizes : Sizes) (z : IsLayout sizes) (past : List Event) (e : Event) (k
 
   module _ (w : ℕ → ℕ) (a : IsAfter sizes past e w) where
     -- the vertex is inserted into the chain of its bucket
-    pub link_inserts : (s : IsSpot sizes past e link_home) → Inserts (bucket_chain sizes past link_home) (chain_of sizes link_state w link_home) s.at e.life.index
+    pub link_inserts : (s : IsBucketSpot sizes past e link_home) → Inserts (bucket_chain sizes past link_home) (chain_of sizes link_state w link_home) s.at e.life.index
     link_inserts s =
         Inserts-in (word_at sizes past) w (bucket_places sizes link_home) (is_of_bucket sizes (state sizes past) link_home) (is_of_bucket sizes link_state link_home) (λ x. 0) (λ x. 0) (λ x on. refl) s.at e.life.index (tag_of (word_at sizes past e.place))
         (stands_alone sizes link_home s.at (home_low sizes z past kept e.key)) (omega (arith, ok.there, z.few_nodes)) (link_can s) (writes_at sizes past e w _ _ a s.place link_near ok.word) link_nodes
 
     -- and no word of another is written
-    link_apart : (j : ℕ) → j < sizes.buckets → j ≢ link_home → (x : ℕ) → IsVertexIn sizes (node_in sizes past x) j → e.place ≢ link_at sizes x
+    link_apart : (j : ℕ) → j < sizes.buckets → j ≢ link_home → (x : ℕ) → IsNodeOfBucket sizes (node_in sizes past x) j → e.place ≢ link_at sizes x
     link_apart j low ne x v h = ne (sym v.of_bucket ∙ (ap (λ (k : ℕ). k % sizes.buckets) (sym (key_word sizes z past kept x j v)) ∙ ok.gap.bucket x h))
 
     pub link_others : (j : ℕ) → j < sizes.buckets → j ≢ link_home → Untouched (bucket_chain sizes past j) (chain_of sizes link_state w j)
@@ -298,26 +298,26 @@ module _ (sizes : Sizes) (z : IsLayout sizes) (past : List Event) (e : Event) (k
       let here : is_of_bucket sizes (state sizes past) j e.life.index ≡ true = subst (λ (y : ℕ). is_of_bucket sizes (state sizes past) j y ≡ true) to led in
       sym (is_in sizes (state sizes past) j e.life.index here).of_bucket
 
-  pub cut_spot : IsSpot sizes past e cut_home
+  pub cut_spot : IsBucketSpot sizes past e cut_home
   cut_spot = ⊎_elim
-      (λ h. subst (IsSpot sizes past e) (led_home ok.bucket h.1 Head tt (sym h.0)) record { at = Head; place = sym h.0; on = tt })
+      (λ h. subst (IsBucketSpot sizes past e) (led_home ok.bucket h.1 Head tt (sym h.0)) record { at = Head; place = sym h.0; on = tt })
       (λ h.
       let j : ℕ = (node_in sizes past ok.before).key % sizes.buckets in
       let on = home_in sizes z past kept ok.before j (ok.before_linked ok.before h.0) refl in
-      subst (IsSpot sizes past e) (led_home j (home_low sizes z past kept (node_in sizes past ok.before).key) (Node ok.before) on (sym h.0)) record { at = Node ok.before; place = sym h.0; on = on })
+      subst (IsBucketSpot sizes past e) (led_home j (home_low sizes z past kept (node_in sizes past ok.before).key) (Node ok.before) on (sym h.0)) record { at = Node ok.before; place = sym h.0; on = on })
       ok.place
 
-  cut_can : (s : IsSpot sizes past e cut_home) → CanUnlink (bucket_chain sizes past cut_home) s.at e.life.index
+  cut_can : (s : IsBucketSpot sizes past e cut_home) → CanUnlink (bucket_chain sizes past cut_home) s.at e.life.index
   cut_can s =
       let word : word_at sizes past (bucket_word sizes cut_home s.at) ≡ word_at sizes past e.place = ap (word_at sizes past) s.place in
       record { present = s.on; unmarked = ap mark_of word ∙ ok.unmarked; named = λ none. omega (arith, ok.there, z.few_nodes, none); led = ap index_of word ∙ ok.leads; marked = ok.dead }
 
-  cut_gone : (j : ℕ) → IsVertexIn sizes cut_node j → ⊥
+  cut_gone : (j : ℕ) → IsNodeOfBucket sizes cut_node j → ⊥
   cut_gone j v = let m = v.linked in absurd (cc)
 
-  cut_nodes : Leaves (is_of_bucket sizes (state sizes past) cut_home) (is_of_bucket sizes cut_state cut_home) e.life.index
+  cut_nodes : Departs (is_of_bucket sizes (state sizes past) cut_home) (is_of_bucket sizes cut_state cut_home) e.life.index
   cut_nodes = record {
-    leaves = λ h. cut_gone cut_home (subst (λ (u : Nodes). IsVertexIn sizes u cut_home) (put_same e.life.index cut_node (state sizes past).node) (is_in sizes cut_state cut_home e.life.index h));
+    departs = λ h. cut_gone cut_home (subst (λ (u : Nodes). IsNodeOfBucket sizes u cut_home) (put_same e.life.index cut_node (state sizes past).node) (is_in sizes cut_state cut_home e.life.index h));
     others = λ x ne. ap (λ (u : Nodes). is_linked u.mode && (u.vertex && (u.key % sizes.buckets == cut_home))) (put_other e.life.index cut_node (state sizes past).node x ne);
   }
 
@@ -328,7 +328,7 @@ module _ (sizes : Sizes) (z : IsLayout sizes) (past : List Event) (e : Event) (k
 
   module _ (w : ℕ → ℕ) (a : IsAfter sizes past e w) where
     -- the vertex leaves its chain
-    pub cut_unlinks : (s : IsSpot sizes past e cut_home) → Unlinks (bucket_chain sizes past cut_home) (chain_of sizes cut_state w cut_home) s.at e.life.index
+    pub cut_unlinks : (s : IsBucketSpot sizes past e cut_home) → Unlinks (bucket_chain sizes past cut_home) (chain_of sizes cut_state w cut_home) s.at e.life.index
     cut_unlinks s =
         Unlinks-in (word_at sizes past) w (bucket_places sizes cut_home) (is_of_bucket sizes (state sizes past) cut_home) (is_of_bucket sizes cut_state cut_home) (λ x. 0) (λ x. 0) (λ x on. refl) s.at e.life.index (tag_of (word_at sizes past e.place))
         (stands_alone sizes cut_home s.at (home_low sizes z past kept (node_in sizes past e.life.index).key)) (cut_can s) (writes_at sizes past e w _ _ a s.place (omega (arith, ok.place)) ok.word) cut_nodes
@@ -366,7 +366,7 @@ same_list UnlinkVertex o sizes e s j = absurd o
 same_list _ o sizes e s j = refl
 
 -- a node that was on no chain of a bucket and is on none
-put_off : (sizes : Sizes) (s : State) (i : ℕ) (v : Nodes) (j x : ℕ) → (IsVertexIn sizes (s.node i) j → ⊥) → (IsVertexIn sizes v j → ⊥)
+put_off : (sizes : Sizes) (s : State) (i : ℕ) (v : Nodes) (j x : ℕ) → (IsNodeOfBucket sizes (s.node i) j → ⊥) → (IsNodeOfBucket sizes v j → ⊥)
     → (is_linked (put i v s.node x).mode && ((put i v s.node x).vertex && ((put i v s.node x).key % sizes.buckets == j))) ≡ is_of_bucket sizes s j x
 put_off sizes s i v j x old new = put_case (λ (u : Nodes). (is_linked u.mode && (u.vertex && (u.key % sizes.buckets == j))) ≡ is_of_bucket sizes s j x) i v s.node x
     (λ same. not_in sizes v j new ∙ sym (subst (λ (y : ℕ). is_of_bucket sizes s j y ≡ false) (sym same) (not_in sizes (s.node i) j old)))
@@ -374,7 +374,7 @@ put_off sizes s i v j x old new = put_case (λ (u : Nodes). (is_linked u.mode &&
 
 module _ (sizes : Sizes) (z : IsLayout sizes) (past : List Event) (e : Event) (kept : IsKept sizes past) (w : ℕ → ℕ) (a : IsAfter sizes past e w) (j : ℕ) (low : j < sizes.buckets) where
   -- a node that was marked stands on the chain as before
-  marked_off : (x : ℕ) → (IsVertexIn sizes (node_in sizes past e.life.index) j → ⊥) → is_of_bucket sizes (marked_state (state sizes past) e.life.index) j x ≡ is_of_bucket sizes (state sizes past) j x
+  marked_off : (x : ℕ) → (IsNodeOfBucket sizes (node_in sizes past e.life.index) j → ⊥) → is_of_bucket sizes (marked_state (state sizes past) e.life.index) j x ≡ is_of_bucket sizes (state sizes past) j x
   marked_off x none = put_off sizes (state sizes past) e.life.index (record (node_in sizes past e.life.index) { marked = true }) j x none (λ v. none record { linked = v.linked; vertex = v.vertex; of_bucket = v.of_bucket })
 
   -- a kind that changes no bucket leaves each chain untouched
@@ -392,9 +392,9 @@ module _ (sizes : Sizes) (z : IsLayout sizes) (past : List Event) (e : Event) (k
       ((λ h. off (omega (arith, ok.place, h))), (λ h. off (omega (arith, ok.place, h)))))
       (λ x. refl)
   idle_bucket StoreFree o ok =
-      let off : IsVertexIn sizes (node_in sizes past e.life.index) j → ⊥ = λ v. let m = v.linked in let f = ok.ripe.stamped.spent.spent in absurd (cc) in
+      let off : IsNodeOfBucket sizes (node_in sizes past e.life.index) j → ⊥ = λ v. let m = v.linked in let f = ok.ripe.stamped.spent.spent in absurd (cc) in
       untouched sizes past e w (state_by StoreFree sizes e (state sizes past)) j a (λ h. omega (arith, ok.place, h, low))
-      (λ x v. ((λ h. let same : x ≡ e.life.index = omega (arith, ok.place, h) in off (subst (λ (y : ℕ). IsVertexIn sizes (node_in sizes past y) j) same v)), (λ h. omega (arith, ok.place, h))))
+      (λ x v. ((λ h. let same : x ≡ e.life.index = omega (arith, ok.place, h) in off (subst (λ (y : ℕ). IsNodeOfBucket sizes (node_in sizes past y) j) same v)), (λ h. omega (arith, ok.place, h))))
       (λ x. put_off sizes (state sizes past) e.life.index _ j x off (λ v. off record { linked = v.linked; vertex = v.vertex; of_bucket = v.of_bucket }))
   idle_bucket LinkEdge o ok = untouched sizes past e w (state_by LinkEdge sizes e (state sizes past)) j a (λ h. omega (arith, ok.place, h, low))
       (λ x v. ((λ h. let t = (ok.linked x h).linked.edge in let u = v.vertex in absurd (cc)), (λ h. omega (arith, ok.place, h))))
@@ -403,31 +403,31 @@ module _ (sizes : Sizes) (z : IsLayout sizes) (past : List Event) (e : Event) (k
       (λ x v. ((λ h. let t = (ok.before_linked x h).linked.edge in let u = v.vertex in absurd (cc)), (λ h. omega (arith, ok.place, h))))
       (λ x. put_off sizes (state sizes past) e.life.index _ j x (λ v. let u = v.vertex in let t = ok.linked.edge in absurd (cc)) (λ v. let m = v.linked in absurd (cc)))
   idle_bucket MarkEdge o ok =
-      let off : IsVertexIn sizes (node_in sizes past e.life.index) j → ⊥ = λ v. let u = v.vertex in let t = ok.linked.edge in absurd (cc) in
+      let off : IsNodeOfBucket sizes (node_in sizes past e.life.index) j → ⊥ = λ v. let u = v.vertex in let t = ok.linked.edge in absurd (cc) in
       untouched sizes past e w (state_by MarkEdge sizes e (state sizes past)) j a (λ h. omega (arith, ok.place, h, low))
-      (λ x v. ((λ h. let same : x ≡ e.life.index = omega (arith, ok.place, h) in off (subst (λ (y : ℕ). IsVertexIn sizes (node_in sizes past y) j) same v)), (λ h. omega (arith, ok.place, h))))
+      (λ x v. ((λ h. let same : x ≡ e.life.index = omega (arith, ok.place, h) in off (subst (λ (y : ℕ). IsNodeOfBucket sizes (node_in sizes past y) j) same v)), (λ h. omega (arith, ok.place, h))))
       (λ x. handed_bucket sizes (marked_state (state sizes past) e.life.index) (node_in sizes past e.life.index).source.index j x (marked_lists (state sizes past) e.life.index (on_lists sizes past kept)) ∙ marked_off x off)
   idle_bucket ReplaceEdge o ok =
       let s : State = state sizes past in
       let t : State = joined_edge sizes e s in
       let v : Nodes = record (node_in sizes past e.life.index) { mode = Linked; vertex = false; key = e.key; source = e.source; target = e.target; weight = e.weight; since = s.count + 1 } in
-      let off : IsVertexIn sizes (node_in sizes past e.old.index) j → ⊥ = λ v. let u = v.vertex in let t = ok.linked.edge in absurd (cc) in
-      let off_then : IsVertexIn sizes (t.node e.old.index) j → ⊥ = λ v. off (subst (λ (n : Nodes). IsVertexIn sizes n j) (old_joined sizes past e ok) v) in
+      let off : IsNodeOfBucket sizes (node_in sizes past e.old.index) j → ⊥ = λ v. let u = v.vertex in let t = ok.linked.edge in absurd (cc) in
+      let off_then : IsNodeOfBucket sizes (t.node e.old.index) j → ⊥ = λ v. off (subst (λ (n : Nodes). IsNodeOfBucket sizes n j) (old_joined sizes past e ok) v) in
       untouched sizes past e w (state_by ReplaceEdge sizes e s) j a (λ h. omega (arith, ok.place, h, low))
-      (λ x v. ((λ h. let same : x ≡ e.old.index = omega (arith, ok.place, h) in off (subst (λ (y : ℕ). IsVertexIn sizes (node_in sizes past y) j) same v)), (λ h. omega (arith, ok.place, h))))
+      (λ x v. ((λ h. let same : x ≡ e.old.index = omega (arith, ok.place, h) in off (subst (λ (y : ℕ). IsNodeOfBucket sizes (node_in sizes past y) j) same v)), (λ h. omega (arith, ok.place, h))))
       (λ x. handed_bucket sizes (marked_state t e.old.index) (t.node e.old.index).source.index j x (marked_lists t e.old.index (joined_lists sizes past e (on_lists sizes past kept)))
       ∙ (put_off sizes t e.old.index (record (t.node e.old.index) { marked = true }) j x off_then (λ v. off_then record { linked = v.linked; vertex = v.vertex; of_bucket = v.of_bucket })
       ∙ put_off sizes s e.life.index v j x (λ v. let m = v.linked in let f = ok.fresh.fresh in absurd (cc)) (λ v. let t = v.vertex in absurd (cc))))
   idle_bucket FreezeEdge o ok =
-      let off : IsVertexIn sizes (node_in sizes past e.life.index) j → ⊥ = λ v. let u = v.vertex in let t = ok.linked.edge in absurd (cc) in
+      let off : IsNodeOfBucket sizes (node_in sizes past e.life.index) j → ⊥ = λ v. let u = v.vertex in let t = ok.linked.edge in absurd (cc) in
       untouched sizes past e w (state_by FreezeEdge sizes e (state sizes past)) j a (λ h. omega (arith, ok.place, h, low))
-      (λ x v. ((λ h. let same : x ≡ e.life.index = omega (arith, ok.place, h) in off (subst (λ (y : ℕ). IsVertexIn sizes (node_in sizes past y) j) same v)), (λ h. omega (arith, ok.place, h))))
+      (λ x v. ((λ h. let same : x ≡ e.life.index = omega (arith, ok.place, h) in off (subst (λ (y : ℕ). IsNodeOfBucket sizes (node_in sizes past y) j) same v)), (λ h. omega (arith, ok.place, h))))
       (λ x. handed_bucket sizes (marked_state (state sizes past) e.life.index) (node_in sizes past e.life.index).source.index j x (marked_lists (state sizes past) e.life.index (on_lists sizes past kept)) ∙ marked_off x off)
   idle_bucket FreezeHead o ok = untouched sizes past e w (state_by FreezeHead sizes e (state sizes past)) j a (λ h. omega (arith, ok.place, h, low)) (λ x v. ((λ h. omega (arith, ok.place, h)), (λ h. omega (arith, ok.place, h))))
       (λ x. handed_bucket sizes (closed_state (state sizes past) e.life.index) e.life.index j x record { each = (on_lists sizes past kept).each })
   idle_bucket k o ok = untouched sizes past e w (state_by k sizes e (state sizes past)) j a (λ h. omega (arith, ok.place, ok.there, h)) (λ x v. ((λ h. omega (arith, ok.place, ok.there, h)), (λ h. omega (arith, ok.place, ok.there, h)))) (λ x. refl)
 
-buckets_step : (sizes : Sizes) → IsLayout sizes → Keeps sizes (Buckets sizes)
+buckets_step : (sizes : Sizes) → IsLayout sizes → KeepsByKind sizes (Buckets sizes)
 buckets_step sizes z past e kept c LinkVertex by ok w a = record { each = λ j low. link_bucket sizes z past e kept ok w a j low (c.each j low) }
 buckets_step sizes z past e kept c MarkVertex by ok w a = record { each = λ j low. mark_bucket sizes z past e kept ok w a j low (c.each j low) }
 buckets_step sizes z past e kept c UnlinkVertex by ok w a = record { each = λ j low. cut_bucket sizes z past e kept ok c w a j low (c.each j low) }

@@ -11,7 +11,7 @@ use Rattle.core_journal.specs.Prefix.{IsPrefix}
 use Rattle.core_journal.specs.State.{Mode, Free, Fresh, Linked, Spent, Node, State, put, unlinked_from, handed, frozen_part, joined_edge, state_by, state}
 use Rattle.core_kept.specs.Kept.{AllowedAs, IsKept}
 use Rattle.core_kept.specs.Nodes.{node_in, IsUsed, IsFrozenToEnd, is_listed, is_frozen}
-use Rattle.core_kept.proofs.ByKind.{Keeps, put_case, put_other, handed_case, marked_state, closed_state, holds_all, holds_onward}
+use Rattle.core_kept.proofs.ByKind.{KeepsByKind, put_case, put_other, handed_case, marked_state, closed_state, holds_all, holds_onward}
 use Rattle.core_kept.proofs.Induction.{kept_front}
 use Rattle.core_kept.proofs.LinkWords.{taken}
 use Rattle.core_kept.proofs.LinkedOnce.{fresh_before}
@@ -34,7 +34,7 @@ abbrev pub KeepsLives : Sizes → ℕ → ℕ → (State → Type 0) → Type 0
 KeepsLives sizes x y P = (past : List Event) (e : Event) → IsKept sizes past → (k : Kind) → AllowedAs k sizes past e → (k ≡ PopFree → (x ≢ e.life.index) × (y ≢ e.life.index)) → P (state sizes past) → P (state_by k sizes e (state sizes past))
 
 module _ (sizes : Sizes) (z : IsLayout sizes) (x y : ℕ) (P : State → Type 0) (step : KeepsLives sizes x y P) where
-  while_step : (tag_x tag_y : ℕ) → Keeps sizes (λ (s : State) (w : ℕ → ℕ). IsWhile x y tag_x tag_y P s)
+  while_step : (tag_x tag_y : ℕ) → KeepsByKind sizes (λ (s : State) (w : ℕ → ℕ). IsWhile x y tag_x tag_y P s)
   while_step tag_x tag_y past e kept c PopFree by ok w a =
       let s : State = state sizes past in
       let i : ℕ = e.life.index in
@@ -123,7 +123,7 @@ put_closed sizes z past e kept k ok v x ne is still old = ⊎_elim
 mark_used : (s : State) (i x : ℕ) → IsUsed (s.node x).mode × ((s.node x).vertex ≡ true) → IsUsed ((marked_state s i).node x).mode × (((marked_state s i).node x).vertex ≡ true)
 mark_used s i x u = put_case (λ (n : Node). IsUsed n.mode × (n.vertex ≡ true)) i (record (s.node i) { marked = true }) s.node x (λ same. subst (λ (j : ℕ). IsUsed (s.node j).mode × ((s.node j).vertex ≡ true)) same u) (λ _. u)
 
-closed_used_step : (sizes : Sizes) → IsLayout sizes → Keeps sizes (λ (s : State) (w : ℕ → ℕ). ClosedUsed s)
+closed_used_step : (sizes : Sizes) → IsLayout sizes → KeepsByKind sizes (λ (s : State) (w : ℕ → ℕ). ClosedUsed s)
 closed_used_step sizes z past e kept c PopFree by ok w a = record {
   each = λ x h.
       let s : State = state sizes past in

@@ -87,7 +87,7 @@ pass_by Withdraw a w sizes e s caller = absurd (w refl)
 pass_by _ a w sizes e s caller = refl
 
 -- a node is in the same state, hands and life
-record IsSpentNode (v v' : Node) : Type 0 where
+record StaysSpent (v v' : Node) : Type 0 where
   pub mode : v'.mode ≡ v.mode
   pub who : v'.who ≡ v.who
   pub tag : v'.tag ≡ v.tag
@@ -144,7 +144,7 @@ module _ (sizes : Sizes) (past : List Event) (e : Event) (kept : IsKept sizes (p
   pass_kept a w caller = ap (λ (s : State). s.pass caller) (state-snoc sizes past e) ∙ pass_by e.kind a w sizes e (state sizes past) caller
 
   -- a spent node that the event is about stays in its state and its life, but where it's given back
-  spent_here : IsLayout sizes → (node_in sizes past e.life.index).mode ≡ Spent → (k : Kind) → k ≢ PushFree → AllowedAs k sizes past e → IsSpentNode (node_in sizes past e.life.index) ((state_by k sizes e (state sizes past)).node e.life.index)
+  spent_here : IsLayout sizes → (node_in sizes past e.life.index).mode ≡ Spent → (k : Kind) → k ≢ PushFree → AllowedAs k sizes past e → StaysSpent (node_in sizes past e.life.index) ((state_by k sizes e (state sizes past)).node e.life.index)
   spent_here z m PopFree other ok = let f = first_is_free sizes z past was_kept e.life.index ok.there ok.seen in absurd (cc)
   spent_here z m LinkVertex other ok = let f = ok.fresh.fresh in absurd (cc)
   spent_here z m LinkEdge other ok = let f = ok.fresh.fresh in absurd (cc)
@@ -155,15 +155,15 @@ module _ (sizes : Sizes) (past : List Event) (e : Event) (kept : IsKept sizes (p
   spent_here z m MarkEdge other ok = let f = ok.linked.linked in absurd (cc)
   spent_here z m FreezeEdge other ok = let f = ok.linked.linked in absurd (cc)
   spent_here z m PushFree other ok = absurd (other refl)
-  spent_here z m StoreFree other ok = subst (IsSpentNode (node_in sizes past e.life.index)) (sym (put_same e.life.index _ (state sizes past).node)) record { mode = refl; who = refl; tag = refl; vertex = refl }
-  spent_here z m FreezeHead other ok = handed_case (λ (u : Node). IsSpentNode (node_in sizes past e.life.index) u) (closed_state (state sizes past) e.life.index) e.life.index e.life.index record { mode = refl; who = refl; tag = refl; vertex = refl } (λ l _ _. absurd (cc))
+  spent_here z m StoreFree other ok = subst (StaysSpent (node_in sizes past e.life.index)) (sym (put_same e.life.index _ (state sizes past).node)) record { mode = refl; who = refl; tag = refl; vertex = refl }
+  spent_here z m FreezeHead other ok = handed_case (λ (u : Node). StaysSpent (node_in sizes past e.life.index) u) (closed_state (state sizes past) e.life.index) e.life.index e.life.index record { mode = refl; who = refl; tag = refl; vertex = refl } (λ l _ _. absurd (cc))
   spent_here z m _ other ok = record { mode = refl; who = refl; tag = refl; vertex = refl }
 
   pub spent_still : IsLayout sizes → (caller x : ℕ) → (e.kind ≡ PushFree → e.life.index ≢ x) → IsSpentWith sizes past caller x
       → IsSpentWith sizes (past ++ e ∷ []) caller x × ((node_in sizes (past ++ e ∷ []) x).tag ≡ (node_in sizes past x).tag) × ((node_in sizes (past ++ e ∷ []) x).vertex ≡ (node_in sizes past x).vertex)
   spent_still z caller x other f =
-      let r : IsSpentNode (node_in sizes past x) (node_in sizes (past ++ e ∷ []) x) = dite (ℕ_discrete x e.life.index)
-      (λ same. subst (λ (y : ℕ). IsSpentNode (node_in sizes past y) (node_in sizes (past ++ e ∷ []) y)) (sym same) (subst (IsSpentNode (node_in sizes past e.life.index)) (sym (ap (λ (s : State). s.node e.life.index) (state-snoc sizes past e)))
+      let r : StaysSpent (node_in sizes past x) (node_in sizes (past ++ e ∷ []) x) = dite (ℕ_discrete x e.life.index)
+      (λ same. subst (λ (y : ℕ). StaysSpent (node_in sizes past y) (node_in sizes (past ++ e ∷ []) y)) (sym same) (subst (StaysSpent (node_in sizes past e.life.index)) (sym (ap (λ (s : State). s.node e.life.index) (state-snoc sizes past e)))
       (spent_here z (ap (λ (y : ℕ). (node_in sizes past y).mode) (sym same) ∙ f.spent) e.kind (λ h. other h (sym same)) allowed.as_kind)))
       (λ ne.
       let is = (spent_kept z caller x (used_there sizes past x was_kept (λ h. let t = f.spent in absurd (cc))) ne f).node in

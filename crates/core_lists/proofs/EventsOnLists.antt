@@ -17,7 +17,7 @@ use Rattle.core_lists.specs.Chains.{edge_chain, HasList}
 use Rattle.core_kept.proofs.ByKind.{after_event}
 use Rattle.core_lists.proofs.VertexEffects.{next_state, ListsStay}
 use Rattle.core_lists.proofs.ListHoldsKept.{listing, has_open}
-use Rattle.core_lists.proofs.ListChains.{list_chain, IsOffLists, idle_list, untouched, off_mark, off_close, IsSpot, link_spot, link_inserts, link_others, cut_spot, cut_unlinks, cut_others, mark_sets, since_still}
+use Rattle.core_lists.proofs.ListChains.{list_chain, IsOffLists, idle_list, untouched, off_mark, off_close, IsListSpot, link_spot, link_inserts, link_others, cut_spot, cut_unlinks, cut_others, mark_sets, since_still}
 use Rattle.core_lists.proofs.FrozenPart.{IsEnd, frozen_end, frozen_to}
 
 module _ (sizes : Sizes) (z : IsLayout sizes) (past : List Event) (e : Event) (kept : IsKept sizes past) where
@@ -34,11 +34,11 @@ module _ (sizes : Sizes) (z : IsLayout sizes) (past : List Event) (e : Event) (k
   OtherLists home = (x : ℕ) → HasList sizes past x → x ≢ home → Untouched (edge_chain sizes past x) (edge_chain sizes (past ++ e ∷ []) x)
 
   -- an edge is linked
-  pub link_step : e.kind ≡ LinkEdge → (ok : IsLinkEdge sizes past e) → (s : IsSpot sizes past e e.source.index) → Inserts (edge_chain sizes past e.source.index) (edge_chain sizes (past ++ e ∷ []) e.source.index) s.at e.life.index
+  pub link_step : e.kind ≡ LinkEdge → (ok : IsLinkEdge sizes past e) → (s : IsListSpot sizes past e e.source.index) → Inserts (edge_chain sizes past e.source.index) (edge_chain sizes (past ++ e ∷ []) e.source.index) s.at e.life.index
   link_step is ok s = subst (λ (t : State). Inserts (edge_chain sizes past e.source.index) (list_chain sizes t words e.source.index) s.at e.life.index) (next_state sizes past e LinkEdge is)
       (link_inserts sizes z past e kept ok words (after_event sizes past e) s)
 
-  pub link_spot_of : IsLinkEdge sizes past e → IsSpot sizes past e e.source.index
+  pub link_spot_of : IsLinkEdge sizes past e → IsListSpot sizes past e e.source.index
   link_spot_of ok = link_spot sizes z past e kept ok
 
   pub link_rest : e.kind ≡ LinkEdge → IsLinkEdge sizes past e → OtherLists e.source.index
@@ -46,12 +46,12 @@ module _ (sizes : Sizes) (z : IsLayout sizes) (past : List Event) (e : Event) (k
       (link_others sizes z past e kept ok words (after_event sizes past e) x (has_open sizes past x has) ne)
 
   -- an edge is unlinked
-  pub cut_step : e.kind ≡ UnlinkEdge → (ok : IsUnlinkEdge sizes past e) → (s : IsSpot sizes past e (node_in sizes past e.life.index).source.index)
+  pub cut_step : e.kind ≡ UnlinkEdge → (ok : IsUnlinkEdge sizes past e) → (s : IsListSpot sizes past e (node_in sizes past e.life.index).source.index)
       → Unlinks (edge_chain sizes past (node_in sizes past e.life.index).source.index) (edge_chain sizes (past ++ e ∷ []) (node_in sizes past e.life.index).source.index) s.at e.life.index
   cut_step is ok s = subst (λ (t : State). Unlinks (edge_chain sizes past (node_in sizes past e.life.index).source.index) (list_chain sizes t words (node_in sizes past e.life.index).source.index) s.at e.life.index) (next_state sizes past e UnlinkEdge is)
       (cut_unlinks sizes z past e kept ok words (after_event sizes past e) s)
 
-  pub cut_spot_of : IsUnlinkEdge sizes past e → IsSpot sizes past e (node_in sizes past e.life.index).source.index
+  pub cut_spot_of : IsUnlinkEdge sizes past e → IsListSpot sizes past e (node_in sizes past e.life.index).source.index
   cut_spot_of ok = cut_spot sizes z past e kept ok
 
   pub cut_rest : e.kind ≡ UnlinkEdge → IsUnlinkEdge sizes past e → OtherLists (node_in sizes past e.life.index).source.index

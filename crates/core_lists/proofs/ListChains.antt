@@ -29,7 +29,7 @@ use Rattle.core_kept.specs.Nodes.{node_in, IsUsed, is_listed}
 use Rattle.core_kept.specs.Edges.{IsLinkEdge, IsUnlinkEdge, IsReplaceEdge}
 use Rattle.core_kept.specs.Vertices.{IsLinkVertex}
 use Rattle.core_lists.specs.Chains.{list_word, list_places, edge_chain, EdgeLists}
-use Rattle.core_kept.proofs.ByKind.{IsAfter, Keeps, put_other, put_case, handed_case, marked_state, closed_state, holds_all, writes_at, put_same}
+use Rattle.core_kept.proofs.ByKind.{IsAfter, KeepsByKind, put_other, put_case, handed_case, marked_state, closed_state, holds_all, writes_at, put_same}
 use Rattle.core_kept.proofs.LinkWords.{taken}
 use Rattle.core_kept.proofs.MetFromHead.{AreLinks, stands, meets_inserted, meets_unlinked, meets_marked, meets_untouched, joins_linked, leaves_unlinked, meets_replaced}
 use Rattle.core_kept.proofs.NodesOnLists.{linked_none, unlinked_none, yes_no}
@@ -135,7 +135,7 @@ since_still _ n sizes e s y = refl
 pub record Sinces (s : State) : Type 0 where
   pub each : (x : ℕ) → (s.node x).since ≤ s.count
 
-sinces_step : (sizes : Sizes) → Keeps sizes (λ (s : State) (w : ℕ → ℕ). Sinces s)
+sinces_step : (sizes : Sizes) → KeepsByKind sizes (λ (s : State) (w : ℕ → ℕ). Sinces s)
 sinces_step sizes past e kept c LinkEdge by ok w a = record { each = λ x. put_case (λ (v : Nodes). v.since ≤ (state sizes past).count + 1) e.life.index (record (node_in sizes past e.life.index) { mode = Linked; vertex = false; key = e.key; source = e.source; target = e.target; weight = e.weight; since = (state sizes past).count + 1 }) (state sizes past).node x (λ _. omega arith) (λ _. omega (arith, c.each x)) }
 sinces_step sizes past e kept c ReplaceEdge by ok w a = record {
   each = λ x.
@@ -288,7 +288,7 @@ module _ (sizes : Sizes) (z : IsLayout sizes) (past : List Event) (e : Event) (k
   off_close place ne = record { head = λ h. ne (omega (arith, place, h)); links = λ y _ h. omega (arith, place, h); keys = λ y _ h. omega (arith, place, h) }
 
 -- an event writes a word of a list
-pub record IsSpot (sizes : Sizes) (past : List Event) (e : Event) (x : ℕ) : Type 0 where
+pub record IsListSpot (sizes : Sizes) (past : List Event) (e : Event) (x : ℕ) : Type 0 where
   pub at : Position
   pub place : list_word sizes x at ≡ e.place
   pub on : IsOn (edge_chain sizes past x) at
@@ -308,7 +308,7 @@ module _ (sizes : Sizes) (z : IsLayout sizes) (past : List Event) (e : Event) (k
       let f = ok.linked y h in
       subst (λ (l : Life). stands y ((state sizes past).edges l.index) ≡ true) f.from ((listing sizes z past kept).source y t f.linked.linked f.linked.edge).on
 
-  pub link_spot : IsSpot sizes past e link_home
+  pub link_spot : IsListSpot sizes past e link_home
   link_spot = ⊎_elim
       (λ h. record { at = Head; place = sym h.0; on = tt; behind = λ y p. absurd (cc) })
       (λ h.
@@ -316,7 +316,7 @@ module _ (sizes : Sizes) (z : IsLayout sizes) (past : List Event) (e : Event) (k
       record { at = Node ok.before; place = sym h.0; on = t; behind = λ y p. let q : ok.before ≡ y = cc in subst (λ (v : ℕ). stands v ((state sizes past).edges link_home) ≡ true) q t })
       ok.place
 
-  pub link_can : (s : IsSpot sizes past e link_home) → CanInsert (edge_chain sizes past link_home) s.at e.life.index
+  pub link_can : (s : IsListSpot sizes past e link_home) → CanInsert (edge_chain sizes past link_home) s.at e.life.index
   link_can s =
       let word : word_at sizes past (list_word sizes link_home s.at) ≡ word_at sizes past e.place = ap (word_at sizes past) s.place in
       record {
@@ -343,12 +343,12 @@ module _ (sizes : Sizes) (z : IsLayout sizes) (past : List Event) (e : Event) (k
   link_near : e.place < word_count sizes
   link_near = omega (arith, ok.place)
 
-  link_nodes : (s : IsSpot sizes past e link_home) → Joins (is_listed (state sizes past) link_home) (is_listed link_state link_home) e.life.index
+  link_nodes : (s : IsListSpot sizes past e link_home) → Joins (is_listed (state sizes past) link_home) (is_listed link_state link_home) e.life.index
   link_nodes s = subst (λ (p : ℕ). Joins (is_listed (state sizes past) link_home) (λ y. stands y (linked_in sizes (second_at sizes link_home) p e.life.index ((state sizes past).edges link_home))) e.life.index) s.place
       (joins_linked sizes (list_places sizes link_home) (list_links sizes link_home) s.at e.life.index ((state sizes past).edges link_home) (λ y at. s.behind y at))
 
   module _ (w : ℕ → ℕ) (a : IsAfter sizes past e w) where
-    pub link_inserts : (s : IsSpot sizes past e link_home) → Inserts (edge_chain sizes past link_home) (list_chain sizes link_state w link_home) s.at e.life.index
+    pub link_inserts : (s : IsListSpot sizes past e link_home) → Inserts (edge_chain sizes past link_home) (list_chain sizes link_state w link_home) s.at e.life.index
     link_inserts s =
         Inserts-in (word_at sizes past) w (list_places sizes link_home) (is_listed (state sizes past) link_home) (is_listed link_state link_home) (λ y. (node_in sizes past y).since) (λ y. (link_state.node y).since) (link_still link_home) s.at e.life.index (tag_of (word_at sizes past e.place))
         (alone sizes link_home s.at) (omega (arith, ok.there, z.few_nodes)) (link_can s) (writes_at sizes past e w _ _ a s.place link_near ok.word) (link_nodes s)
@@ -460,7 +460,7 @@ module _ (sizes : Sizes) (z : IsLayout sizes) (past : List Event) (e : Event) (k
       let f = ok.before_linked y h in
       subst (λ (l : Life). stands y ((state sizes past).edges l.index) ≡ true) f.from ((listing sizes z past kept).source y t f.linked.linked f.linked.edge).on
 
-  pub cut_spot : IsSpot sizes past e cut_home
+  pub cut_spot : IsListSpot sizes past e cut_home
   cut_spot = ⊎_elim
       (λ h. record { at = Head; place = sym h.0; on = tt; behind = λ y p. absurd (cc) })
       (λ h.
@@ -468,13 +468,13 @@ module _ (sizes : Sizes) (z : IsLayout sizes) (past : List Event) (e : Event) (k
       record { at = Node ok.before; place = sym h.0; on = t; behind = λ y p. let q : ok.before ≡ y = cc in subst (λ (v : ℕ). stands v ((state sizes past).edges cut_home) ≡ true) q t })
       ok.place
 
-  cut_can : (s : IsSpot sizes past e cut_home) → CanUnlink (edge_chain sizes past cut_home) s.at e.life.index
+  cut_can : (s : IsListSpot sizes past e cut_home) → CanUnlink (edge_chain sizes past cut_home) s.at e.life.index
   cut_can s =
       let word : word_at sizes past (list_word sizes cut_home s.at) ≡ word_at sizes past e.place = ap (word_at sizes past) s.place in
       record { present = s.on; unmarked = ap mark_of word ∙ ok.unmarked; named = λ none. omega (arith, ok.there, z.few_nodes, none); led = ap index_of word ∙ ok.leads; marked = ok.dead }
 
   module _ (w : ℕ → ℕ) (a : IsAfter sizes past e w) where
-    pub cut_unlinks : (s : IsSpot sizes past e cut_home) → Unlinks (edge_chain sizes past cut_home) (list_chain sizes cut_state w cut_home) s.at e.life.index
+    pub cut_unlinks : (s : IsListSpot sizes past e cut_home) → Unlinks (edge_chain sizes past cut_home) (list_chain sizes cut_state w cut_home) s.at e.life.index
     cut_unlinks s =
         Unlinks-in (word_at sizes past) w (list_places sizes cut_home) (is_listed (state sizes past) cut_home) (is_listed cut_state cut_home) (λ y. (node_in sizes past y).since) (λ y. (cut_state.node y).since) (λ y on. since_still UnlinkEdge tt sizes e (state sizes past) y) s.at e.life.index (tag_of (word_at sizes past e.place))
         (alone sizes cut_home s.at) (cut_can s) (writes_at sizes past e w _ _ a s.place (omega (arith, ok.place)) ok.word) (leaves_unlinked e.life.index ((state sizes past).edges cut_home))
@@ -537,7 +537,7 @@ list_after sizes z past e kept FreezeEdge ok w a x o b = mark_list sizes past e 
 list_after sizes z past e kept FreezeHead ok w a x o b = mark_list sizes past e (state_by FreezeHead sizes e (state sizes past)) (λ _. refl) (λ y. since_still FreezeHead tt sizes e (state sizes past) y) e.life.index Head (sym ok.place) (omega (arith, ok.place, ok.there)) ok.word w a x (off_close sizes z past e kept x ok.place) b
 list_after sizes z past e kept k ok w a x o b = list_idle sizes z past e kept x o k tt ok w a b
 
-lists_step : (sizes : Sizes) → IsLayout sizes → Keeps sizes (Lists sizes)
+lists_step : (sizes : Sizes) → IsLayout sizes → KeepsByKind sizes (Lists sizes)
 lists_step sizes z past e kept c LinkVertex by ok w a = record {
   each = λ x o. ⊎_elim
       (λ (old : IsOpenIn sizes (state sizes past) x). list_after sizes z past e kept LinkVertex ok w a x old (c.each x old))

@@ -17,7 +17,7 @@ use Rattle.core_kept.specs.Vertices.{IsLinkVertex, IsMarkVertex, IsUnlinkVertex}
 use Rattle.core_kept.specs.FreeNodes.{IsStoreFree, IsPushFree}
 use Rattle.core_kept.specs.Nodes.{node_in, IsUsed}
 use Rattle.core_lists.specs.Chains.{HasList, Sources}
-use Rattle.core_kept.proofs.ByKind.{Keeps, put_case, put_same, put_other, marked_state, closed_state, holds_all}
+use Rattle.core_kept.proofs.ByKind.{KeepsByKind, put_case, put_same, put_other, marked_state, closed_state, holds_all}
 use Rattle.core_kept.proofs.LinkWords.{link_words, taken, mark_is, mark_isnt}
 use Rattle.core_kept.proofs.Contents.{contents}
 use Rattle.core_kept.proofs.MetFromHead.{stands}
@@ -540,7 +540,7 @@ module _ (sizes : Sizes) (z : IsLayout sizes) (past : List Event) (e : Event) (k
     still = λ o. let t = c.unstored e.life.index o in let u = ok.stored in absurd (cc);
   }
 
-listing_step : (sizes : Sizes) → IsLayout sizes → Keeps sizes (λ (s : State) (w : ℕ → ℕ). ListingOf sizes s)
+listing_step : (sizes : Sizes) → IsLayout sizes → KeepsByKind sizes (λ (s : State) (w : ℕ → ℕ). ListingOf sizes s)
 listing_step sizes z past e kept c PopFree by ok w a = popped_listing sizes (state sizes past).node (state sizes past).edges (state sizes past).frozen c e.life.index _ (taken sizes z past e kept ok).free refl
 listing_step sizes z past e kept c LinkVertex by ok w a = moved sizes (state sizes past).node (state sizes past).edges (state sizes past).frozen c e.life.index _ (link_moves sizes z past e kept c ok)
 listing_step sizes z past e kept c MarkVertex by ok w a = moved sizes (state sizes past).node (state sizes past).edges (state sizes past).frozen c e.life.index _ (mark_moves sizes z past e kept c ok)

@@ -27,7 +27,7 @@ use Rattle.core_kept.specs.Facts.{HasMet}
 use Rattle.core_lists.specs.Raised.{IsLinkedLower}
 use Rattle.core_lists.proofs.MetWordsLead.{met_unstored}
 use Rattle.core_kept.proofs.Induction.{allowed_at, kept_front}
-use Rattle.core_kept.proofs.ByKind.{IsAfter, Keeps, put_case, holds_onward}
+use Rattle.core_kept.proofs.ByKind.{IsAfter, KeepsByKind, put_case, holds_onward}
 use Rattle.core_kept.proofs.LinkWords.{link_words, taken}
 use Rattle.core_kept.proofs.LinkedOnce.{fresh_before}
 use Rattle.core_kept.proofs.PastLives.{IsWithin, same_tag, counters}
@@ -210,7 +210,7 @@ module _ (sizes : Sizes) (z : IsLayout sizes) (x tag word : ℕ) where
       (λ ne. omega (arith, a.else (third_at sizes x) (λ h. ne (omega (arith, ok.place, h)))))
   third_word past e k o ok fresh w a = omega (arith, a.else (third_at sizes x) (λ h. omega (arith, ok.place, ok.there, h)))
 
-  no_less_step : Keeps sizes (IsNoLess sizes x tag word)
+  no_less_step : KeepsByKind sizes (IsNoLess sizes x tag word)
   no_less_step past e kept c PopFree by ok w a =
       let t = taken sizes z past e kept ok in record {
         low = put_case (λ (u : Node). tag ≤ u.tag) e.life.index _ (state sizes past).node x (λ same. let n : (node_in sizes past x).tag ≡ (node_in sizes past e.life.index).tag = ap (λ (y : ℕ). (node_in sizes past y).tag) same in omega (arith, c.low, n, t.tag)) (λ _. c.low);

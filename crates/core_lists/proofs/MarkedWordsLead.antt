@@ -27,7 +27,7 @@ use Rattle.core_lists.proofs.ListHoldsKept.{IsOpenIn, listing, popped_was, open_
 use Rattle.core_kept.proofs.MarkedWords.{marked_link_stays}
 use Rattle.core_kept.proofs.MetFromHead.{stands}
 use Rattle.core_lists.proofs.MetWordsLead.{met_before, met_modes, met_not_stored, walk_link}
-use Rattle.core_kept.proofs.ModeSteps.{Turn, stays, spends, swaps, links, takes, frees, turn}
+use Rattle.core_kept.proofs.ModeSteps.{ModeStep, stays, spends, swaps, links, takes, frees, turn}
 use Rattle.core_kept.proofs.SameLife.{life_stays, tags_rise, tag_kept}
 
 -- what stood on a list before an event, of a node that wasn't fresh
@@ -127,7 +127,7 @@ module _ (sizes : Sizes) (z : IsLayout sizes) (front : List Event) (x : ℕ) (th
             inl (l.0, open_has sizes past l.0 (open_by e.kind sizes z past e kept ok.as_kind l.0 x on (subst (λ (s : State). IsOpenIn sizes s l.0) (state-snoc sizes past e) (has_open sizes after l.0 l.1))), on))
             (λ (h : (caller : ℕ) × HasMet sizes after caller x). inr (h.0, (met_before sizes z past e kept ok h.0 x h.1 m).met)) r
 
-        by : Turn sizes past e (word_at sizes after) x (node_in sizes after x) → IsInReach sizes past x
+        by : ModeStep sizes past e (word_at sizes after) x (node_in sizes after x) → IsInReach sizes past x
         by (stays m _ _ _) = ⊎_elim (λ (l : (node_in sizes after x).mode ≡ Linked). was_linked (sym m ∙ l)) (λ (s : (node_in sizes after x).mode ≡ Spent). was_spent s) (reach_modes sizes z after kept_after x r)
         by (spends m _ _ _) = was_linked m
         by (swaps _ _ _ m _ _ _) = was_linked m

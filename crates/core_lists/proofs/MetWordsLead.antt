@@ -17,7 +17,7 @@ use Rattle.core_lists.proofs.LinkedWordsLead.{IsLinkedBehind, IsLinkedIn, IsLink
 use Rattle.core_kept.proofs.LinkWords.{link_words, used_link}
 use Rattle.core_kept.proofs.MarkedWords.{marked_link_stays, marked_head_stays}
 use Rattle.core_kept.proofs.MetWords.{met_used, ripe_not_met, still_met, key_stays}
-use Rattle.core_kept.proofs.ModeSteps.{Turn, stays, spends, swaps, links, takes, frees, IsGoingOn, IsBeginning, turn, closing, stored_was, pass_was}
+use Rattle.core_kept.proofs.ModeSteps.{ModeStep, stays, spends, swaps, links, takes, frees, IsGoingOn, IsBeginning, turn, closing, stored_was, pass_was}
 use Rattle.core_kept.proofs.Contents.{contents}
 use Rattle.core_kept.proofs.ReplaceCases.{leads_new, marks_old, new_after}
 use Rattle.core_kept.proofs.Ripe.{ended}
@@ -52,7 +52,7 @@ met_before sizes z past e kept ok i x m spent = ⊎_elim
     (λ (b : IsBeginning sizes past (state sizes (past ++ e ∷ [])) i). absurd (omega (arith, b.since, ap (λ (v : Node). v.ended) (b.nodes x), m.spent spent, (ended sizes past kept).ended x)))
     (pass_was sizes z past e kept ok i m.pass)
   where
-    by : IsGoingOn sizes past (state sizes (past ++ e ∷ [])) i → Turn sizes past e (word_at sizes (past ++ e ∷ [])) x (node_in sizes (past ++ e ∷ []) x) → HasMet sizes past i x
+    by : IsGoingOn sizes past (state sizes (past ++ e ∷ [])) i → ModeStep sizes past e (word_at sizes (past ++ e ∷ [])) x (node_in sizes (past ++ e ∷ []) x) → HasMet sizes past i x
     by g (stays h q _ _) =
         let was : (node_in sizes past x).mode ≡ Spent = sym h ∙ spent in
         record { pass = g.open_before; free = λ f. absurd (cc); fresh = λ f. absurd (cc); spent = λ _. omega (arith, m.spent spent, q, g.since) }
@@ -63,10 +63,10 @@ met_before sizes z past e kept ok i x m spent = ⊎_elim
     by g (frees _ h) = absurd (cc)
 
 -- no node that an open pass has met is stored for the free list
-abbrev IsUnstored : Sizes → List Event → Type 0
-IsUnstored sizes journal = (i x : ℕ) → x < sizes.nodes → HasMet sizes journal i x → (node_in sizes journal x).mode ≡ Spent → (node_in sizes journal x).stored ≡ false
+abbrev NoneMetIsStored : Sizes → List Event → Type 0
+NoneMetIsStored sizes journal = (i x : ℕ) → x < sizes.nodes → HasMet sizes journal i x → (node_in sizes journal x).mode ≡ Spent → (node_in sizes journal x).stored ≡ false
 
-unstored_step : (sizes : Sizes) → IsLayout sizes → (past : List Event) (e : Event) → IsKept sizes past → IsUnstored sizes past → Allowed sizes past e → IsUnstored sizes (past ++ e ∷ [])
+unstored_step : (sizes : Sizes) → IsLayout sizes → (past : List Event) (e : Event) → IsKept sizes past → NoneMetIsStored sizes past → Allowed sizes past e → NoneMetIsStored sizes (past ++ e ∷ [])
 unstored_step sizes z past e kept c ok i x within m spent = yes_no ((node_in sizes (past ++ e ∷ []) x).stored ≡ false) (node_in sizes (past ++ e ∷ []) x).stored
     (λ h.
     let b = met_before sizes z past e kept ok i x m spent in
@@ -76,7 +76,7 @@ unstored_step sizes z past e kept c ok i x within m spent = yes_no ((node_in siz
     (stored_was sizes z past e kept ok x h))
     (λ h. h)
   where
-    by : IsMetBefore sizes past (past ++ e ∷ []) i x → (node_in sizes past x).stored ≡ true → Turn sizes past e (word_at sizes (past ++ e ∷ [])) x (node_in sizes (past ++ e ∷ []) x) → ⊥
+    by : IsMetBefore sizes past (past ++ e ∷ []) i x → (node_in sizes past x).stored ≡ true → ModeStep sizes past e (word_at sizes (past ++ e ∷ [])) x (node_in sizes (past ++ e ∷ []) x) → ⊥
     by b old (stays h _ _ _) = let f = c i x within b.met (sym h ∙ spent) in absurd (cc)
     by b old (spends h _ _ _) = let f = ((link_words sizes z past kept).each x within).unstored h in absurd (cc)
     by b old (swaps _ _ _ h _ _ _) = let f = ((link_words sizes z past kept).each x within).unstored h in absurd (cc)
@@ -89,7 +89,7 @@ unspent : (sizes : Sizes) {P : Type 0} (x : ℕ) → (node_in sizes [] x).mode �
 unspent sizes x m = let free : (node_in sizes [] x).mode ≡ Free = ap (λ (s : State). (s.node x).mode) (state-nil sizes) in absurd (cc)
 
 pub met_unstored : (sizes : Sizes) → IsLayout sizes → (journal : List Event) → IsKept sizes journal → (i x : ℕ) → x < sizes.nodes → HasMet sizes journal i x → (node_in sizes journal x).mode ≡ Spent → (node_in sizes journal x).stored ≡ false
-met_unstored sizes z journal kept = kept_all sizes (IsUnstored sizes) (unstored_step sizes z) (λ i x _ _ m. unspent sizes x m) journal kept
+met_unstored sizes z journal kept = kept_all sizes (NoneMetIsStored sizes) (unstored_step sizes z) (λ i x _ _ m. unspent sizes x m) journal kept
 
 -- what is met is linked or spent
 pub met_modes : (sizes : Sizes) (journal : List Event) (i x : ℕ) → HasMet sizes journal i x → ((node_in sizes journal x).mode ≡ Linked) ⊎ ((node_in sizes journal x).mode ≡ Spent)
@@ -159,7 +159,7 @@ module _ (sizes : Sizes) (z : IsLayout sizes) (past : List Event) (e : Event) (k
   met_link : (i x : ℕ) → x < sizes.nodes → HasMet sizes after i x → (node_in sizes after x).mode ≡ Spent → LeadsTo (word_at sizes after (link_at sizes x)) (IsMetBehind sizes after i x)
   met_link i x within m spent = by (met_before sizes z past e kept ok i x m spent) (turn sizes z past e kept ok x)
     where
-      by : IsMetBefore sizes past after i x → Turn sizes past e (word_at sizes after) x (node_in sizes after x) → LeadsTo (word_at sizes after (link_at sizes x)) (IsMetBehind sizes after i x)
+      by : IsMetBefore sizes past after i x → ModeStep sizes past e (word_at sizes after) x (node_in sizes after x) → LeadsTo (word_at sizes after (link_at sizes x)) (IsMetBehind sizes after i x)
       by b (stays h _ t _) =
           let was : (node_in sizes past x).mode ≡ Spent = sym h ∙ spent in
           let same = marked_link_stays sizes z x past after (prefix_snoc past e) kept_after (λ f. absurd (cc)) (((link_words sizes z past kept).each x within).spent was).marked t (met_unstored sizes z after kept_after i x within m spent) in
@@ -195,7 +195,7 @@ module _ (sizes : Sizes) (z : IsLayout sizes) (past : List Event) (e : Event) (k
       (λ h. by h (met_before sizes z past e kept ok i x m spent) (turn sizes z past e kept ok x))
       (λ open_. leads_same (word_at sizes after (second_at sizes x)) (word_at sizes after (second_at sizes x)) (IsLinkedIn sizes after x) (IsMetIn sizes after i x) refl (met_inside sizes after i m.pass x) (head_leads sizes z after kept_after x within (subst IsUsed (sym spent) tt) vertex open_))
     where
-      by : (state sizes after).frozen x ≡ true → IsMetBefore sizes past after i x → Turn sizes past e (word_at sizes after) x (node_in sizes after x) → LeadsTo (word_at sizes after (second_at sizes x)) (IsMetIn sizes after i x)
+      by : (state sizes after).frozen x ≡ true → IsMetBefore sizes past after i x → ModeStep sizes past e (word_at sizes after) x (node_in sizes after x) → LeadsTo (word_at sizes after (second_at sizes x)) (IsMetIn sizes after i x)
       by h b (stays k _ t v) =
           let was : (node_in sizes past x).mode ≡ Spent = sym k ∙ spent in
           let kind : (node_in sizes past x).vertex ≡ true = sym v ∙ vertex in

@@ -13,7 +13,7 @@ use Rattle.core_kept.specs.Nodes.{node_in, IsFreshWith, IsSpentWith}
 use Rattle.core_kept.proofs.Callers.{called, made_quiet, made_none}
 use Rattle.core_kept.proofs.Induction.{past_kept}
 use Rattle.core_lists.proofs.EventKeepsRest.{allowed_as, after_as}
-use Rattle.core_kept.proofs.ByKind.{Keeps, put_case, handed_case, marked_state, closed_state, holds_all}
+use Rattle.core_kept.proofs.ByKind.{KeepsByKind, put_case, handed_case, marked_state, closed_state, holds_all}
 
 -- a number is that of the first caller, or was drawn
 abbrev IsOld : ℕ → ℕ → Type 0
@@ -69,7 +69,7 @@ drawn_as : (k : Kind) → draws k ≡ false → (sizes : Sizes) (e : Event) (s :
 drawn_as DrawNumber d sizes e s = absurd (cc)
 drawn_as _ d sizes e s = refl
 
-drawn_step : (sizes : Sizes) → Keeps sizes (λ (s : State) (w : ℕ → ℕ). AreDrawn s)
+drawn_step : (sizes : Sizes) → KeepsByKind sizes (λ (s : State) (w : ℕ → ℕ). AreDrawn s)
 drawn_step sizes past e kept c DrawNumber by ok w a = record {
   some = λ x m. omega arith;
   who = λ x. older (state sizes past).drawn ((state sizes past).drawn + 1) (node_in sizes past x).who (omega arith) (c.who x);

@@ -81,7 +81,7 @@ module _ (sizes : Sizes) (z : IsLayout sizes) (past : List Event) (e : Event) (k
     here = put_same e.life.index _ (state sizes past).node;
     else = λ x ne. put_other e.life.index _ (state sizes past).node x ne;
     free = refl;
-    off = λ x. failed (is_listed (state_by UnlinkEdge sizes e (state sizes past)) x e.life.index) (λ on. (leaves_unlinked e.life.index ((state sizes past).edges x)).leaves on);
+    off = λ x. failed (is_listed (state_by UnlinkEdge sizes e (state sizes past)) x e.life.index) (λ on. (leaves_unlinked e.life.index ((state sizes past).edges x)).departs on);
     lists = λ x y ne. (leaves_unlinked e.life.index ((state sizes past).edges x)).others y ne;
     frozen = λ x. refl;
   }

@@ -6,7 +6,7 @@ use Rattle.core_journal.specs.declared.event.Event.{Event}
 use Rattle.core_journal.specs.State.{Fresh, Linked, Spent, Node, State, put, handed, joined_edge, state_by, state}
 use Rattle.core_kept.specs.Kept.{IsKept}
 use Rattle.core_kept.specs.Nodes.{node_in, IsUsed, is_frozen}
-use Rattle.core_kept.proofs.ByKind.{Keeps, put_case, put_other, handed_case, marked_state, closed_state, holds_all}
+use Rattle.core_kept.proofs.ByKind.{KeepsByKind, put_case, put_other, handed_case, marked_state, closed_state, holds_all}
 use Rattle.core_kept.proofs.LinkWords.{taken}
 use Rattle.core_kept.proofs.Contents.{contents}
 use Rattle.core_kept.proofs.MetFromHead.{stands}
@@ -96,7 +96,7 @@ module _ (sizes : Sizes) (z : IsLayout sizes) (past : List Event) (kept : IsKept
   open_yet : (i : ℕ) → i < sizes.nodes → (node_in sizes past i).mode ≡ Fresh → (state sizes past).frozen i ≡ true → ⊥
   open_yet i t f h = let g = ((contents sizes z past kept).each i t).fresh f in absurd (cc)
 
-spenders_step : (sizes : Sizes) → IsLayout sizes → Keeps sizes (λ (s : State) (w : ℕ → ℕ). Spenders s.node s.edges s.frozen)
+spenders_step : (sizes : Sizes) → IsLayout sizes → KeepsByKind sizes (λ (s : State) (w : ℕ → ℕ). Spenders s.node s.edges s.frozen)
 spenders_step sizes z past e kept c PopFree by ok w a =
     let s : State = state sizes past in
     let s' : State = state_by PopFree sizes e s in

@@ -19,7 +19,7 @@ use Rattle.core_lists.specs.Raised.{IsLinkedLower}
 use Rattle.core_lists.proofs.LowerCounters.{met_lower}
 use Rattle.core_kept.proofs.Induction.{allowed_at}
 use Rattle.core_kept.proofs.MetWords.{met_used, still_met}
-use Rattle.core_kept.proofs.ByKind.{Keeps, put_case, holds_onward}
+use Rattle.core_kept.proofs.ByKind.{KeepsByKind, put_case, holds_onward}
 
 -- a pass began when this one did, or at this number of events or later
 abbrev IsSince : ℕ → ℕ → Pass → Type 0
@@ -51,7 +51,7 @@ raised_in_pass sizes z journal kept caller x link is open_ r =
     let v : IsVertex sizes past link.source = subst (IsVertex sizes past) r.vertex ok.vertex in
     let s0 : ℕ = (pass_in sizes past caller).since in
     let P : State → (ℕ → ℕ) → Type 0 = λ s w. (r.number ≤ s.count) × IsSince r.number s0 (s.pass caller) in
-    let step : Keeps sizes P = λ past e kept h k by ok w a. (omega (arith, h.0, counted_by k sizes e (state sizes past)), since_by k sizes e (state sizes past) caller r.number s0 h.0 h.1) in
+    let step : KeepsByKind sizes P = λ past e kept h k by ok w a. (omega (arith, h.0, counted_by k sizes e (state sizes past)), since_by k sizes e (state sizes past) caller r.number s0 h.0 h.1) in
     let now = holds_onward sizes P step past journal front kept (omega (arith, long_enough journal r.number r.raise r.at, count-length sizes past), inl refl) in
     let same : (pass_in sizes journal caller).since ≡ s0 = ⊎_elim (λ e. e) (λ late. absurd (omega (arith, late, r.since))) now.1 in
     let pass : IsSamePass sizes past journal caller = record { before = front; open_still = open_; since = same } in

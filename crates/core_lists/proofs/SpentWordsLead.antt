@@ -15,7 +15,7 @@ use Rattle.core_kept.proofs.Induction.{kept_all, kept_snoc}
 use Rattle.core_lists.proofs.LinkedWordsLead.{IsLinkedBehind, IsLinkedIn, leads_same, vertex_leads, edge_leads, head_leads}
 use Rattle.core_kept.proofs.LinkWords.{link_words}
 use Rattle.core_kept.proofs.MarkedWords.{marked_link_stays, marked_head_stays}
-use Rattle.core_kept.proofs.ModeSteps.{Turn, stays, spends, swaps, links, takes, frees, turn, closing, unstored_was, ends_on}
+use Rattle.core_kept.proofs.ModeSteps.{ModeStep, stays, spends, swaps, links, takes, frees, turn, closing, unstored_was, ends_on}
 use Rattle.core_kept.proofs.NodesInPlace.{used_there}
 use Rattle.core_kept.proofs.ReplaceCases.{leads_new, new_after}
 use Rattle.core_kept.proofs.Ripe.{ended}
@@ -32,7 +32,7 @@ unclosed_step sizes z past e kept c ok x linked = yes_no ((state sizes (past ++ 
     not_spent : (state sizes past).frozen x ≡ false → (state sizes (past ++ e ∷ [])).frozen x ≡ true → (node_in sizes past x).mode ≢ Spent → ⊥
     not_spent open_ h ne = ne (closing sizes z past e kept ok x open_ h).spent
 
-    by : (state sizes (past ++ e ∷ [])).frozen x ≡ true → Turn sizes past e (word_at sizes (past ++ e ∷ [])) x (node_in sizes (past ++ e ∷ []) x) → ⊥
+    by : (state sizes (past ++ e ∷ [])).frozen x ≡ true → ModeStep sizes past e (word_at sizes (past ++ e ∷ [])) x (node_in sizes (past ++ e ∷ []) x) → ⊥
     by h (stays m _ _ _) = let was : (node_in sizes past x).mode ≡ Linked = sym m ∙ linked in not_spent (c x was) h (λ s. absurd (cc))
     by h (spends _ m _ _) = absurd (cc)
     by h (swaps _ _ _ _ m _ _) = absurd (cc)
@@ -72,7 +72,7 @@ module _ (sizes : Sizes) (z : IsLayout sizes) (past : List Event) (e : Event) (k
   linked_later : (x y : ℕ) → y < sizes.nodes → (node_in sizes past y).mode ≡ Linked → IsNoEarlier sizes after x y
   linked_later x y there was = record { there = there; later = by (turn sizes z past e kept ok y) }
     where
-      by : Turn sizes past e (word_at sizes after) y (node_in sizes after y) → ((node_in sizes after y).mode ≡ Linked) ⊎ ((node_in sizes after x).ended ≤ (node_in sizes after y).ended)
+      by : ModeStep sizes past e (word_at sizes after) y (node_in sizes after y) → ((node_in sizes after y).mode ≡ Linked) ⊎ ((node_in sizes after x).ended ≤ (node_in sizes after y).ended)
       by (stays m _ _ _) = inl (m ∙ was)
       by (spends _ _ q _) = inr (omega (arith, q, ends_last x))
       by (swaps _ _ _ _ _ q _) = inr (omega (arith, q, ends_last x))
@@ -89,7 +89,7 @@ module _ (sizes : Sizes) (z : IsLayout sizes) (past : List Event) (e : Event) (k
   spent_link : SpentLinks sizes past → (x : ℕ) → x < sizes.nodes → (node_in sizes after x).mode ≡ Spent → (node_in sizes after x).stored ≡ false → LeadsTo (word_at sizes after (link_at sizes x)) (IsNoEarlier sizes after x)
   spent_link c x within spent unstored = by (turn sizes z past e kept ok x)
     where
-      by : Turn sizes past e (word_at sizes after) x (node_in sizes after x) → LeadsTo (word_at sizes after (link_at sizes x)) (IsNoEarlier sizes after x)
+      by : ModeStep sizes past e (word_at sizes after) x (node_in sizes after x) → LeadsTo (word_at sizes after (link_at sizes x)) (IsNoEarlier sizes after x)
       by (stays m q t _) =
           let was : (node_in sizes past x).mode ≡ Spent = sym m ∙ spent in
           let same = marked_link_stays sizes z x past after (prefix_snoc past e) kept_after (λ f. absurd (cc)) (((link_words sizes z past kept).each x within).spent was).marked t unstored in
@@ -112,7 +112,7 @@ module _ (sizes : Sizes) (z : IsLayout sizes) (past : List Event) (e : Event) (k
       (λ h. by h (turn sizes z past e kept ok x))
       (λ open_. leads_same (word_at sizes after (second_at sizes x)) (word_at sizes after (second_at sizes x)) (IsLinkedIn sizes after x) (IsNoEarlier sizes after x) refl (λ y d. record { there = d.there; later = inl d.linked }) (head_leads sizes z after kept_after x within (subst IsUsed (sym spent) tt) vertex open_))
     where
-      by : (state sizes after).frozen x ≡ true → Turn sizes past e (word_at sizes after) x (node_in sizes after x) → LeadsTo (word_at sizes after (second_at sizes x)) (IsNoEarlier sizes after x)
+      by : (state sizes after).frozen x ≡ true → ModeStep sizes past e (word_at sizes after) x (node_in sizes after x) → LeadsTo (word_at sizes after (second_at sizes x)) (IsNoEarlier sizes after x)
       by h (stays m q t v) =
           let was : (node_in sizes past x).mode ≡ Spent = sym m ∙ spent in
           let kind : (node_in sizes past x).vertex ≡ true = sym v ∙ vertex in

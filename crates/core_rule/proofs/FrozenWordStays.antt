@@ -31,7 +31,7 @@ use Rattle.core_kept.proofs.ByKind.{put_same, handed_case, closed_state}
 
 module _ (sizes : Sizes) (z : IsLayout sizes) (journal : List Event) (kept : IsKept sizes journal) (x : ℕ) (k : KeepsList sizes journal x) where
   -- an edge of the frozen part
-  record IsPart (y : ℕ) : Type 0 where
+  record IsOfPart (y : ℕ) : Type 0 where
     pub there : y < sizes.nodes
     pub edge : (node_in sizes journal y).vertex ≡ false
     pub on : is_listed (state sizes journal) x y ≡ true
@@ -39,7 +39,7 @@ module _ (sizes : Sizes) (z : IsLayout sizes) (journal : List Event) (kept : IsK
     pub mine : (node_in sizes journal y).who ≡ (node_in sizes journal x).who
     pub unstored : (node_in sizes journal y).stored ≡ false
 
-  part_is : (y : ℕ) → is_frozen (state sizes journal) x y ≡ true → IsPart y
+  part_is : (y : ℕ) → is_frozen (state sizes journal) x y ≡ true → IsOfPart y
   part_is y h =
       let s : State = state sizes journal in
       let on : is_listed s x y ≡ true = part_listed s.node s.edges s.frozen x y h in

@@ -11,7 +11,7 @@ use Rattle.graph_kinds.specs.Graph.{Graph, has, weight_of, key_count}
 use Rattle.graph_kinds.specs.Levels.{levels_from, levels_of, level_ends, level_after, reach_path}
 use Rattle.graph_kinds.specs.Path.{least_cost, cheapest_path}
 use Rattle.graph_kinds.specs.Answer.{answer, plain, by_weight, on_keys, by_path, by_levels, by_cost, there_with}
-use Rattle.op_text.specs.Text.{AreEnds, IsShown}
+use Rattle.op_text.specs.Text.{AreEnds, IsWritable}
 
 -- no level is empty
 abbrev Filled : List (List ℕ) → Type 0
@@ -58,7 +58,7 @@ levels_shown ls f = record {
 }
 
 abbrev Shown : Answer → Type 0
-Shown a = IsShown a.outcome a.keys a.ends
+Shown a = IsWritable a.outcome a.keys a.ends
 
 on_both : (g : Graph) (a b : ℕ) (r : Answer) → Shown r → Shown (on_keys g a b r)
 on_both g a b r s = elim (has g a && has g b) as (λ t. Shown (cond t r (plain out.NoVertex))) [ true ↦ s | false ↦ tt ]
