@@ -1,11 +1,13 @@
--- A node that is put behind a word, between its neighbours, keeps the chain: it is inserted, or replaces the node of its
+-- A node that is put behind a word, between its neighbours, keeps the chain: it is inserted, or replaces the node of
+-- its
 -- key.
 use Rattle.std.proofs.Common.{◌≡◌, ◌≢◌, ℕ, ◌<◌, sym, ap, ◌∙◌, subst, arith, IsTrue, inl, inr}
 use Rattle.packed_link.specs.Link.{nowhere}
 use Rattle.core_chain.specs.Chain.{Chain, Position, Head, Node, IsOn, IsChain, Precedes, rank_of, since_of}
 use Rattle.core_chain.specs.Steps.{ChangesOnly, Inserts, Replaces, Joins, IsFrozenTo, Keeps}
 use Rattle.core_chain.proofs.Orders.{if_same, if_equal, by_order, LeadsOnChain, NotPast, RisesBehind, IsChain-by}
-use Rattle.core_chain.proofs.Orders.{rank_of-changed, since_of-changed, before_still, before_same, before_both, before_then}
+use Rattle.core_chain.proofs.Orders.{rank_of-changed, since_of-changed, before_still, before_same, before_both}
+use Rattle.core_chain.proofs.Orders.{before_then}
 use Rattle.core_chain.proofs.Orders.{IsBelow-rank}
 
 -- a node is put behind an unmarked word: it stands behind the word, and its key is less than that of the successor
@@ -151,7 +153,8 @@ module _ (c d : Chain) (p : Position) (n : ℕ) (chain : IsChain c) (step : Puts
   alone q r on_q on_r same same' =
       if_same q (Node n) (λ at.
       if_same r (Node n) (λ e. at ∙ sym e)
-      (λ ne. absurd (lone r (back r on_r ne) (sym same ∙ ap (rank_of d) at) (sym same' ∙ ap (since_of d) at)))) (λ not_n.
+      (λ ne. absurd (lone r (back r on_r ne) (sym same ∙ ap (rank_of d) at) (sym same' ∙ ap (since_of d) at))))
+      (λ not_n.
       if_same r (Node n)
       (λ e. absurd (lone q (back q on_q not_n) (same ∙ ap (rank_of d) e) (same' ∙ ap (since_of d) e)))
       (λ ne.

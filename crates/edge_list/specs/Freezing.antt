@@ -36,7 +36,8 @@ pub record IsClosed (x : Life) (v w : View) (f : FrozenValue) : Type 0 where
   pub makes : Makes v (marking (freeze_head_event v x) found) w
   pub freezing : IsFreezing w f
 
--- the next edge was frozen, by an event where the link that was found had no mark, and is spent with the token: the last
+-- the next edge was frozen, by an event where the link that was found had no mark, and is spent with the token: the
+-- last
 -- frozen word leads to it, and its link is the next one. It's an edge of the list
 pub record IsHandedTo (old : FrozenValue) (v w : View) (x : Life) (new : FrozenValue) : Type 0 where
   pub from : new.from ≡ old.from
