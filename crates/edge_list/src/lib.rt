@@ -9,4 +9,4 @@ mod freezing;
 mod laws;
 
 pub use freezing::{Frozen, freeze_head, freeze_next};
-pub use laws::frozen_words_stay_over_stretches;
+pub use laws::{edges_are_handed_over_once, frozen_words_stay_over_stretches};
