@@ -1,0 +1,3 @@
+pub mod FreeWordSeen
+pub mod NodeIsFilled
+pub mod NodeIsTaken
