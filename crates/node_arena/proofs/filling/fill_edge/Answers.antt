@@ -1,12 +1,10 @@
-use Rattle.std.proofs.Common.{rules, ◌≡◌, ℕ, ◌<◌, ◌^◌, List, [], ◌∷◌, refl, ap, ap₂, sym, ◌∙◌, subst, arith}
-use Rattle.packed_link.specs.Link.{index_of, nowhere, pack}
+use Rattle.std.proofs.Common.{rules, ◌≡◌, ℕ, ◌<◌, ◌^◌, [], ◌∷◌, ap, ap₂, ◌∙◌, subst, arith}
+use Rattle.packed_link.specs.Link.{index_of, pack}
 use Rattle.packed_link.specs.declared.link.Life.{Life}
-use Rattle.core_journal.specs.declared.event.Event.{Event}
 use Rattle.core_rule.specs.OwnEvents.{store_event}
 use Rattle.core_rule.specs.declared.view.View.{View}
 use Rattle.core_rule.proofs.CallLimits.{life_tag_low}
 use Rattle.core_stretches.specs.Makes.{Makes}
-use Rattle.core_stretches.specs.Holdings.{IsFilledAsEdge}
 use Rattle.node_arena.proofs.NodeIsFilled.{stores_begin, store_more, may_store, written, filled_as_edge}
 use Rattle.node_arena.proofs.filling.fill_edge.Goals as goal
 

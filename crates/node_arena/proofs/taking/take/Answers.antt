@@ -1,9 +1,8 @@
-use Rattle.std.proofs.Common.{◌≡◌, ◌≢◌, ℕ, ◌<◌, ap, ap₂, sym, ◌∙◌, subst, arith}
-use Rattle.packed_link.specs.Link.{index_of, nowhere}
+use Rattle.std.proofs.Common.{◌≡◌, ℕ, ◌<◌, ap, ap₂, sym, ◌∙◌, subst, arith}
+use Rattle.packed_link.specs.Link.{index_of}
 use Rattle.packed_link.specs.Layout.{Sizes, free_at, link_at}
 use Rattle.core_rule.specs.OwnEvents.{pop_event}
 use Rattle.core_rule.specs.Plays.{Won}
-use Rattle.core_rule.specs.declared.view.View.{View}
 use Rattle.node_arena.proofs.FreeWordSeen.{has_seen, leads_to_node}
 use Rattle.node_arena.proofs.NodeIsTaken.{found_empty, may_pop, taken, take_lost}
 use Rattle.node_arena.proofs.taking.take.Goals as goal
