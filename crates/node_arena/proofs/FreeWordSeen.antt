@@ -1,12 +1,11 @@
 -- A call loaded the word of the free list: where it leads, and who changed it since.
-use Rattle.std.proofs.Common.{◌≡◌, ◌≢◌, ◌⊎◌, ℕ, ◌<◌, true, List, [], ◌∷◌, sym, ap, ap₂, ◌∙◌, subst, ⊎_elim, inl, inr}
+use Rattle.std.proofs.Common.{◌≡◌, ◌≢◌, ◌⊎◌, ℕ, ◌<◌, true, List, [], sym, ap, ◌∙◌, subst, ⊎_elim, inl, inr}
 use Rattle.graph_kinds.specs.History.{Every}
 use Rattle.packed_link.specs.Link.{index_of, nowhere}
 use Rattle.packed_link.specs.Layout.{Sizes, IsLayout, free_at}
 use Rattle.core_journal.specs.declared.event.Event.{Event}
 use Rattle.core_journal.specs.Machine.{word_at}
 use Rattle.core_journal.specs.Prefix.{IsPrefix}
-use Rattle.core_journal.proofs.Lists.{prefix_refl}
 use Rattle.core_kept.specs.Kept.{IsKept}
 use Rattle.core_kept.proofs.FreeList.{first_leads}
 use Rattle.core_lists.specs.Changed.{HasNoneAt, IsChangedByAnother}

@@ -1,7 +1,7 @@
 -- A fresh node's four words are stored one after another.
-use Rattle.std.proofs.Common.{◌≡◌, ◌≢◌, ℕ, ◌+◌, ◌<◌, ◌≤◌, ◌^◌, true, List, [], ◌∷◌, ◌++◌, Some, refl, sym, ap, ap₂, ◌∙◌, subst, arith}
+use Rattle.std.proofs.Common.{◌≡◌, ℕ, ◌+◌, ◌<◌, ◌≤◌, ◌^◌, true, List, [], ◌∷◌, ◌++◌, refl, sym, ap, ap₂, ◌∙◌, subst, arith}
 use Rattle.packed_link.specs.Link.{pack, nowhere, tag_of, mark_of}
-use Rattle.packed_link.specs.Layout.{Sizes, IsLayout, key_at, link_at}
+use Rattle.packed_link.specs.Layout.{Sizes, key_at, link_at}
 use Rattle.packed_link.specs.declared.link.Life.{Life}
 use Rattle.core_journal.specs.declared.event.Event.{Event}
 use Rattle.core_journal.specs.Machine.{word_at}
@@ -11,7 +11,7 @@ use Rattle.core_kept.specs.Nodes.{node_in}
 use Rattle.core_kept.specs.Vertices.{IsFilledVertex}
 use Rattle.core_rule.specs.Fronts.{MayStorePrivate}
 use Rattle.core_rule.specs.OwnEvents.{store_event}
-use Rattle.core_rule.specs.Plays.{IsSound, Stored}
+use Rattle.core_rule.specs.Plays.{Stored}
 use Rattle.core_rule.specs.Stretches.{IsHeldBut}
 use Rattle.core_rule.specs.declared.view.View.{View}
 use Rattle.core_rule.proofs.OwnByKind.{own_stored}
@@ -21,7 +21,6 @@ use Rattle.core_stretches.specs.Makes.{Makes}
 use Rattle.core_stretches.proofs.MakesAddUp.{makes_chain, makes_self, makes_stored}
 use Rattle.core_stretches.proofs.MakesTell.{makes_later}
 use Rattle.graph_table.specs.Tokens.{TableValue, TokenValue, IsOf}
-use Rattle.node_arena.specs.Filling.{edge_stores, vertex_stores}
 
 -- since a view the token made these stores to a node that is fresh with it
 pub record HasStored (g : TableValue) (v : View) (x : Life) (own : List Event) (t : TokenValue) : Type 0 where

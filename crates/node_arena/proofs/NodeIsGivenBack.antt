@@ -1,5 +1,5 @@
 -- What giving a node back owes, and what it came to.
-use Rattle.std.proofs.Common.{◌≡◌, ◌≢◌, ◌⊎◌, ℕ, ◌<◌, true, List, [], ◌∷◌, ◌++◌, Some, refl, sym, ap, ap₂, ◌∙◌, subst, arith}
+use Rattle.std.proofs.Common.{◌≡◌, ◌≢◌, ◌⊎◌, ℕ, ◌<◌, true, List, [], ◌∷◌, ◌++◌, refl, sym, ap, ap₂, ◌∙◌, subst, arith}
 use Rattle.packed_link.specs.Link.{index_of, nowhere, pack}
 use Rattle.packed_link.specs.Layout.{Sizes, IsLayout, free_at, link_at}
 use Rattle.packed_link.specs.declared.link.Life.{Life}
@@ -7,7 +7,7 @@ use Rattle.packed_link.proofs.Links.{index_of-pack}
 use Rattle.core_journal.specs.declared.event.Kind.TheVariants.{PushFree}
 use Rattle.core_journal.specs.declared.event.Event.{Event}
 use Rattle.core_journal.specs.Machine.{word_at}
-use Rattle.core_journal.specs.State.{Free, Mode, Node, State, state}
+use Rattle.core_journal.specs.State.{Free, Node, State, state}
 use Rattle.core_journal.proofs.Lists.{prefix_trans}
 use Rattle.core_kept.specs.Kept.{IsKept}
 use Rattle.core_kept.specs.Nodes.{node_in}

@@ -1,5 +1,5 @@
 -- What taking a node owes, and what it came to.
-use Rattle.std.proofs.Common.{◌≡◌, ◌≢◌, ℕ, ◌<◌, true, List, [], ◌∷◌, ◌++◌, Some, refl, sym, ap, ap₂, ◌∙◌, subst, arith}
+use Rattle.std.proofs.Common.{◌≡◌, ℕ, ◌<◌, true, List, [], ◌∷◌, ◌++◌, refl, sym, ap, ap₂, ◌∙◌, subst, arith}
 use Rattle.packed_link.specs.Link.{index_of, nowhere}
 use Rattle.packed_link.specs.Layout.{Sizes, IsLayout, free_at, link_at}
 use Rattle.packed_link.specs.declared.link.Life.{Life}
@@ -15,7 +15,6 @@ use Rattle.core_rule.specs.Fronts.{IsLifeAt, MayPopFree}
 use Rattle.core_rule.specs.OwnEvents.{pop_event}
 use Rattle.core_rule.specs.Plays.{IsSound, Looked, Won}
 use Rattle.core_rule.specs.Stretches.{HasNoFresh}
-use Rattle.core_rule.specs.Views.{Steps}
 use Rattle.core_rule.specs.declared.view.View.{View}
 use Rattle.core_rule.proofs.ViewShows.{win_steps}
 use Rattle.core_stretches.specs.Holdings.{IsHeldFresh}

@@ -1,10 +1,9 @@
 -- A node that may be given back may be so behind own events that give no node back or another one.
-use Rattle.std.proofs.Common.{◌≡◌, ◌≢◌, ℕ, List, None, Option, Some, sym, ap, ◌∙◌}
+use Rattle.std.proofs.Common.{List, None, Option, Some, sym, ◌∙◌}
 use Rattle.graph_kinds.specs.History.{Every}
-use Rattle.packed_link.specs.Layout.{Sizes, IsLayout}
+use Rattle.packed_link.specs.Layout.{IsLayout}
 use Rattle.packed_link.specs.declared.link.Life.{Life}
 use Rattle.core_journal.specs.declared.event.Event.{Event}
-use Rattle.core_kept.specs.Nodes.{node_in}
 use Rattle.core_rule.specs.Views.{Spares, Steps}
 use Rattle.core_rule.specs.declared.view.View.{View}
 use Rattle.core_rule.proofs.OwnByView.{own_end_still, own_ends_still, own_ripe_still, own_spent_still}
