@@ -1,6 +1,6 @@
 -- The laws of chains and lists on the worked journals.
 use Rattle.std.specs.Prelude.{AllPairs}
-use Rattle.std.proofs.Common.{◌≡◌, ◌≢◌, ◌⊎◌, ℕ, zero, suc, ◌+◌, ◌<◌, ◌≤◌, true, false, Some, List, [], ◌∷◌, ◌++◌, length, take, drop, refl, sym, ap, ⊎_elim, inl, inr, arith, lit<, lit≤, All, true≢false}
+use Rattle.std.proofs.Common.{◌≡◌, ◌≢◌, ℕ, zero, suc, ◌<◌, ◌≤◌, true, false, Some, [], ◌∷◌, length, drop, refl, sym, ap, ⊎_elim, inl, inr, arith, lit<, lit≤, All, true≢false}
 use Rattle.packed_link.specs.Link.{index_of, mark_of, pack}
 use Rattle.packed_link.specs.Layout.{key_at, link_at, second_at, third_at}
 use Rattle.packed_link.specs.declared.link.Life.{Life}
@@ -30,7 +30,7 @@ use Rattle.core_lists.proofs.PartSpender.{part_who}
 use Rattle.core_lists.proofs.RaisedInPass.{raised_in_pass}
 use Rattle.core_lists.proofs.RipeningNodes.{ripe_behind, ripens, stamp_behind, stamp_beyond, stamped}
 use Rattle.core_worked.specs.Replacing.{replacing_journal}
-use Rattle.core_worked.specs.TwoLives.{links_new, two_lives}
+use Rattle.core_worked.specs.TwoLives.{links_new}
 use Rattle.core_worked.proofs.LawSteps.{kept, longer}
 use Rattle.core_worked.proofs.Replacing.{event, first, kept_33, kept_35, replacing_kept}
 use Rattle.core_worked.proofs.ReplacingSteps.{may_replace}

@@ -1,5 +1,5 @@
 -- The laws of tokens at steps of the worked journals.
-use Rattle.std.proofs.Common.{◌≡◌, ◌≢◌, ◌⊎◌, ℕ, zero, suc, ◌+◌, ◌<◌, ◌≤◌, ◌%◌, ◌^◌, true, false, true≢false, None, Some, List, [], ◌∷◌, ◌++◌, length, take, drop, refl, sym, ap, subst, ⊎_elim, inl, inr, arith, lit<, lit≤}
+use Rattle.std.proofs.Common.{◌≡◌, ◌⊎◌, ℕ, zero, suc, ◌+◌, ◌<◌, ◌≤◌, ◌%◌, ◌^◌, true, false, None, Some, [], ◌∷◌, length, refl, sym, subst, ⊎_elim, inr, arith, lit<, lit≤}
 use mathlib.Core.Option.{none, some, some-injective, some-ne-none}
 use lib.ListN.{get_elem?}
 use Rattle.atomic_table.specs.Table.{Allows, opening, step}
@@ -20,7 +20,6 @@ use Rattle.core_kept.specs.Facts.{IsKeptSpent}
 use Rattle.core_kept.specs.Freezing.{IsFrozenWord, IsSpentVertex}
 use Rattle.core_kept.specs.Kept.{IsQuiet}
 use Rattle.core_kept.specs.Nodes.{IsFrozenToEnd, IsRipe, IsSpentWith, is_frozen}
-use Rattle.core_lists.specs.Chains.{KeepsList}
 use Rattle.core_lists.proofs.FrozenWordLeads.{frozen_finished, frozen_next}
 use Rattle.core_rule.specs.Fronts.{IsVertexBelow, LeadsToVertex, MayRaise, MetEdge, MetVertex}
 use Rattle.core_rule.specs.OwnEvents.{withdraw_event}
@@ -32,7 +31,7 @@ use Rattle.core_rule.specs.declared.view.View.{View}
 use Rattle.core_rule.proofs.FoundMarkedIsSpent.{found_at}
 use Rattle.core_rule.proofs.FrozenWordStays.{edge_frozen_word, frozen_marked, head_frozen_word}
 use Rattle.core_rule.proofs.LastToken.{accounts_quiet, closed_word, front_whole}
-use Rattle.core_rule.proofs.OwnByView.{own_end_still, own_list_still, own_made_same, own_ripe_still, own_spent_kept, own_spent_still, own_word_still}
+use Rattle.core_rule.proofs.OwnByView.{own_end_still, own_made_same, own_ripe_still, own_spent_kept, own_spent_still, own_word_still}
 use Rattle.core_rule.proofs.OwnLifts.{lift_withdraw}
 use Rattle.core_rule.proofs.PassedKeys.{passed_edge, passed_vertex}
 use Rattle.core_rule.proofs.StepsKeepRule.{draws_number, stores}
@@ -44,7 +43,7 @@ use Rattle.core_worked.specs.Beside.{beside_others}
 use Rattle.core_worked.specs.TwoLives.{two_lives}
 use Rattle.core_worked.proofs.Beside.{beside_others_kept}
 use Rattle.core_worked.proofs.KnownSteps as known
-use Rattle.core_worked.proofs.LawSteps.{answers_all, frozen, given, goes_41, keeps_44, kept, longer, met_0, met_3, numbers_counted, sound_52}
+use Rattle.core_worked.proofs.LawSteps.{answers_all, frozen, given, goes_41, keeps_44, kept, longer, met_3, numbers_counted, sound_52}
 use Rattle.core_worked.proofs.SmallSteps.{frozen_list, quiet_from, whole}
 use Rattle.core_worked.proofs.TwoLives.{before, event, ripe, two_lives_kept}
 use Rattle.core_worked.proofs.TwoLivesShown.{small_layout}

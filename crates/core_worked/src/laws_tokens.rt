@@ -26,7 +26,13 @@ ghost use Rattle.core_rule.specs.OwnEvents.{withdraw_event};
 ghost use Rattle.core_rule.specs.Plays.{drawing, storing};
 ghost use Rattle.core_rule.specs.Rule.{Ruled, accounts, first_view};
 ghost use Rattle.core_rule.specs.Views.{
-    GoesOn, IsEdgeBehind, IsEdgeIn, IsEdgeShown, IsVertexBehind, IsVertexIn, Steps,
+  GoesOn,
+  IsEdgeBehind,
+  IsEdgeIn,
+  IsEdgeShown,
+  IsVertexBehind,
+  IsVertexIn,
+  Steps,
 };
 ghost use Rattle.core_worked.specs.KnownSteps.{view_at, view_beside};
 ghost use Rattle.core_worked.specs.LawSteps.{closing_view, last_table, view_behind, view_drawing};
