@@ -1,7 +1,8 @@
 -- What events of the worked journals do to the graph, and when a call is overtaken.
-use Rattle.std.proofs.Common.{◌≡◌, ℕ, ◌≤◌, None, List, take, drop, get_or, refl, inr, arith, lit<, lit≤}
+use Rattle.std.proofs.Common.{◌≡◌, ℕ, ◌≤◌, None, List, take, drop, get_or, refl, ap, inr, arith, lit<, lit≤, ◌++◌, ◌∷◌, []}
 use Rattle.graph_kinds.specs.Answer.{change}
 use Rattle.graph_kinds.specs.declared.call.Call.TheVariants.{AddEdge, AddVertex, RemoveEdge, RemoveVertex}
+use Rattle.packed_link.specs.declared.link.Life.{Life}
 use Rattle.core_journal.specs.declared.event.Event.{Event}
 use Rattle.core_journal.specs.Changes.{IsNewEdge, IsRemovedEdge, IsRemovedVertex, IsReplacedEdge}
 use Rattle.core_journal.specs.Event.{blank}
@@ -13,20 +14,20 @@ use Rattle.core_journal.specs.TwoCallers.{callers_journal}
 use Rattle.core_journal.specs.Worked.{first_life, small}
 use Rattle.core_journal.proofs.FirstMarks.{first_mark, own_case}
 use Rattle.core_journal.proofs.ForeignAddsUp.{one_foreign, longer_same}
-use Rattle.core_journal.proofs.GraphRows.{hidden_graph, idle_graph, new_edge_graph, new_vertex_graph, no_edge_graph, removed_edge_graph, removed_vertex_graph, replaced_edge_graph}
+use Rattle.core_journal.proofs.GraphRows.{frozen_graph, hidden_graph, hidden_replaced_graph, idle_graph, new_edge_graph, new_vertex_graph, no_edge_graph, removed_edge_graph, removed_vertex_graph, replaced_edge_graph}
 use Rattle.core_journal.proofs.Regular.{hidden_regular, removed_edge_regular, removed_vertex_regular}
 use Rattle.core_lists.proofs.OneEdgeOfPair.{removed_pair}
 use Rattle.core_lists.proofs.OneVertexOfKey.{one_present}
 use Rattle.core_kept.proofs.EdgeEnds.{new_edge}
 use Rattle.core_kept.proofs.Induction.{allowed_at}
-use Rattle.core_worked.specs.Replacing.{replaces_by, replacing_journal}
+use Rattle.core_worked.specs.Replacing.{hidden_meanwhile, replaces_by, replacing_journal}
 use Rattle.core_worked.specs.TwoLives.{freezes_second, links_new, marks_a_vertex, marks_first}
 use Rattle.core_worked.proofs.KnownSteps.{front_kept}
 use Rattle.core_worked.proofs.LawSteps.{kept}
 use Rattle.core_worked.proofs.TwoCallersKept.{callers_kept}
 use Rattle.core_worked.proofs.TwoLives.{before, event}
 use Rattle.core_worked.proofs.TwoLivesShown.{small_layout}
-use Rattle.core_worked.proofs.WorkedKept.{edge_is_new, replacing_is_new, vertex_is_new}
+use Rattle.core_worked.proofs.WorkedKept.{edge_is_new, frozen_is_of_marked, replacing_is_new, vertex_is_new}
 
 abbrev first : ℕ → List Event
 first n = take n callers_journal
@@ -72,6 +73,13 @@ replaced_33 = record { replaces = replacing_is_new; weight = 5; there = refl; so
 
 pub edge_replaced_then : graph_of (take 34 replacing_journal) ≡ change (graph_of (take 33 replacing_journal)) (AddEdge 1 2 6)
 edge_replaced_then = replaced_edge_graph (take 33 replacing_journal) (replaces_by 2 3 6) 1 2 replaced_33
+
+pub none_replaced_then : graph_of (hidden_meanwhile ++ replaces_by 2 3 6 ∷ []) ≡ graph_of hidden_meanwhile
+unfolding key_of link_of
+none_replaced_then = hidden_replaced_graph hidden_meanwhile (replaces_by 2 3 6) (record { kind = refl; new = refl; unmarked = refl; apart = λ same. let h : 3 ≡ 2 = ap (λ (l : Life). l.index) same in omega (arith, h) }) refl refl
+
+pub none_frozen_then : graph_of (before 43 ++ freezes_second ∷ []) ≡ graph_of (before 43)
+none_frozen_then = frozen_graph (before 43) freezes_second frozen_is_of_marked
 
 pub unlinked_then : graph_of (before 42) ≡ graph_of (before 41)
 unlinked_then = idle_graph (before 41) (event 41) refl

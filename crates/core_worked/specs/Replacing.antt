@@ -10,7 +10,8 @@ use Rattle.graph_kinds.specs.declared.outcome.Outcome.TheVariants.{Added, Change
 use Rattle.packed_link.specs.Link.{pack, nowhere}
 use Rattle.packed_link.specs.Layout.{key_at, link_at, second_at, third_at}
 use Rattle.core_journal.specs.declared.book.Book.{Book}
-use Rattle.core_journal.specs.declared.event.Kind.TheVariants.{Raise, MarkEdge, UnlinkEdge, FreezeEdge, ReplaceEdge}
+use Rattle.core_journal.specs.declared.event.Kind.TheVariants.{MarkVertex, Raise, MarkEdge, UnlinkEdge, FreezeEdge}
+use Rattle.core_journal.specs.declared.event.Kind.TheVariants.{ReplaceEdge}
 use Rattle.core_journal.specs.declared.event.Event.{Event}
 use Rattle.core_journal.specs.Event.{blank}
 use Rattle.core_journal.specs.History.{item}
@@ -161,6 +162,13 @@ other_target =
 -- the old edge is replaced by one to that target
 abbrev pub replaces_target : Event
 replaces_target = record (replaces_by 2 3 6) { target = first_life 0 }
+
+-- the edge is to be replaced, and its target, the vertex of node 1, was marked since
+abbrev pub hidden_meanwhile : List Event
+hidden_meanwhile =
+    with_an_edge ++ (takes_edge 3 6 ++ (raises_to 1
+    ∷ record blank { kind = MarkVertex; place = link_at small 1; word = pack nowhere 1 1; life = first_life 1 }
+    ∷ []))
 
 -- the old edge was marked since its link was seen: it may not be replaced
 abbrev pub marked_meanwhile : List Event

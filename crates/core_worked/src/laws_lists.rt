@@ -1,7 +1,7 @@
 //! The laws of chains and lists at the worked journals: edges that were replaced, closed lists, and what an open pass
 //! has met.
 
-ghost use Rattle.std.specs.Prelude.{◌≡◌, ◌≢◌, ℕ, ◌+◌, ◌<◌, ◌≤◌, Some, [], ◌∷◌, false, length, take, true};
+ghost use Rattle.std.specs.Prelude.{◌≡◌, ◌≢◌, ℕ, ◌+◌, ◌<◌, ◌^◌, ◌≤◌, Some, [], ◌∷◌, false, length, take, true};
 ghost use Rattle.packed_link.specs.Link.{index_of, mark_of, pack};
 ghost use Rattle.packed_link.specs.Layout.{key_at, link_at, second_at, third_at};
 ghost use Rattle.packed_link.specs.declared.link.Life.{Life};
@@ -13,7 +13,7 @@ ghost use Rattle.core_journal.specs.State.{Spent, state};
 ghost use Rattle.core_journal.specs.Worked.{first_life, small};
 ghost use Rattle.core_kept.specs.Counts.{all_made, made};
 ghost use Rattle.core_kept.specs.Facts.{HasMet};
-ghost use Rattle.core_kept.specs.Nodes.{IsFrozenToEnd, IsRipe, IsStamped, is_frozen, is_listed, node_in};
+ghost use Rattle.core_kept.specs.Nodes.{IsFrozenToEnd, IsLinkedEdge, IsRipe, IsStamped, is_frozen, is_listed, node_in};
 ghost use Rattle.core_lists.specs.Chains.{IsEdgeOf, IsInBucket, IsOlder};
 ghost use Rattle.core_lists.specs.Raised.{IsLinkedLower};
 ghost use Rattle.core_lists.specs.Replacements.{IsReplacedBy, LeadsToItsKey};
@@ -39,6 +39,7 @@ pub fn worked_replaced_edges_are_told()
     ensures rises { word_at small (take 26 replacing_journal) (third_at small 0)
         ≤ word_at small (take 35 replacing_journal) (third_at small 0) }
     ensures caller { made links_edge 0 replacing_journal ≤ made pops 0 replacing_journal }
+    ensures all { length {A = Life} (first_life 2 ∷ first_life 3 ∷ []) ≤ 2 ^ 36 }
     ensures links { length {A = Life} (first_life 2 ∷ first_life 3 ∷ []) ≤ all_made links_edge replacing_journal }
 {}
 
@@ -46,8 +47,9 @@ pub fn worked_replaced_edges_are_told()
 /// `closed_lists_stay`), is then frozen to its end, and stays so while caller 1 moves the epoch on (`end`); its edge,
 /// node 3, stays in the frozen part (`part`), stood on that list before (`old`), and stands on no list that isn't
 /// frozen to its end (`ends`). It is spent by the caller who spent the vertex (`frozen_parts_are_handed_over#who`).
-/// Before that the vertex is on the chain of its bucket (`a_present_vertex_is_on_its_chain`), and its link tells that
-/// it's present, and later that it isn't (`a_link_tells_whether_a_vertex_is_present`).
+/// Before that the edge is linked (`a_present_edge_is_on_its_list`), the vertex is on the chain of its bucket
+/// (`a_present_vertex_is_on_its_chain`), and its link tells that it's present, and later that it isn't
+/// (`a_link_tells_whether_a_vertex_is_present`).
 pub fn worked_lists_are_closed()
     ensures head { (state small (take 44 two_lives)).frozen 0 ≡ true }
     ensures end { IsFrozenToEnd small (take 47 two_lives) 0 }
@@ -60,6 +62,7 @@ pub fn worked_lists_are_closed()
     ensures on_chain { IsInBucket small (take 40 two_lives) 0 (first_life 0) }
     ensures present { present_key (take 40 two_lives) (first_life 0) ≡ Some 1 }
     ensures removed { vertex_marked (take 42 two_lives) (first_life 0) ≡ true }
+    ensures edge_linked { IsLinkedEdge small (take 38 two_lives) 3 }
     ensures edge_of { IsEdgeOf (take 38 two_lives) (first_life 0) (first_life 3) }
 {}
 

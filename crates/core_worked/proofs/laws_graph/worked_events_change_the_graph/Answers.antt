@@ -1,4 +1,4 @@
-use Rattle.core_worked.proofs.WorkedGraph.{vertex_linked_then, vertex_marked_then, edge_linked_then, none_linked_then, edge_marked_then, none_marked_then, edge_replaced_then, unlinked_then, mark_is_regular, removal_is_regular, freezing_is_regular}
+use Rattle.core_worked.proofs.WorkedGraph.{none_replaced_then, none_frozen_then, vertex_linked_then, vertex_marked_then, edge_linked_then, none_linked_then, edge_marked_then, none_marked_then, edge_replaced_then, unlinked_then, mark_is_regular, removal_is_regular, freezing_is_regular}
 use Rattle.core_worked.proofs.laws_graph.worked_events_change_the_graph.Goals as goal
 
 pub returns-clause-link_vertex : goal.returns-clause-link_vertex
@@ -33,3 +33,9 @@ returns-clause-regular_edge c = removal_is_regular
 
 pub returns-clause-regular_freezing : goal.returns-clause-regular_freezing
 returns-clause-regular_freezing c = freezing_is_regular
+
+pub returns-clause-replace_none : goal.returns-clause-replace_none
+returns-clause-replace_none c = none_replaced_then
+
+pub returns-clause-freeze_edge : goal.returns-clause-freeze_edge
+returns-clause-freeze_edge c = none_frozen_then
