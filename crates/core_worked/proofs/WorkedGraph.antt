@@ -28,6 +28,22 @@ use Rattle.core_worked.proofs.TwoCallersKept.{callers_kept}
 use Rattle.core_worked.proofs.TwoLives.{before, event}
 use Rattle.core_worked.proofs.TwoLivesShown.{small_layout}
 use Rattle.core_worked.proofs.WorkedKept.{edge_is_new, frozen_is_of_marked, replacing_is_new, vertex_is_new}
+use Rattle.std.proofs.Common.{Bool, true, false, not, ◌&&◌, ◌==◌, cond, sym, ◌∙◌, true≢false, Some}
+use Rattle.std.specs.Prelude.{slice_get}
+use Rattle.std.specs.List.{list_all}
+use Rattle.graph_kinds.specs.Answer.{alters, answer, is_change, plain}
+use Rattle.graph_kinds.specs.Graph.{has}
+use Rattle.graph_kinds.specs.declared.outcome.Outcome.TheVariants.{No, Yes}
+use Rattle.core_journal.specs.Changes.{is_idle}
+use Rattle.core_journal.specs.Right.{IsBookOf}
+use Rattle.core_journal.specs.GraphOf.{changes}
+use Rattle.core_journal.proofs.Onward.{book_more, book_push}
+use Rattle.core_journal.proofs.GraphRows.{has-graph}
+use Rattle.core_journal.proofs.Regular.{changes_not, hidden_replaced_regular, replaced_edge_regular}
+use Rattle.core_lists.proofs.OneEdgeOfPair.{one_pair}
+use Rattle.core_worked.specs.Counted.{asks_for_two}
+use Rattle.core_worked.proofs.Replacing.{kept_33}
+use Rattle.core_worked.proofs.SmallSteps.{none_such}
 
 abbrev first : ℕ → List Event
 first n = take n callers_journal
@@ -90,6 +106,15 @@ mark_is_regular = removed_vertex_regular (before 40) marks_a_vertex 1 removed_40
 pub removal_is_regular : IsRegularEvent (before 28) marks_first
 removal_is_regular = removed_edge_regular (before 28) marks_first 1 2 removed_28
 
+pub replacing_is_regular : IsRegularEvent (take 33 replacing_journal) (replaces_by 2 3 6)
+unfolding key_of link_of
+replacing_is_regular = replaced_edge_regular (take 33 replacing_journal) (replaces_by 2 3 6) 1 2 (record { replaces = replacing_is_new; weight = 5; there = refl; source = refl; target = refl })
+    (λ x w h. one_pair small small_layout (take 33 replacing_journal) kept_33 x (first_life 2) 1 2 w 5 h refl) (λ h. omega (arith, h))
+
+pub hidden_is_regular : IsRegularEvent hidden_meanwhile (replaces_by 2 3 6)
+unfolding key_of link_of
+hidden_is_regular = hidden_replaced_regular hidden_meanwhile (replaces_by 2 3 6) (record { kind = refl; new = refl; unmarked = refl; apart = λ same. let h : 3 ≡ 2 = ap (λ (l : Life). l.index) same in omega (arith, h) }) refl refl
+
 pub freezing_is_regular : IsRegularEvent (before 43) freezes_second
 freezing_is_regular = hidden_regular (before 43) freezes_second refl hidden_43
 
@@ -115,3 +140,31 @@ same_in_front = longer_same (first 25) callers_journal (record { rest = drop 25 
 
 pub one_there : 1 ≤ foreign callers_journal 0 20 25
 one_there = one_foreign callers_journal 0 20 25 22 (get_or callers_journal 22 blank) (lit≤ tt) (lit< tt) refl refl (λ h. omega (arith, h))
+
+-- the book of caller 1, which changes nothing in the journal with two lives
+
+-- each event of caller 1 neither links nor marks
+idle_of_one : (n : ℕ) → list_all (λ (d : Event). not ((d.caller == 1) && not (is_idle d.kind))) (before n) ≡ true → (p : ℕ) (e : Event) → slice_get (before n) p ≡ Some e → e.caller ≡ 1 → changes (take p (before n)) e ≡ false
+idle_of_one n h p e at mine = changes_not (take p (before n)) e (idle_graph (take p (before n)) e (by (is_idle e.kind) refl))
+  where
+    by : (b : Bool) → is_idle e.kind ≡ b → is_idle e.kind ≡ true
+    by true is = is
+    by false is = absurd (none_such (λ (d : Event). (d.caller == 1) && not (is_idle d.kind)) (before n) h p e at
+        (ap (λ (k : ℕ). (k == 1) && not (is_idle e.kind)) mine ∙ ap (λ (b : Bool). not b) is))
+
+pub front_book : IsBookOf small (before 45) (record { caller = 1; entries = [] })
+front_book = record { right = tt; framed = record { order = tt }; covers = λ p e at mine does. absurd (true≢false (sym does ∙ idle_of_one 45 refl p e at mine)) }
+
+pub book_stays : IsBookOf small (before 47) (record { caller = 1; entries = [] })
+book_stays = book_more small (before 45) (drop 45 (before 47)) (record { caller = 1; entries = [] }) front_book (λ p e since at mine. idle_of_one 47 refl p e at mine)
+
+has_two : has (graph_of (before 45)) 2 ≡ true
+unfolding key_of
+has_two = has-graph (before 45) 2
+
+pub book_extends : IsBookOf small (before 47) (record { caller = 1; entries = asks_for_two ∷ [] })
+unfolding answer alters
+book_extends = book_push small (before 45) (drop 45 (before 47)) (record { caller = 1; entries = [] }) asks_for_two front_book
+    (record { apart = lit≤ tt; since = lit≤ tt; until = lit≤ tt; within = lit≤ tt; before = λ h. absurd (cc) })
+    (record { reply = sym (ap (λ (b : Bool). plain (cond b Yes No)) has_two); stays = ap (λ (b : Bool). is_change (cond b Yes No)) has_two })
+    (λ p e since at mine does. absurd (true≢false (sym does ∙ idle_of_one 47 refl p e at mine)))

@@ -38,6 +38,12 @@ use Rattle.core_worked.proofs.SmallSteps.{frozen_list, on_one, quiet_from}
 use Rattle.core_worked.proofs.TwoLives.{before}
 use Rattle.core_worked.proofs.TwoLives as lives
 use Rattle.core_worked.proofs.TwoLivesShown.{small_layout}
+use Rattle.std.proofs.Common.{◌++◌}
+use Rattle.core_lists.proofs.RipeningNodes.{ripe_beyond}
+use Rattle.core_worked.specs.TwoLives.{moves_epoch}
+use Rattle.core_worked.proofs.SmallSteps.{moved}
+use Rattle.core_kept.specs.Kept.{IsKept}
+use Rattle.core_kept.proofs.Induction.{kept_snoc}
 
 -- an edge that was replaced
 
@@ -212,6 +218,13 @@ stamp_47 = stamp_beyond small small_layout 0 45 2 0 (before 45) (before 47) (lon
 pub ripe_47 : IsRipe small (before 47) 0 2
 unfolding machine word_at
 ripe_47 = ripens small (before 47) (before 47) (longer 47 47 refl) 0 2 0 stamp_47 (lit≤ tt)
+
+moved_kept : IsKept small (before 47 ++ moves_epoch 3 ∷ [])
+unfolding machine word_at state
+moved_kept = kept_snoc small (before 47) (moves_epoch 3) (kept 47) (moved (before 47) 2 (lit< tt) refl (inl refl) refl refl (lit< tt))
+
+pub ripe_moved : IsRipe small (before 47 ++ moves_epoch 3 ∷ []) 0 2
+ripe_moved = ripe_beyond small small_layout 0 45 2 (before 47) (before 47 ++ moves_epoch 3 ∷ []) (record { rest = moves_epoch 3 ∷ []; whole = refl }) moved_kept (quiet_from 0 45 (before 47 ++ moves_epoch 3 ∷ []) refl) (lit≤ tt) ripe_47
 
 pub stamp_48 : IsStamped small (before 48) 0 2 0
 stamp_48 = stamp_behind small small_layout (before 47) (lives.event 47) (kept 48) 0 2 0 (λ h. absurd (cc)) stamp_47

@@ -6,14 +6,16 @@ ghost use Rattle.graph_kinds.specs.declared.call.Call.TheVariants.{AddEdge, AddV
 ghost use Rattle.core_journal.specs.Foreign.{foreign};
 ghost use Rattle.core_journal.specs.GraphOf.{IsRegularEvent, graph_of};
 ghost use Rattle.core_journal.specs.Overtaken.{IsFirstMark, IsLiving};
+ghost use Rattle.core_journal.specs.Right.{IsBookOf};
 ghost use Rattle.core_journal.specs.TwoCallers.{callers_journal};
-ghost use Rattle.core_journal.specs.Worked.{first_life};
+ghost use Rattle.core_journal.specs.Worked.{first_life, small};
+ghost use Rattle.core_worked.specs.Counted.{asks_for_two};
 ghost use Rattle.core_worked.specs.Replacing.{hidden_meanwhile, replaces_by, replacing_journal};
 ghost use Rattle.core_worked.specs.TwoLives.{freezes_second, links_new, marks_a_vertex, marks_first, two_lives};
 
 /// What events of each row of the table of changes do to the graph (`kinds_change_the_graph`): a vertex is linked and
 /// marked; an edge is linked, marked and replaced, linked to a vertex that is marked, replaced where its target was
-/// marked since, and frozen; and a vertex is unlinked. Three of them are regular (`rows_are_regular`).
+/// marked since, and frozen; and a vertex is unlinked. Five of them are regular (`rows_are_regular`).
 pub fn worked_events_change_the_graph()
     ensures link_vertex { graph_of (take 17 two_lives) ≡ change (graph_of (take 16 two_lives)) (AddVertex 2) }
     ensures mark_vertex { graph_of (take 41 two_lives) ≡ change (graph_of (take 40 two_lives)) (RemoveVertex 1) }
@@ -28,6 +30,8 @@ pub fn worked_events_change_the_graph()
     ensures others { graph_of (take 42 two_lives) ≡ graph_of (take 41 two_lives) }
     ensures regular_vertex { IsRegularEvent (take 40 two_lives) marks_a_vertex }
     ensures regular_edge { IsRegularEvent (take 28 two_lives) marks_first }
+    ensures regular_replacing { IsRegularEvent (take 33 replacing_journal) (replaces_by 2 3 6) }
+    ensures regular_hidden { IsRegularEvent hidden_meanwhile (replaces_by 2 3 6) }
     ensures regular_freezing { IsRegularEvent (take 43 two_lives) freezes_second }
 {}
 
@@ -43,4 +47,13 @@ pub fn worked_calls_are_overtaken()
         × IsLiving (take 20 callers_journal) (first_life 1) }
     ensures same { foreign callers_journal 0 20 25 ≡ foreign (take 25 callers_journal) 0 20 25 }
     ensures one { 1 ≤ foreign callers_journal 0 20 25 }
+{}
+
+/// Caller 1 makes no change in the journal with two lives: its book, which is empty behind event 44, is true there, and
+/// is so still behind its two moves of the epoch (`books_of_fronts_stay`). Where it asked for vertex 2 meanwhile, and
+/// was answered by what was there at event 45, the longer book is true (`a_call_extends_its_book`).
+pub fn worked_books_stay_true()
+    ensures front { IsBookOf small (take 45 two_lives) (record { caller = 1; entries = [] }) }
+    ensures stays { IsBookOf small (take 47 two_lives) (record { caller = 1; entries = [] }) }
+    ensures extends { IsBookOf small (take 47 two_lives) (record { caller = 1; entries = asks_for_two ∷ [] }) }
 {}

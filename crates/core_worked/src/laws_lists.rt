@@ -1,7 +1,7 @@
 //! The laws of chains and lists at the worked journals: edges that were replaced, closed lists, and what an open pass
 //! has met.
 
-ghost use Rattle.std.specs.Prelude.{◌≡◌, ◌≢◌, ℕ, ◌+◌, ◌<◌, ◌^◌, ◌≤◌, Some, [], ◌∷◌, false, length, take, true};
+ghost use Rattle.std.specs.Prelude.{◌≡◌, ◌≢◌, ℕ, ◌+◌, ◌<◌, ◌^◌, ◌≤◌, Some, [], ◌∷◌, ◌++◌, false, length, take, true};
 ghost use Rattle.packed_link.specs.Link.{index_of, mark_of, pack};
 ghost use Rattle.packed_link.specs.Layout.{key_at, link_at, second_at, third_at};
 ghost use Rattle.packed_link.specs.declared.link.Life.{Life};
@@ -18,7 +18,7 @@ ghost use Rattle.core_lists.specs.Chains.{IsEdgeOf, IsInBucket, IsOlder};
 ghost use Rattle.core_lists.specs.Raised.{IsLinkedLower};
 ghost use Rattle.core_lists.specs.Replacements.{IsReplacedBy, LeadsToItsKey};
 ghost use Rattle.core_worked.specs.Replacing.{replacing_journal};
-ghost use Rattle.core_worked.specs.TwoLives.{links_new, two_lives};
+ghost use Rattle.core_worked.specs.TwoLives.{links_new, moves_epoch, two_lives};
 
 /// In the journal with replacements event 33 replaced the edge of node 2 by that of node 3: its link is marked and
 /// leads to that node, of the same key (`a_marked_link_tells_whether_its_edge_was_replaced#same_key`, `#word`), which
@@ -70,7 +70,8 @@ pub fn worked_lists_are_closed()
 /// spent, in the same life, with its key, target, weight and source, and not stored (`what_is_met_keeps_its_words`);
 /// the marked link of node 0 stays (`#link`). Node 2, spent in epoch 0, has the stamp 0, keeps it while caller 1 moves
 /// the epoch on, is ripe in epoch 2, and stays both while node 3 is stored for the free list
-/// (`spent_nodes_become_ripe#stamp`, `#stamp_beyond`, `#ripens`, `#stamp_behind`, `#ripe_behind`).
+/// (`spent_nodes_become_ripe#stamp`, `#stamp_beyond`, `#ripens`, `#stamp_behind`, `#ripe_behind`), and stays ripe while
+/// caller 1 moves the epoch on once more (`#ripe_beyond`).
 pub fn worked_met_nodes_keep_their_words()
     ensures met { HasMet small (take 44 two_lives) 0 3 }
     ensures life { (node_in small (take 44 two_lives) 3).tag ≡ 1 }
@@ -84,5 +85,6 @@ pub fn worked_met_nodes_keep_their_words()
     ensures beyond { IsStamped small (take 47 two_lives) 0 2 0 }
     ensures ripens { IsRipe small (take 47 two_lives) 0 2 }
     ensures stamp_behind { IsStamped small (take 48 two_lives) 0 2 0 }
+    ensures ripe_beyond { IsRipe small (take 47 two_lives ++ moves_epoch 3 ∷ []) 0 2 }
     ensures ripe_behind { IsRipe small (take 48 two_lives) 0 2 }
 {}

@@ -34,7 +34,9 @@ pub use laws_counts::{
     worked_events_are_few, worked_graphs_are_counted, worked_lives_go_one_way,
     worked_nodes_become_spent, worked_tables_are_swept,
 };
-pub use laws_graph::{worked_calls_are_overtaken, worked_events_change_the_graph};
+pub use laws_graph::{
+    worked_books_stay_true, worked_calls_are_overtaken, worked_events_change_the_graph,
+};
 pub use laws_kept::{worked_own_facts_stay, worked_words_tell_the_state};
 pub use laws_lists::{
     worked_lists_are_closed, worked_met_nodes_keep_their_words, worked_replaced_edges_are_told,

@@ -1,4 +1,4 @@
-use Rattle.core_worked.proofs.WorkedGraph.{none_replaced_then, none_frozen_then, vertex_linked_then, vertex_marked_then, edge_linked_then, none_linked_then, edge_marked_then, none_marked_then, edge_replaced_then, unlinked_then, mark_is_regular, removal_is_regular, freezing_is_regular}
+use Rattle.core_worked.proofs.WorkedGraph.{replacing_is_regular, hidden_is_regular, none_replaced_then, none_frozen_then, vertex_linked_then, vertex_marked_then, edge_linked_then, none_linked_then, edge_marked_then, none_marked_then, edge_replaced_then, unlinked_then, mark_is_regular, removal_is_regular, freezing_is_regular}
 use Rattle.core_worked.proofs.laws_graph.worked_events_change_the_graph.Goals as goal
 
 pub returns-clause-link_vertex : goal.returns-clause-link_vertex
@@ -39,3 +39,9 @@ returns-clause-replace_none c = none_replaced_then
 
 pub returns-clause-freeze_edge : goal.returns-clause-freeze_edge
 returns-clause-freeze_edge c = none_frozen_then
+
+pub returns-clause-regular_replacing : goal.returns-clause-regular_replacing
+returns-clause-regular_replacing c = replacing_is_regular
+
+pub returns-clause-regular_hidden : goal.returns-clause-regular_hidden
+returns-clause-regular_hidden c = hidden_is_regular
