@@ -4,7 +4,10 @@
 -- over with its head, and the last one is frozen. Caller 1 moves the epoch on twice, and the node of the first edge is
 -- given back.
 use Rattle.std.specs.Prelude.{ℕ, List, [], ◌∷◌, ◌++◌}
+use Rattle.graph_kinds.specs.Answer.{plain}
 use Rattle.graph_kinds.specs.History.{Item}
+use Rattle.graph_kinds.specs.declared.answer.Answer.{Answer}
+use Rattle.graph_kinds.specs.declared.call.Row.{Row}
 use Rattle.graph_kinds.specs.declared.call.Call.TheVariants.{AddVertex, RemoveVertex, AddEdge, RemoveEdge}
 use Rattle.graph_kinds.specs.declared.outcome.Outcome.TheVariants.{Added, Changed, Removed}
 use Rattle.packed_link.specs.Link.{pack, nowhere}
@@ -137,6 +140,34 @@ replacing_history =
     ∷ item 0 (own (AddEdge 1 2 8) Added 57 51 59)
     ∷ item 0 (own (AddEdge 1 2 9) (Changed 8) 66 59 68)
     ∷ item 0 (own (RemoveVertex 1) (Removed 0) 69 68 74)
+    ∷ []
+
+-- the rows of these calls, all of caller 0
+abbrev pub replacing_rows : List Row
+replacing_rows =
+    record { caller = 0; call = AddVertex 1 }
+    ∷ record { caller = 0; call = AddVertex 2 }
+    ∷ record { caller = 0; call = AddEdge 1 2 5 }
+    ∷ record { caller = 0; call = AddEdge 1 2 6 }
+    ∷ record { caller = 0; call = AddEdge 1 2 7 }
+    ∷ record { caller = 0; call = RemoveEdge 1 2 }
+    ∷ record { caller = 0; call = AddEdge 1 2 8 }
+    ∷ record { caller = 0; call = AddEdge 1 2 9 }
+    ∷ record { caller = 0; call = RemoveVertex 1 }
+    ∷ []
+
+-- their answers, row by row
+abbrev pub replacing_replies : List Answer
+replacing_replies =
+    plain Added
+    ∷ plain Added
+    ∷ plain Added
+    ∷ plain (Changed 5)
+    ∷ plain (Changed 6)
+    ∷ plain (Removed 7)
+    ∷ plain Added
+    ∷ plain (Changed 8)
+    ∷ plain (Removed 0)
     ∷ []
 
 -- the new edge is filled, and the counter wasn't raised for the old one: it may not be replaced
