@@ -23,3 +23,4 @@ pub mod WorkedKept
 pub mod WorkedLists
 pub mod WorkedTokens
 pub mod WorkedGraph
+pub mod TargetAnew
