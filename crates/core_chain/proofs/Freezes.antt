@@ -17,7 +17,8 @@ pub IsFrozenTo-head : (c d : Chain) → SetsMark c d Head → IsFrozenTo d Head
 IsFrozenTo-head c d step = record { present = tt; marks = λ q on not_behind. frozen_head d step.marked q not_behind }
 
 -- the node to which a frozen part leads is on the chain
-led_on : (c : Chain) (p : Position) (x : ℕ) → IsChain c → IsFrozenTo c p → x ≢ nowhere → c.next p ≡ x → LeadsOnChain c p x
+led_on : (c : Chain) (p : Position) (x : ℕ) → IsChain c → IsFrozenTo c p → x ≢ nowhere → c.next p ≡ x
+    → LeadsOnChain c p x
 led_on c p x chain frozen named led =
     subst (LeadsOnChain c p) led (chain.leads p frozen.present (λ none. named (sym led ∙ none)))
 

@@ -1,4 +1,5 @@
--- A node that is put behind a word, between its neighbours, keeps the chain: it is inserted, or replaces the node of its
+-- A node that is put behind a word, between its neighbours, keeps the chain: it is inserted, or replaces the node of
+-- its
 -- key.
 use Rattle.std.proofs.Common.{◌≡◌, ◌≢◌, ℕ, ◌<◌, sym, ap, ◌∙◌, subst, arith, IsTrue, inl, inr}
 use Rattle.packed_link.specs.Link.{nowhere}
@@ -151,7 +152,8 @@ module _ (c d : Chain) (p : Position) (n : ℕ) (chain : IsChain c) (step : Puts
   alone q r on_q on_r same same' =
       if_same q (Node n) (λ at.
       if_same r (Node n) (λ e. at ∙ sym e)
-      (λ ne. absurd (lone r (back r on_r ne) (sym same ∙ ap (rank_of d) at) (sym same' ∙ ap (since_of d) at)))) (λ not_n.
+      (λ ne. absurd (lone r (back r on_r ne) (sym same ∙ ap (rank_of d) at) (sym same' ∙ ap (since_of d) at))))
+      (λ not_n.
       if_same r (Node n)
       (λ e. absurd (lone q (back q on_q not_n) (same ∙ ap (rank_of d) e) (same' ∙ ap (since_of d) e)))
       (λ ne.

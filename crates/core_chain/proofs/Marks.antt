@@ -126,6 +126,7 @@ module _ (c d : Chain) (p : Position) (chain : IsChain c) (step : SetsMark c d p
   Keeps-marked = record {
     marks = marks;
     links = λ q marked. next-marked c d p step q;
-    frozen = IsFrozenTo-same c d chain step.nodes (λ x on. step.words.key x) step.words.since (λ q on. next-marked c d p step q)
+    frozen = IsFrozenTo-same c d chain step.nodes (λ x on. step.words.key x) step.words.since
+        (λ q on. next-marked c d p step q)
         (λ q on old. marks q old);
   }

@@ -31,7 +31,8 @@ by_place : {P : Type 0} (x y : ℕ) (xs : List ℕ) → Contains (y ∷ xs) x �
 by_place x y xs at first later = ⊎_elim first later (Contains-cases x y xs at)
 
 -- each of the nodes stands behind the word
-Rises-behind : (c : Chain) (p : Position) (xs : List ℕ) (x : ℕ) → RisesAlong c p xs → Contains xs x → Precedes c p (Node x)
+Rises-behind : (c : Chain) (p : Position) (xs : List ℕ) (x : ℕ) → RisesAlong c p xs → Contains xs x → Precedes c p
+    (Node x)
 Rises-behind c p [] x rising at = absurd (Contains-none x at)
 Rises-behind c p (y ∷ ys) x rising at =
     by_place x y ys at (λ e. subst (λ (z : ℕ). Precedes c p (Node z)) e rising.0)
@@ -149,7 +150,8 @@ rises_by a s b t last before within =
 -- a later word has a greater number
 score-rises : (c : Chain) (last : ℕ) (p q : Position)
     → Precedes c p q → since_of c p ≤ last → score c last p < score c last q
-score-rises c last p q before within = rises_by (rank_of c p) (since_of c p) (rank_of c q) (since_of c q) last before within
+score-rises c last p q before within = rises_by (rank_of c p) (since_of c p) (rank_of c q)
+    (since_of c q) last before within
 
 score-bound : (c : Chain) (bound last : ℕ) (p : Position)
     → IsWithin c bound last → IsOn c p → score c last p ≤ (bound + 1) * (last + 1) + last
@@ -197,7 +199,8 @@ first_led c p [] met rising some = absurd (some met)
 first_led c p (y ∷ ys) met rising some = subst (LedAmong c p (y ∷ ys)) (sym met.0) (Contains-here y y ys refl, rising.0)
 
 led : (c : Chain) (p : Position) (xs : List ℕ) (x : ℕ)
-    → MeetsFrom c p xs → RisesAlong c p xs → Contains xs x → c.next (Node x) ≢ nowhere → LedAmong c (Node x) xs (c.next (Node x))
+    → MeetsFrom c p xs → RisesAlong c p xs → Contains xs x → c.next (Node x) ≢ nowhere → LedAmong c (Node x) xs
+    (c.next (Node x))
 led c p [] x met rising at some = absurd (Contains-none x at)
 led c p (y ∷ ys) x met rising at some =
     by_place x y ys at (λ e.
@@ -223,7 +226,8 @@ met_gap c p [] x y met rising at to before = absurd (Contains-none x at)
 met_gap c p (z ∷ zs) x y met rising at to before =
     by_place x z zs at (λ e.
     let P : ℕ → Type 0 = λ w. NotPast c (Node y) (c.next (Node w)) in
-    let later = by_place y z zs to (λ e'. absurd (before_same c (Node x) (Node y) before (ap Node (sym e ∙ e')))) (λ h. h) in
+    let later = by_place y z zs to (λ e'. absurd (before_same c (Node x) (Node y) before (ap Node (sym e ∙ e'))))
+    (λ h. h) in
     subst P e (first_gap c (Node z) zs y met.2 rising.1 later)) (λ at'.
     let a = first_least c p z zs x rising at' in
     let later =

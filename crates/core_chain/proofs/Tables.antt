@@ -64,7 +64,8 @@ module _ (old new : ℕ → ℕ) (places : Places) (on on' : ℕ → Bool) (sinc
   }
 
   -- an unmarked link to the successor of a node that may be unlinked unlinks it
-  pub Unlinks-in : (at : Position) (node tag : ℕ) → StandsAlone places at → CanUnlink (chain_in old places on since) at node
+  pub Unlinks-in : (at : Position) (node tag : ℕ) → StandsAlone places at → CanUnlink
+      (chain_in old places on since) at node
       → WritesWord old new (places.word_at at) (pack (index_of (old (places.word_at (Node node)))) 0 tag)
       → Departs on on' node → Unlinks (chain_in old places on since) (chain_in new places on' since') at node
   Unlinks-in at node tag alone can writes leaves =

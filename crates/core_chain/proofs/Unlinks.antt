@@ -4,7 +4,8 @@ use Rattle.packed_link.specs.Link.{nowhere}
 use Rattle.core_chain.specs.Chain.{Chain, Position, Head, Node, IsOn, IsChain, Precedes, rank_of, since_of}
 use Rattle.core_chain.specs.Steps.{Unlinks, IsFrozenTo, Keeps}
 use Rattle.core_chain.proofs.Orders.{if_same, by_order, LeadsOnChain, NotPast, RisesBehind, IsChain-by}
-use Rattle.core_chain.proofs.Orders.{rank_of-changed, since_of-changed, before_still, before_same, before_both, before_then}
+use Rattle.core_chain.proofs.Orders.{rank_of-changed, since_of-changed, before_still, before_same, before_both}
+use Rattle.core_chain.proofs.Orders.{before_then}
 use Rattle.core_chain.proofs.Orders.{one_leads, rises_behind}
 
 module _ (c d : Chain) (p : Position) (x : ℕ) (chain : IsChain c) (step : Unlinks c d p x) where

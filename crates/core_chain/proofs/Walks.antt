@@ -33,7 +33,8 @@ all_behind c p xs x chain on met =
     let both = (met_behind c p xs chain on met).1 x in (λ at. both.1 at, λ h. both.0 h)
 
 -- behind an unmarked word, these are the nodes of greater keys
-pub all_greater : (c : Chain) (p : Position) (xs : List ℕ) (x : ℕ) → IsChain c → IsOn c p → c.mark p ≡ 0 → MeetsFrom c p xs
+pub all_greater : (c : Chain) (p : Position) (xs : List ℕ) (x : ℕ) → IsChain c → IsOn c p → c.mark p ≡ 0
+    → MeetsFrom c p xs
     → Contains xs x ↔ (IsOn c (Node x) × StandsBelow c p (c.key x))
 all_greater c p xs x chain on unmarked met =
     let both = (met_behind c p xs chain on met).1 x in (
@@ -98,7 +99,8 @@ module _ (c : Chain) (p : Position) (chain : IsChain c) (on_p : IsOn c p) where
   alone Head Head on_q on_r same same' = refl
   alone Head (Node y) on_q on_r same same' = absurd (omega arith)
   alone (Node x) Head on_q on_r same same' = absurd (omega arith)
-  alone (Node x) (Node y) on_q on_r same same' = chain.alone (Node x) (Node y) (whole x on_q).0 (whole y on_r).0 same same'
+  alone (Node x) (Node y) on_q on_r same same' = chain.alone (Node x) (Node y) (whole x on_q).0
+      (whole y on_r).0 same same'
 
   rises : (q : Position) → IsOn (rest_behind c p) q → (rest_behind c p).next q ≢ nowhere
       → RisesBehind (rest_behind c p) q ((rest_behind c p).next q)

@@ -22,7 +22,7 @@ use Rattle.core_kept.proofs.BucketWords.{bucket_unmarked}
 use Rattle.core_kept.proofs.CutEdges.{cut_was_linked}
 use Rattle.core_kept.proofs.PassBetween.{pass_between}
 use Rattle.core_lists.specs.Chains.{KeepsList}
-use Rattle.core_lists.proofs.FreezingLeaves.{frozen_leaves}
+use Rattle.core_lists.proofs.EffectOfKinds.{frozen_leaves}
 use Rattle.core_lists.proofs.FrozenPathIsList.{path_all}
 use Rattle.core_lists.proofs.FrozenToEndIsList.{has_keeps}
 use Rattle.core_lists.proofs.ListedWords.{listed_key, listed_linked}

@@ -1,0 +1,3 @@
+pub mod MakesAddUp
+pub mod MakesTell
+pub mod HoldingsStay
