@@ -30,6 +30,11 @@ use Rattle.core_worked.proofs.KnownSteps.{front_kept}
 use Rattle.core_worked.proofs.TwoLivesShown.{small_layout}
 use Rattle.core_worked.proofs.Replacing.{first, event, replacing_kept}
 use Rattle.core_worked.proofs.ReplacingShown.{graph_end}
+use Rattle.std.proofs.Common.{inl}
+use Rattle.graph_kinds.specs.History.{IsInterleaving}
+use Rattle.core_journal.specs.History.{HasBook}
+use Rattle.core_journal.proofs.Laws.{history_interleaves}
+use Rattle.core_worked.specs.Replacing.{replacing_replies, replacing_rows}
 
 pub replacing_regular : IsRegular replacing_journal
 replacing_regular = regular small small_layout replacing_journal replacing_kept
@@ -243,3 +248,11 @@ replacing_legal = subst (λ h. IsLegal h key_two) replacing_items (subst (IsLega
 -- no other caller changes the graph
 pub replacing_closed : IsClosed replacing_journal replacing_books
 replacing_closed = closed_by replacing_journal _ _ refl refl refl
+
+-- it's an interleaving of their rows, which were answered so
+pub replacing_interleaves : IsInterleaving replacing_rows replacing_replies (history replacing_journal replacing_books)
+replacing_interleaves = history_interleaves small replacing_journal replacing_books replacing_rows replacing_replies replacing_regular replacing_apart replacing_true replacing_closed refl
+    (of_zero, (of_zero, (of_zero, (of_zero, (of_zero, (of_zero, (of_zero, (of_zero, (of_zero, tt))))))))) (refl, (refl, tt))
+  where
+    of_zero : HasBook 0 replacing_books
+    of_zero = inl refl

@@ -1,11 +1,10 @@
 -- Views of the worked journals that show the same, and stretches of their steps.
-use Rattle.std.proofs.Common.{◌≡◌, ◌≢◌, ◌≤◌, ℕ, ◌+◌, ◌<◌, true, false, None, Some, List, [], ◌∷◌, ◌++◌, length, take, drop, refl, arith, lit<, lit≤}
+use Rattle.std.proofs.Common.{◌≡◌, ◌≤◌, ℕ, ◌+◌, true, None, List, [], ◌∷◌, ◌++◌, length, refl, arith, lit<}
 use Rattle.packed_link.specs.Link.{nowhere, pack}
 use Rattle.packed_link.specs.Layout.{bucket_at, link_at, second_at}
 use Rattle.core_journal.specs.declared.event.Event.{Event}
 use Rattle.core_journal.specs.Changes.{is_idle}
 use Rattle.core_journal.specs.Machine.{machine, word_at}
-use Rattle.core_journal.specs.Prefix.{IsPrefix}
 use Rattle.core_journal.specs.State.{state}
 use Rattle.core_journal.specs.Worked.{first_life, small}
 use Rattle.core_journal.proofs.GraphRows.{idle_graph}
@@ -22,7 +21,6 @@ use Rattle.core_rule.proofs.RoomInLimbo.{spent_fit}
 use Rattle.core_rule.proofs.SpentSince.{spent_since_bound, spent_since_grows}
 use Rattle.core_worked.specs.KnownSteps.{view_among, view_at, view_beside, view_replacing}
 use Rattle.core_worked.specs.LawSteps.{drawing_too, view_behind, view_drawing}
-use Rattle.core_worked.specs.TwoLives.{two_lives}
 use Rattle.core_worked.proofs.Beside.{may_edge_before, may_link_before}
 use Rattle.core_worked.proofs.KnownSteps as known
 use Rattle.core_worked.proofs.LawSteps.{freezing_leaves, goes_41, kept, longer, opened_41, retired_3, spent_at_44, target_tells}

@@ -1,13 +1,12 @@
 -- The laws of counts at replacements, and at a raise that is given up.
-use Rattle.std.proofs.Common.{◌≡◌, ◌≢◌, ◌⊎◌, ℕ, zero, suc, ◌+◌, ◌^◌, ◌<◌, ◌≤◌, Some, List, [], ◌∷◌, ◌++◌, take, drop, refl, inl, ⊎_elim, arith, lit≤, All}
-use Rattle.std.specs.Prelude.{true, false}
+use Rattle.std.proofs.Common.{◌≡◌, ◌⊎◌, ℕ, zero, suc, ◌+◌, ◌^◌, ◌<◌, ◌≤◌, [], ◌∷◌, ◌++◌, take, drop, refl, inl, ⊎_elim, arith, lit≤, All}
+use Rattle.std.specs.Prelude.{true}
 use Rattle.graph_kinds.specs.Graph.{key_count, pair_count}
 use Rattle.packed_link.specs.declared.link.Life.{Life}
-use Rattle.core_journal.specs.declared.event.Event.{Event}
 use Rattle.core_journal.specs.Event.{counted, cuts_edge, links_edge, raises, replaces, unlinks_edge}
 use Rattle.core_journal.specs.Foreign.{foreign}
 use Rattle.core_journal.specs.GraphOf.{graph_of}
-use Rattle.core_journal.specs.Life.{edge_linked, edge_marked, key_of, link_of}
+use Rattle.core_journal.specs.Life.{edge_linked, edge_marked, link_of}
 use Rattle.core_journal.specs.Prefix.{IsPrefix}
 use Rattle.core_journal.specs.Right.{IsAgain}
 use Rattle.core_journal.specs.State.{state}
@@ -30,11 +29,11 @@ use Rattle.core_counts.proofs.RaisesOfEdges.{apart_opening, apart_other, apart_o
 use Rattle.core_counts.proofs.SumsOverCallers.{total_most}
 use Rattle.core_worked.specs.Counted.{given_up, one_node, one_vertex}
 use Rattle.core_worked.specs.Replacing.{raises_to, replaced_anew, replacing_journal, same_weight}
-use Rattle.core_worked.specs.TwoLives.{closes_head, two_lives, with_an_edge}
+use Rattle.core_worked.specs.TwoLives.{closes_head, with_an_edge}
 use Rattle.core_worked.proofs.OneNode.{least_layout, one_vertex_kept}
 use Rattle.core_worked.proofs.Replacing.{event, first, kept_33, kept_34, kept_68, kept_71, kept_72, replacing_kept}
 use Rattle.core_worked.proofs.ReplacingSteps.{refused_same_weight}
-use Rattle.core_worked.proofs.SmallSteps.{quiet_from, whole}
+use Rattle.core_worked.proofs.SmallSteps.{quiet_from}
 use Rattle.core_worked.proofs.TwoLives.{before}
 use Rattle.core_worked.proofs.TwoLives as lives
 use Rattle.core_worked.proofs.TwoLivesShown.{small_layout}

@@ -1,7 +1,7 @@
 -- The laws of kept journals on the worked ones.
-use Rattle.std.proofs.Common.{◌≡◌, ◌≢◌, ◌⊎◌, ℕ, ◌+◌, ◌<◌, ◌≤◌, true≢false, None, Some, List, [], ◌∷◌, ◌++◌, take, drop, refl, sym, ap, ◌∙◌, inl, inr, arith, lit<, lit≤}
+use Rattle.std.proofs.Common.{◌≡◌, ◌≢◌, ℕ, ◌+◌, ◌<◌, ◌≤◌, None, Some, List, take, drop, refl, sym, inl, lit<, lit≤}
 use Rattle.packed_link.specs.Link.{mark_of, pack, tag_of}
-use Rattle.packed_link.specs.Layout.{epoch_at, free_at, link_at, second_at}
+use Rattle.packed_link.specs.Layout.{epoch_at, link_at, second_at}
 use Rattle.core_epoch.specs.Clock.{IsClear}
 use Rattle.core_journal.specs.declared.event.Event.{Event}
 use Rattle.core_journal.specs.Changes.{IsFrozenEdge, IsNewEdge, IsNewVertex, IsReplacing}

@@ -1,6 +1,6 @@
 -- The laws of chains and lists on the worked journals.
 use Rattle.std.specs.Prelude.{AllPairs}
-use Rattle.std.proofs.Common.{◌≡◌, ◌≢◌, ◌⊎◌, ℕ, zero, suc, ◌+◌, ◌<◌, ◌≤◌, true, false, Some, List, [], ◌∷◌, ◌++◌, length, take, drop, refl, sym, ap, ⊎_elim, inl, inr, arith, lit<, lit≤, All, true≢false}
+use Rattle.std.proofs.Common.{◌≡◌, ◌≢◌, ℕ, zero, suc, ◌<◌, ◌≤◌, ◌^◌, true, false, Some, [], ◌∷◌, length, drop, refl, sym, ap, ⊎_elim, inl, inr, arith, lit<, lit≤, All, true≢false}
 use Rattle.packed_link.specs.Link.{index_of, mark_of, pack}
 use Rattle.packed_link.specs.Layout.{key_at, link_at, second_at, third_at}
 use Rattle.packed_link.specs.declared.link.Life.{Life}
@@ -12,25 +12,25 @@ use Rattle.core_journal.specs.State.{Spent, state}
 use Rattle.core_journal.specs.Worked.{first_life, small}
 use Rattle.core_kept.specs.Counts.{all_made, made}
 use Rattle.core_kept.specs.Facts.{HasMet, IsSamePass}
-use Rattle.core_kept.specs.Nodes.{IsFrozenToEnd, IsRipe, IsStamped, is_frozen, is_listed, node_in}
+use Rattle.core_kept.specs.Nodes.{IsFrozenToEnd, IsLinkedEdge, IsRipe, IsStamped, is_frozen, is_listed, node_in}
 use Rattle.core_kept.proofs.MarkedWords.{marked_link_stays}
 use Rattle.core_kept.proofs.MetWords.{edge_stays, key_stays, still_met}
 use Rattle.core_lists.specs.Chains.{HasList, IsEdgeOf, IsInBucket, IsOlder}
 use Rattle.core_lists.specs.Raised.{IsLinkedLower}
 use Rattle.core_lists.specs.Replacements.{IsInReach, IsReplacedBy, LeadsToItsKey}
 use Rattle.core_lists.proofs.ClosedHeadStays.{finished_stays, head_stays, old_finished, old_lists, part_stays}
-use Rattle.core_lists.proofs.FewEdges.{edges_are_links, edges_paid}
+use Rattle.core_lists.proofs.FewEdges.{edges_are_links, edges_few, edges_paid}
 use Rattle.core_lists.proofs.FrozenToEndIsList.{edge_on}
 use Rattle.core_lists.proofs.LinkTellsPresence.{alive, over}
 use Rattle.core_lists.proofs.LinksTellReplaced.{old_word, same_key_marked, told}
-use Rattle.core_lists.proofs.LivesOnLists.{one_unmarked}
+use Rattle.core_lists.proofs.LivesOnLists.{one_unmarked, present_edge}
 use Rattle.core_lists.proofs.LowerCounters.{counter_rises, marked_lower, unstored_met}
 use Rattle.core_lists.proofs.OneVertexOfKey.{present_in}
 use Rattle.core_lists.proofs.PartSpender.{part_who}
 use Rattle.core_lists.proofs.RaisedInPass.{raised_in_pass}
 use Rattle.core_lists.proofs.RipeningNodes.{ripe_behind, ripens, stamp_behind, stamp_beyond, stamped}
 use Rattle.core_worked.specs.Replacing.{replacing_journal}
-use Rattle.core_worked.specs.TwoLives.{links_new, two_lives}
+use Rattle.core_worked.specs.TwoLives.{links_new}
 use Rattle.core_worked.proofs.LawSteps.{kept, longer}
 use Rattle.core_worked.proofs.Replacing.{event, first, kept_33, kept_35, replacing_kept}
 use Rattle.core_worked.proofs.ReplacingSteps.{may_replace}
@@ -38,6 +38,12 @@ use Rattle.core_worked.proofs.SmallSteps.{frozen_list, on_one, quiet_from}
 use Rattle.core_worked.proofs.TwoLives.{before}
 use Rattle.core_worked.proofs.TwoLives as lives
 use Rattle.core_worked.proofs.TwoLivesShown.{small_layout}
+use Rattle.std.proofs.Common.{◌++◌}
+use Rattle.core_lists.proofs.RipeningNodes.{ripe_beyond}
+use Rattle.core_worked.specs.TwoLives.{moves_epoch}
+use Rattle.core_worked.proofs.SmallSteps.{moved}
+use Rattle.core_kept.specs.Kept.{IsKept}
+use Rattle.core_kept.proofs.Induction.{kept_snoc}
 
 -- an edge that was replaced
 
@@ -93,20 +99,23 @@ counter_higher = counter_rises small small_layout 0 (first 26) (first 35) (recor
 pub edges_of_nodes : made links_edge 0 replacing_journal ≤ made pops 0 replacing_journal
 edges_of_nodes = edges_paid small replacing_journal replacing_kept 0
 
-pub two_links : length {A = Life} (first_life 2 ∷ first_life 3 ∷ []) ≤ all_made links_edge replacing_journal
-two_links = edges_are_links replacing_journal (first_life 2 ∷ first_life 3 ∷ []) apart linked
-  where
-    apart : AllPairs ◌≢◌ (first_life 2 ∷ first_life 3 ∷ [])
-    apart zero (suc zero) d low high = λ same. let h : 2 ≡ 3 = ap (λ (l : Life). l.index) same in omega (arith, h)
-    apart zero zero d low high = absurd (omega (arith, low))
-    apart zero (suc (suc j)) d low high = absurd (omega (arith, high))
-    apart (suc i) zero d low high = absurd (omega (arith, low))
-    apart (suc i) (suc j) d low high = absurd (omega (arith, low, high))
+two_apart : AllPairs ◌≢◌ (first_life 2 ∷ first_life 3 ∷ [])
+two_apart zero (suc zero) d low high = λ same. let h : 2 ≡ 3 = ap (λ (l : Life). l.index) same in omega (arith, h)
+two_apart zero zero d low high = absurd (omega (arith, low))
+two_apart zero (suc (suc j)) d low high = absurd (omega (arith, high))
+two_apart (suc i) zero d low high = absurd (omega (arith, low))
+two_apart (suc i) (suc j) d low high = absurd (omega (arith, low, high))
 
-    linked : All (λ (x : Life). edge_linked replacing_journal x ≡ true) (first_life 2 ∷ first_life 3 ∷ [])
-    linked zero d low = refl
-    linked (suc zero) d low = refl
-    linked (suc (suc i)) d low = absurd (omega (arith, low))
+two_linked : All (λ (x : Life). edge_linked replacing_journal x ≡ true) (first_life 2 ∷ first_life 3 ∷ [])
+two_linked zero d low = refl
+two_linked (suc zero) d low = refl
+two_linked (suc (suc i)) d low = absurd (omega (arith, low))
+
+pub two_links : length {A = Life} (first_life 2 ∷ first_life 3 ∷ []) ≤ all_made links_edge replacing_journal
+two_links = edges_are_links replacing_journal (first_life 2 ∷ first_life 3 ∷ []) two_apart two_linked
+
+pub two_few : length {A = Life} (first_life 2 ∷ first_life 3 ∷ []) ≤ 2 ^ 36
+two_few = edges_few small small_layout replacing_journal replacing_kept (first_life 2 ∷ first_life 3 ∷ []) two_apart two_linked
 
 -- a closed list
 
@@ -148,6 +157,10 @@ on_chain_40 = present_in small small_layout (before 40) (kept 40) (first_life 0)
 pub removed_42 : vertex_marked (before 42) (first_life 0) ≡ true
 unfolding machine word_at key_of
 removed_42 = over small small_layout (before 42) (kept 42) (first_life 0) 1 refl (inr refl)
+
+pub edge_linked_38 : IsLinkedEdge small (before 38) 3
+unfolding link_of
+edge_linked_38 = (present_edge small small_layout (before 38) (kept 38) (first_life 3) (links_new 3 6) refl refl).linked
 
 pub edge_of_0 : IsEdgeOf (before 38) (first_life 0) (first_life 3)
 unfolding state
@@ -205,6 +218,13 @@ stamp_47 = stamp_beyond small small_layout 0 45 2 0 (before 45) (before 47) (lon
 pub ripe_47 : IsRipe small (before 47) 0 2
 unfolding machine word_at
 ripe_47 = ripens small (before 47) (before 47) (longer 47 47 refl) 0 2 0 stamp_47 (lit≤ tt)
+
+moved_kept : IsKept small (before 47 ++ moves_epoch 3 ∷ [])
+unfolding machine word_at state
+moved_kept = kept_snoc small (before 47) (moves_epoch 3) (kept 47) (moved (before 47) 2 (lit< tt) refl (inl refl) refl refl (lit< tt))
+
+pub ripe_moved : IsRipe small (before 47 ++ moves_epoch 3 ∷ []) 0 2
+ripe_moved = ripe_beyond small small_layout 0 45 2 (before 47) (before 47 ++ moves_epoch 3 ∷ []) (record { rest = moves_epoch 3 ∷ []; whole = refl }) moved_kept (quiet_from 0 45 (before 47 ++ moves_epoch 3 ∷ []) refl) (lit≤ tt) ripe_47
 
 pub stamp_48 : IsStamped small (before 48) 0 2 0
 stamp_48 = stamp_behind small small_layout (before 47) (lives.event 47) (kept 48) 0 2 0 (λ h. absurd (cc)) stamp_47

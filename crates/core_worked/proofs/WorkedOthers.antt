@@ -1,5 +1,5 @@
 -- What other callers change on the worked journals, and what they and own unlinks leave.
-use Rattle.std.proofs.Common.{◌≡◌, ◌⊎◌, ℕ, zero, suc, ◌+◌, ◌<◌, ◌≤◌, Bool, true, false, true≢false, eq-eqb, Some, List, [], ◌∷◌, ◌++◌, take, drop, length, get_or, refl, sym, ap, ◌∙◌, inl, inr, arith, lit<, lit≤}
+use Rattle.std.proofs.Common.{◌≡◌, ◌⊎◌, ℕ, zero, suc, ◌≤◌, true, false, true≢false, eq-eqb, Some, List, [], ◌∷◌, ◌++◌, take, drop, length, get_or, refl, sym, ap, ◌∙◌, inl, inr, lit<, lit≤}
 use Rattle.std.specs.Prelude.{slice_get}
 use Rattle.packed_link.specs.Layout.{bucket_at, free_at}
 use Rattle.core_journal.specs.declared.event.Event.{Event}

@@ -1,9 +1,12 @@
 -- The laws of tokens at steps of the worked journals.
-use Rattle.std.proofs.Common.{◌≡◌, ◌≢◌, ◌⊎◌, ℕ, zero, suc, ◌+◌, ◌<◌, ◌≤◌, ◌%◌, ◌^◌, true, false, true≢false, None, Some, List, [], ◌∷◌, ◌++◌, length, take, drop, refl, sym, ap, subst, ⊎_elim, inl, inr, arith, lit<, lit≤}
+use Rattle.std.proofs.Common.{◌≡◌, ◌⊎◌, ℕ, zero, suc, ◌+◌, ◌<◌, ◌≤◌, ◌%◌, ◌^◌, true, false, None, Some, [], ◌∷◌, length, refl, sym, subst, ⊎_elim, inr, arith, lit<, lit≤, cond, ◌==◌, ap}
+use Rattle.std.proofs.lemmas.Bool.{eqb-true}
 use mathlib.Core.Option.{none, some, some-injective, some-ne-none}
 use lib.ListN.{get_elem?}
 use Rattle.atomic_table.specs.Table.{Allows, opening, step}
 use Rattle.graph_kinds.specs.History.{Every}
+use Rattle.graph_kinds.specs.declared.call.Call.TheVariants.{RemoveVertex}
+use Rattle.graph_kinds.specs.declared.outcome.Outcome.TheVariants.{Removed}
 use Rattle.packed_link.specs.Link.{mark_of, nowhere, pack, tag_of}
 use Rattle.packed_link.specs.Layout.{announce_at, bucket_at, free_at, link_at, second_at}
 use Rattle.packed_link.specs.declared.link.Life.{Life}
@@ -13,38 +16,38 @@ use Rattle.core_journal.specs.GraphOf.{present_key}
 use Rattle.core_journal.specs.Life.{edge_marked, key_of, link_of, vertex_marked}
 use Rattle.core_journal.specs.Machine.{machine, opening_words, word_at}
 use Rattle.core_journal.specs.State.{state}
-use Rattle.core_journal.specs.Worked.{first_life, small}
+use Rattle.core_journal.specs.Worked.{first_life, own, small}
 use Rattle.core_kept.specs.Counts.{made}
 use Rattle.core_kept.specs.Edges.{IsRaisedFor}
 use Rattle.core_kept.specs.Facts.{IsKeptSpent}
 use Rattle.core_kept.specs.Freezing.{IsFrozenWord, IsSpentVertex}
 use Rattle.core_kept.specs.Kept.{IsQuiet}
 use Rattle.core_kept.specs.Nodes.{IsFrozenToEnd, IsRipe, IsSpentWith, is_frozen}
-use Rattle.core_lists.specs.Chains.{KeepsList}
 use Rattle.core_lists.proofs.FrozenWordLeads.{frozen_finished, frozen_next}
 use Rattle.core_rule.specs.Fronts.{IsVertexBelow, LeadsToVertex, MayRaise, MetEdge, MetVertex}
 use Rattle.core_rule.specs.OwnEvents.{withdraw_event}
-use Rattle.core_rule.specs.Owes.{OwesStore}
-use Rattle.core_rule.specs.Plays.{IsSound, Won, drawing, storing}
+use Rattle.core_rule.specs.Owes.{Owes, OwesStore}
+use Rattle.core_rule.specs.Plays.{IsSound, Won, drawing, replied, storing, turning}
 use Rattle.core_rule.specs.Rule.{AnswersForAll, Fits, Ruled, accounts, first_view}
 use Rattle.core_rule.specs.Views.{GoesOn, IsEdgeBehind, IsEdgeIn, IsEdgeShown, IsVertexBehind, IsVertexIn, Steps}
 use Rattle.core_rule.specs.declared.view.View.{View}
 use Rattle.core_rule.proofs.FoundMarkedIsSpent.{found_at}
-use Rattle.core_rule.proofs.FrozenWordStays.{edge_frozen_word, frozen_marked, head_frozen_word}
-use Rattle.core_rule.proofs.LastToken.{accounts_quiet, closed_word, front_whole}
-use Rattle.core_rule.proofs.OwnByView.{own_end_still, own_list_still, own_made_same, own_ripe_still, own_spent_kept, own_spent_still, own_word_still}
+use Rattle.core_rule.proofs.FrozenWordStays.{edge_frozen_word, frozen_beyond, frozen_marked, head_frozen_word}
+use Rattle.core_rule.proofs.LastToken.{accounts_quiet, closed_word, front_whole, word_of_callers}
+use Rattle.core_rule.proofs.OwnByView.{own_list_still, own_end_still, own_made_same, own_ripe_still, own_spent_kept, own_spent_still, own_word_still}
 use Rattle.core_rule.proofs.OwnLifts.{lift_withdraw}
 use Rattle.core_rule.proofs.PassedKeys.{passed_edge, passed_vertex}
-use Rattle.core_rule.proofs.StepsKeepRule.{draws_number, stores}
+use Rattle.core_rule.proofs.StepsKeepRule.{draws_number, stores, turns}
+use Rattle.core_rule.proofs.UnlinkLifts.{lift_unlink_vertex}
 use Rattle.core_rule.proofs.ViewShows as shows
 use Rattle.core_rule.proofs.ViewsFit.{begins}
 use Rattle.core_worked.specs.KnownSteps.{view_at, view_beside}
-use Rattle.core_worked.specs.LawSteps.{closing_view, last_table, last_view, view_behind, view_drawing}
+use Rattle.core_worked.specs.LawSteps.{closing_table, closing_view, last_table, last_view, view_behind, view_drawing, view_joined}
 use Rattle.core_worked.specs.Beside.{beside_others}
 use Rattle.core_worked.specs.TwoLives.{two_lives}
 use Rattle.core_worked.proofs.Beside.{beside_others_kept}
 use Rattle.core_worked.proofs.KnownSteps as known
-use Rattle.core_worked.proofs.LawSteps.{answers_all, frozen, given, goes_41, keeps_44, kept, longer, met_0, met_3, numbers_counted, sound_52}
+use Rattle.core_worked.proofs.LawSteps.{answers_all, frozen, given, goes_41, keeps_44, kept, longer, met_3, numbers_counted, sound_52}
 use Rattle.core_worked.proofs.SmallSteps.{frozen_list, quiet_from, whole}
 use Rattle.core_worked.proofs.TwoLives.{before, event, ripe, two_lives_kept}
 use Rattle.core_worked.proofs.TwoLivesShown.{small_layout}
@@ -66,6 +69,23 @@ won_41 = record { grown = before 41; grows = whole (before 41); word = refl; fro
 
 pub win_41 : Steps (at 41) (Some (event 41)) (view_behind 41)
 win_41 = shows.win_steps (at 41) (bucket_at small 0) (pack 0 0 0) (event 41) (view_behind 41) refl (sound_at 41 (quiet_from 0 41 (before 41) refl) (lit≤ tt)) won_41
+
+pub store_34 : Steps (at 34) (Some (event 34)) (view_behind 34)
+store_34 = shows.store_steps (at 34) (event 34) (view_behind 34) refl (sound_at 34 (quiet_from 0 34 (before 34) refl) (lit≤ tt))
+    (record { grown = before 34; grows = whole (before 34); front = refl; quiet = quiet_from 0 34 (before 34) refl; sound = sound_at 35 (quiet_from 0 35 (before 35) refl) (lit≤ tt); view = refl })
+
+sound_45 : IsSound (at 45)
+sound_45 = sound_at 45 (quiet_from 0 45 (before 45) refl) (lit≤ tt)
+
+replied_45 : View
+replied_45 = replied (at 45) (before 45) (own (RemoveVertex 1) (Removed 0) 40 39 45)
+
+pub reply_45 : Steps (at 45) None (at 45)
+unfolding replied_45
+reply_45 = shows.reply_steps (at 45) (own (RemoveVertex 1) (Removed 0) 40 39 45) replied_45 refl sound_45 (record { grows = whole (before 45); sound = record { kept = kept 45; quiet = sound_45.quiet; old = sound_45.old; others = tt }; view = refl })
+
+pub meet_45 : Steps view_joined None view_joined
+meet_45 = shows.meet_steps view_joined (at 45) refl (record { kept = kept 45; quiet = sound_45.quiet; old = sound_45.old; others = tt }) (record { grows = whole (before 45); met = longer 20 45 refl; sound = sound_45; view = refl })
 
 pub goes_pass : GoesOn (at 41) (view_behind 41)
 goes_pass = shows.step_goes_on (at 41) (view_behind 41) (Some (event 41)) win_41 ((λ h. absurd (cc)), (λ h. absurd (cc)))
@@ -205,6 +225,19 @@ pub ripe_later : IsRipe small (before 48) 0 2
 unfolding state
 ripe_later = own_ripe_still (at 47) (view_behind 47) (Some (event 47)) small_layout given 2 (λ h. absurd (cc)) (ripe (before 47) 2 (whole (before 47)) refl refl refl refl)
 
+spent_44 : IsSpentVertex small (before 44) 0 0
+unfolding state
+spent_44 = record { spent = refl; vertex = refl; mine = refl }
+
+withdrawn_44 : Steps (at 44) (Some (event 44)) (at 45)
+withdrawn_44 = record { view = refl; grown = before 44; reaches = known.makes_withdraw.reaches; front = refl; kept = kept 45 }
+
+pub word_beyond : IsFrozenWord small (before 47) 0 (second_at small 0)
+word_beyond =
+    let l = own_list_still (at 44) (at 45) (Some (event 44)) small_layout withdrawn_44 0 ((λ h. absurd (cc)), (λ h. absurd (cc))) spent_44 keeps_44 in
+    let w = own_word_still (at 44) (at 45) (Some (event 44)) small_layout withdrawn_44 0 (second_at small 0) ((λ h. absurd (cc)), (λ h. absurd (cc))) spent_44 keeps_44 word_still in
+    (frozen_beyond small small_layout 0 45 0 (second_at small 0) (before 45) (before 47) (longer 45 47 refl) (kept 47) (quiet_from 0 45 (before 47) refl) (lit≤ tt) l.0 l.1 w.0).0
+
 pub end_later : IsFrozenToEnd small (before 48) 0
 unfolding state
 end_later = own_end_still (at 47) (view_behind 47) (Some (event 47)) small_layout given 0 (lit< tt) (λ h. absurd (cc)) (record { spent = refl; mine = refl }) (frozen_list (before 47) refl refl refl)
@@ -225,10 +258,6 @@ head_marked_behind = frozen_marked small small_layout (before 44) (kept 44) 0 ke
 
 pub head_frozen : IsFrozenWord small (before 43) 0 (second_at small 0)
 head_frozen = (head_frozen_word small (before 42) (event 42) (kept 43) refl).1
-
-spent_44 : IsSpentVertex small (before 44) 0 0
-unfolding state
-spent_44 = record { spent = refl; vertex = refl; mine = refl }
 
 pub found_spent : IsSpentWith small (before 44) 0 3
 unfolding machine word_at
@@ -251,6 +280,23 @@ withdraw_owed = record { by = refl; at = refl; no_draw = refl; writes = refl; al
 
 pub store_allowed : Allows (Ruled small) 0 0 (at 44, []) (announce_at small 0) (λ _. 0) (λ _. storing (λ _. withdraw_event (at 44)) (step 0 (announce_at small 0) 0 0 none) (at 44, []) 0)
 store_allowed = stores 0 0 (announce_at small 0) 0 0 none (at 44) (λ _. withdraw_event (at 44)) refl withdraw_owed
+
+unlink_owed : Owes (at 41) (bucket_at small 0) (λ x. cond (x == pack 0 0 0) (pack 1 0 0) x) (λ x. x == pack 0 0 0) (λ _. event 41)
+unlink_owed = record {
+  by = λ _. refl;
+  at = λ _. refl;
+  no_draw = λ _. refl;
+  lose = λ x w. ap (λ b. cond b (pack 1 0 0) x) w;
+  writes = λ journal r w. sym (ap (λ b. cond b (pack 1 0 0) (word_at small journal (bucket_at small 0))) w);
+  allowed = λ journal r w. lift_unlink_vertex (at 41) small_layout journal r (bucket_at small 0) (pack 0 0 0) 1 (first_life 0) known.may_unlink_vertex (eqb-true (word_at small journal (bucket_at small 0)) (pack 0 0 0) w);
+}
+
+pub change_allowed : Allows (Ruled small) 0 0 (at 41, []) (bucket_at small 0) (λ x. cond (x == pack 0 0 0) (pack 1 0 0) x) (turning (λ x. x == pack 0 0 0) (λ _. event 41) (step 0 (bucket_at small 0) 0 0 none) (at 41, []))
+change_allowed = turns 0 0 (bucket_at small 0) 0 0 none (at 41) (λ x. cond (x == pack 0 0 0) (pack 1 0 0) x) (λ x. x == pack 0 0 0) (λ _. event 41) refl unlink_owed
+
+pub word_closed : Ruled small closing_table → word_at small two_lives (free_at small) ≡ pack 3 0 7
+unfolding machine
+word_closed rule = sym (word_of_callers small closing_table rule 0 (free_at small) (pack 3 0 7) closing_view refl refl refl answers_all refl)
 
 fits_last : Fits small two_lives 0 (λ _. 0) 0 last_view
 unfolding state
