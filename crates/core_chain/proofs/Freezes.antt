@@ -4,7 +4,7 @@ use Rattle.packed_link.specs.Link.{nowhere}
 use Rattle.core_chain.specs.Chain.{Chain, Position, Head, Node, IsOn, IsChain, Precedes, rank_of}
 use Rattle.core_chain.specs.Steps.{SetsMark, Freezes, Untouched, IsFrozenTo}
 use Rattle.core_chain.specs.Steps.{Step, insert, mark, replace, unlink, freeze_head, freeze}
-use Rattle.core_chain.proofs.Orders.{if_same, by_order, LeadsTo, rank_of-changed, since_of-changed, before_still}
+use Rattle.core_chain.proofs.Orders.{if_same, by_order, LeadsOnChain, rank_of-changed, since_of-changed, before_still}
 use Rattle.core_chain.proofs.Marks.{IsOn-back, Keeps-marked, next-marked}
 
 -- only the head doesn't stand behind the head
@@ -17,12 +17,13 @@ pub IsFrozenTo-head : (c d : Chain) → SetsMark c d Head → IsFrozenTo d Head
 IsFrozenTo-head c d step = record { present = tt; marks = λ q on not_behind. frozen_head d step.marked q not_behind }
 
 -- the node to which a frozen part leads is on the chain
-led_on : (c : Chain) (p : Position) (x : ℕ) → IsChain c → IsFrozenTo c p → x ≢ nowhere → c.next p ≡ x → LeadsTo c p x
+led_on : (c : Chain) (p : Position) (x : ℕ) → IsChain c → IsFrozenTo c p → x ≢ nowhere → c.next p ≡ x
+    → LeadsOnChain c p x
 led_on c p x chain frozen named led =
-    subst (LeadsTo c p) led (chain.leads p frozen.present (λ none. named (sym led ∙ none)))
+    subst (LeadsOnChain c p) led (chain.leads p frozen.present (λ none. named (sym led ∙ none)))
 
 module _ (c d : Chain) (p : Position) (x : ℕ) (chain : IsChain c) (step : Freezes c d p x) where
-  there : LeadsTo c p x
+  there : LeadsOnChain c p x
   there = led_on c p x chain step.frozen step.named step.led
 
   -- what stands no further than the node is the node, or was frozen before

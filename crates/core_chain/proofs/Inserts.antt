@@ -1,15 +1,17 @@
--- A node that is put behind a word, between its neighbours, keeps the chain: it is inserted, or replaces the node of its
+-- A node that is put behind a word, between its neighbours, keeps the chain: it is inserted, or replaces the node of
+-- its
 -- key.
 use Rattle.std.proofs.Common.{◌≡◌, ◌≢◌, ℕ, ◌<◌, sym, ap, ◌∙◌, subst, arith, IsTrue, inl, inr}
 use Rattle.packed_link.specs.Link.{nowhere}
 use Rattle.core_chain.specs.Chain.{Chain, Position, Head, Node, IsOn, IsChain, Precedes, rank_of, since_of}
 use Rattle.core_chain.specs.Steps.{ChangesOnly, Inserts, Replaces, Joins, IsFrozenTo, Keeps}
-use Rattle.core_chain.proofs.Orders.{if_same, if_equal, by_order, LeadsTo, NotPast, RisesBehind, IsChain-by}
-use Rattle.core_chain.proofs.Orders.{rank_of-changed, since_of-changed, before_still, before_same, before_both, before_then}
+use Rattle.core_chain.proofs.Orders.{if_same, if_equal, by_order, LeadsOnChain, NotPast, RisesBehind, IsChain-by}
+use Rattle.core_chain.proofs.Orders.{rank_of-changed, since_of-changed, before_still, before_same, before_both}
+use Rattle.core_chain.proofs.Orders.{before_then}
 use Rattle.core_chain.proofs.Orders.{IsBelow-rank}
 
 -- a node is put behind an unmarked word: it stands behind the word, and its key is less than that of the successor
-pub record Puts (c d : Chain) (p : Position) (n : ℕ) : Type 0 where
+pub record PutsNode (c d : Chain) (p : Position) (n : ℕ) : Type 0 where
   pub present : IsOn c p
   pub unmarked : c.mark p ≡ 0
   pub named : n ≢ nowhere
@@ -22,7 +24,7 @@ pub record Puts (c d : Chain) (p : Position) (n : ℕ) : Type 0 where
   pub words : ChangesOnly c d p
   pub nodes : Joins c.on d.on n
 
-module _ (c d : Chain) (p : Position) (n : ℕ) (chain : IsChain c) (step : Puts c d p n) where
+module _ (c d : Chain) (p : Position) (n : ℕ) (chain : IsChain c) (step : PutsNode c d p n) where
   rank : (q : Position) → rank_of d q ≡ rank_of c q
   rank q = rank_of-changed c d p step.words q
 
@@ -87,21 +89,21 @@ module _ (c d : Chain) (p : Position) (n : ℕ) (chain : IsChain c) (step : Puts
   to_n : (q : Position) → q ≡ Node n → c.next p ≡ d.next q
   to_n q at = sym (step.words.next (Node n) apart ∙ step.filled) ∙ ap d.next (sym at)
 
-  leads : (q : Position) → IsOn d q → d.next q ≢ nowhere → LeadsTo d q (d.next q)
+  leads : (q : Position) → IsOn d q → d.next q ≢ nowhere → LeadsOnChain d q (d.next q)
   leads q on some =
       if_same q p (λ at.
-      subst (LeadsTo d q) (to_p q at)
+      subst (LeadsOnChain d q) (to_p q at)
       (step.nodes.joins, subst (λ (r : Position). Precedes d r (Node n)) (sym at) step.above)) (λ not_p.
       if_same q (Node n) (λ at.
       let some_p : c.next p ≢ nowhere = λ e. some (sym (to_n q at) ∙ e) in
       let next = chain.leads p step.present some_p in
-      subst (LeadsTo d q) (to_n q at) (
+      subst (LeadsOnChain d q) (to_n q at) (
         IsOn-put (Node (c.next p)) next.0,
         subst (λ (r : Position). Precedes d r (Node (c.next p))) (sym at) (inl (step.below some_p)),
       )) (λ not_n.
       let to : c.next q ≡ d.next q = sym (step.words.next q not_p) in
       let next = chain.leads q (back q on not_n) (λ e. some (sym to ∙ e)) in
-      subst (LeadsTo d q) to
+      subst (LeadsOnChain d q) to
       (IsOn-put (Node (c.next q)) next.0, forth q (Node (c.next q)) (back q on not_n) next.0 next.1)))
 
   upto : (q r : Position) → IsOn d q → IsOn d r → Precedes d q r → NotPast d r (d.next q)
@@ -151,7 +153,8 @@ module _ (c d : Chain) (p : Position) (n : ℕ) (chain : IsChain c) (step : Puts
   alone q r on_q on_r same same' =
       if_same q (Node n) (λ at.
       if_same r (Node n) (λ e. at ∙ sym e)
-      (λ ne. absurd (lone r (back r on_r ne) (sym same ∙ ap (rank_of d) at) (sym same' ∙ ap (since_of d) at)))) (λ not_n.
+      (λ ne. absurd (lone r (back r on_r ne) (sym same ∙ ap (rank_of d) at) (sym same' ∙ ap (since_of d) at))))
+      (λ not_n.
       if_same r (Node n)
       (λ e. absurd (lone q (back q on_q not_n) (same ∙ ap (rank_of d) e) (same' ∙ ap (since_of d) e)))
       (λ ne.
@@ -225,8 +228,8 @@ module _ (c d : Chain) (p : Position) (n : ℕ) (chain : IsChain c) (step : Inse
       omega arith
 
   -- a node that is inserted is put behind the word
-  pub Puts-inserted : Puts c d p n
-  Puts-inserted = record {
+  pub PutsNode-inserted : PutsNode c d p n
+  PutsNode-inserted = record {
     present = step.can.passes.present;
     unmarked = step.can.unmarked;
     named = step.can.named;
@@ -246,20 +249,20 @@ module _ (c d : Chain) (p : Position) (n : ℕ) (chain : IsChain c) (step : Inse
 
   -- what was on the chain is on it
   pub IsOn-inserted : (q : Position) → IsOn c q → IsOn d q
-  IsOn-inserted = IsOn-put c d p n chain Puts-inserted
+  IsOn-inserted = IsOn-put c d p n chain PutsNode-inserted
 
   -- the chain with the node is a chain
   pub IsChain-inserted : IsChain d
-  IsChain-inserted = IsChain-put c d p n chain Puts-inserted
+  IsChain-inserted = IsChain-put c d p n chain PutsNode-inserted
 
   -- inserting takes nothing back
   pub Keeps-inserted : Keeps c d
-  Keeps-inserted = Keeps-put c d p n chain Puts-inserted
+  Keeps-inserted = Keeps-put c d p n chain PutsNode-inserted
 
 module _ (c d : Chain) (x n : ℕ) (chain : IsChain c) (step : Replaces c d x n) where
   -- a node that replaces another is put behind it
-  pub Puts-replaced : Puts c d (Node x) n
-  Puts-replaced =
+  pub PutsNode-replaced : PutsNode c d (Node x) n
+  PutsNode-replaced =
       let change = step.words in
       let same : rank_of d (Node x) ≡ rank_of d (Node n) =
       let a = change.key x in let b = change.key n in let e = step.can.key in omega arith in
@@ -284,12 +287,12 @@ module _ (c d : Chain) (x n : ℕ) (chain : IsChain c) (step : Replaces c d x n)
 
   -- what was on the chain is on it
   pub IsOn-replaced : (q : Position) → IsOn c q → IsOn d q
-  IsOn-replaced = IsOn-put c d (Node x) n chain Puts-replaced
+  IsOn-replaced = IsOn-put c d (Node x) n chain PutsNode-replaced
 
   -- the chain with both nodes is a chain
   pub IsChain-replaced : IsChain d
-  IsChain-replaced = IsChain-put c d (Node x) n chain Puts-replaced
+  IsChain-replaced = IsChain-put c d (Node x) n chain PutsNode-replaced
 
   -- replacing takes nothing back
   pub Keeps-replaced : Keeps c d
-  Keeps-replaced = Keeps-put c d (Node x) n chain Puts-replaced
+  Keeps-replaced = Keeps-put c d (Node x) n chain PutsNode-replaced

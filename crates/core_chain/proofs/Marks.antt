@@ -3,7 +3,7 @@ use Rattle.std.proofs.Common.{◌≡◌, ◌≢◌, ℕ, ◌+◌, refl, sym, ap,
 use Rattle.packed_link.specs.Link.{nowhere}
 use Rattle.core_chain.specs.Chain.{Chain, Position, Head, Node, IsOn, IsChain, Precedes, rank_of, since_of}
 use Rattle.core_chain.specs.Steps.{SetsMark, Untouched, IsFrozenTo, Keeps}
-use Rattle.core_chain.proofs.Orders.{if_same, LeadsTo, NotPast, RisesBehind, IsChain-by, before_still}
+use Rattle.core_chain.proofs.Orders.{if_same, LeadsOnChain, NotPast, RisesBehind, IsChain-by, before_still}
 
 -- what is on the one chain is on the other
 pub IsOn-back : (c d : Chain) → ((x : ℕ) → d.on x ≡ c.on x) → (q : Position) → IsOn d q → IsOn c q
@@ -36,11 +36,11 @@ module _ (c d : Chain) (chain : IsChain c) (stays : (x : ℕ) → d.on x ≡ c.o
   still q r on_q on_r before =
       before_still d c q r (sym (rank q on_q)) (sym (rank r on_r)) (sym (since q on_q)) (sym (since r on_r)) before
 
-  leads : (q : Position) → IsOn d q → d.next q ≢ nowhere → LeadsTo d q (d.next q)
+  leads : (q : Position) → IsOn d q → d.next q ≢ nowhere → LeadsOnChain d q (d.next q)
   leads q on some =
       let to : c.next q ≡ d.next q = sym (links q (back q on)) in
       let next = chain.leads q (back q on) (λ e. some (sym to ∙ e)) in
-      subst (LeadsTo d q) to (forth (Node (c.next q)) next.0, later q (Node (c.next q)) (back q on) next.0 next.1)
+      subst (LeadsOnChain d q) to (forth (Node (c.next q)) next.0, later q (Node (c.next q)) (back q on) next.0 next.1)
 
   upto : (q r : Position) → IsOn d q → IsOn d r → Precedes d q r → NotPast d r (d.next q)
   upto q r on_q on_r before =
@@ -126,6 +126,7 @@ module _ (c d : Chain) (p : Position) (chain : IsChain c) (step : SetsMark c d p
   Keeps-marked = record {
     marks = marks;
     links = λ q marked. next-marked c d p step q;
-    frozen = IsFrozenTo-same c d chain step.nodes (λ x on. step.words.key x) step.words.since (λ q on. next-marked c d p step q)
+    frozen = IsFrozenTo-same c d chain step.nodes (λ x on. step.words.key x) step.words.since
+        (λ q on. next-marked c d p step q)
         (λ q on old. marks q old);
   }

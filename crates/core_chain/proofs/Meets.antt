@@ -6,7 +6,7 @@ use Rattle.std.proofs.lemmas.List.Elements.{Contains-get_or}
 use Rattle.packed_link.specs.Link.{nowhere}
 use Rattle.core_chain.specs.Chain.{Chain, Position, Head, Node, IsOn, IsChain, Precedes, rank_of, since_of}
 use Rattle.core_chain.specs.Met.{MeetsFrom, RisesAlong, RisesUnmarked, IsMet}
-use Rattle.core_chain.proofs.Orders.{if_equal, by_order, LeadsTo, NotPast, RisesBehind, IsChain-by}
+use Rattle.core_chain.proofs.Orders.{if_equal, by_order, LeadsOnChain, NotPast, RisesBehind, IsChain-by}
 use Rattle.core_chain.proofs.Orders.{before_same, before_both, before_then}
 
 -- nothing is in no list
@@ -31,7 +31,8 @@ by_place : {P : Type 0} (x y : ℕ) (xs : List ℕ) → Contains (y ∷ xs) x �
 by_place x y xs at first later = ⊎_elim first later (Contains-cases x y xs at)
 
 -- each of the nodes stands behind the word
-Rises-behind : (c : Chain) (p : Position) (xs : List ℕ) (x : ℕ) → RisesAlong c p xs → Contains xs x → Precedes c p (Node x)
+Rises-behind : (c : Chain) (p : Position) (xs : List ℕ) (x : ℕ) → RisesAlong c p xs → Contains xs x → Precedes c p
+    (Node x)
 Rises-behind c p [] x rising at = absurd (Contains-none x at)
 Rises-behind c p (y ∷ ys) x rising at =
     by_place x y ys at (λ e. subst (λ (z : ℕ). Precedes c p (Node z)) e rising.0)
@@ -54,7 +55,7 @@ Rises-once c p (y ∷ ys) rising (suc i) (suc j) d low high =
 
 -- the nodes are those on the chain that stand behind the word
 abbrev pub AreBehind : Chain → Position → List ℕ → Type 0
-AreBehind c p xs = (x : ℕ) → LeadsTo c p x ↔ Contains xs x
+AreBehind c p xs = (x : ℕ) → LeadsOnChain c p x ↔ Contains xs x
 
 -- what is met from a word of a chain rises, is on it, and is all that stands behind the word
 pub met_behind : (c : Chain) (p : Position) (xs : List ℕ)
@@ -63,7 +64,7 @@ met_behind c p [] chain on none =
     (tt, λ x. (λ h. absurd (chain.last p (Node x) on h.0 h.1 none), λ at. absurd (Contains-none x at)))
 met_behind c p (y ∷ ys) chain on met =
     let some : c.next p ≢ nowhere = λ e. met.1 (sym met.0 ∙ e) in
-    let first : LeadsTo c p y = subst (LeadsTo c p) met.0 (chain.leads p on some) in
+    let first : LeadsOnChain c p y = subst (LeadsOnChain c p) met.0 (chain.leads p on some) in
     let rest = met_behind c (Node y) ys chain first.0 met.2 in (
       (first.1, rest.0),
       λ x. (
@@ -72,7 +73,7 @@ met_behind c p (y ∷ ys) chain on met =
             (λ low. Contains-later x y ys ((rest.1 x).0 (h.0, low)))
             (λ high. absurd (chain.gap p (Node x) on h.0 h.1
             (subst (λ (z : ℕ). Precedes c (Node x) (Node z)) (sym met.0) high))),
-        λ at. by_place x y ys at (λ e. subst (LeadsTo c p) e first)
+        λ at. by_place x y ys at (λ e. subst (LeadsOnChain c p) e first)
             (λ later. let g = (rest.1 x).1 later in (g.0, before_then c p (Node y) (Node x) first.1 g.1)),
       ),
     )
@@ -149,7 +150,8 @@ rises_by a s b t last before within =
 -- a later word has a greater number
 score-rises : (c : Chain) (last : ℕ) (p q : Position)
     → Precedes c p q → since_of c p ≤ last → score c last p < score c last q
-score-rises c last p q before within = rises_by (rank_of c p) (since_of c p) (rank_of c q) (since_of c q) last before within
+score-rises c last p q before within = rises_by (rank_of c p) (since_of c p) (rank_of c q)
+    (since_of c q) last before within
 
 score-bound : (c : Chain) (bound last : ℕ) (p : Position)
     → IsWithin c bound last → IsOn c p → score c last p ≤ (bound + 1) * (last + 1) + last
@@ -197,7 +199,8 @@ first_led c p [] met rising some = absurd (some met)
 first_led c p (y ∷ ys) met rising some = subst (LedAmong c p (y ∷ ys)) (sym met.0) (Contains-here y y ys refl, rising.0)
 
 led : (c : Chain) (p : Position) (xs : List ℕ) (x : ℕ)
-    → MeetsFrom c p xs → RisesAlong c p xs → Contains xs x → c.next (Node x) ≢ nowhere → LedAmong c (Node x) xs (c.next (Node x))
+    → MeetsFrom c p xs → RisesAlong c p xs → Contains xs x → c.next (Node x) ≢ nowhere → LedAmong c (Node x) xs
+    (c.next (Node x))
 led c p [] x met rising at some = absurd (Contains-none x at)
 led c p (y ∷ ys) x met rising at some =
     by_place x y ys at (λ e.
@@ -223,7 +226,8 @@ met_gap c p [] x y met rising at to before = absurd (Contains-none x at)
 met_gap c p (z ∷ zs) x y met rising at to before =
     by_place x z zs at (λ e.
     let P : ℕ → Type 0 = λ w. NotPast c (Node y) (c.next (Node w)) in
-    let later = by_place y z zs to (λ e'. absurd (before_same c (Node x) (Node y) before (ap Node (sym e ∙ e')))) (λ h. h) in
+    let later = by_place y z zs to (λ e'. absurd (before_same c (Node x) (Node y) before (ap Node (sym e ∙ e'))))
+    (λ h. h) in
     subst P e (first_gap c (Node z) zs y met.2 rising.1 later)) (λ at'.
     let a = first_least c p z zs x rising at' in
     let later =
@@ -265,7 +269,7 @@ rises_among c p (y ∷ ys) x met rising at some =
     (λ later. rises_among c (Node y) ys x met.2 rising.1 later some)
 
 module _ (c : Chain) (xs : List ℕ) (met : IsMet c xs) where
-  met_leads : (p : Position) → IsOn c p → c.next p ≢ nowhere → LeadsTo c p (c.next p)
+  met_leads : (p : Position) → IsOn c p → c.next p ≢ nowhere → LeadsOnChain c p (c.next p)
   met_leads Head on some =
       let h = first_led c Head xs met.met met.rising some in ((met.exactly (c.next Head)).1 h.0, h.1)
   met_leads (Node x) on some =

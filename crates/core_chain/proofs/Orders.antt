@@ -50,8 +50,8 @@ pub before_then : (c : Chain) (p q r : Position) → Precedes c p q → Precedes
 before_then c p q r before then = grind arith
 
 -- a word that leads to a node leads to one on the chain, behind itself
-abbrev pub LeadsTo : Chain → Position → ℕ → Type 0
-LeadsTo c p x = IsOn c (Node x) × Precedes c p (Node x)
+abbrev pub LeadsOnChain : Chain → Position → ℕ → Type 0
+LeadsOnChain c p x = IsOn c (Node x) × Precedes c p (Node x)
 
 -- a word that leads to a node leads no further than another word
 abbrev pub NotPast : Chain → Position → ℕ → Type 0
@@ -63,7 +63,7 @@ RisesBehind c p x = c.mark p ≡ 0 → rank_of c p < rank_of c (Node x)
 
 -- a chain, by what its words lead to
 pub IsChain-by : (c : Chain) → ((x : ℕ) → IsOn c (Node x) → x ≢ nowhere)
-    → ((p : Position) → IsOn c p → c.next p ≢ nowhere → LeadsTo c p (c.next p))
+    → ((p : Position) → IsOn c p → c.next p ≢ nowhere → LeadsOnChain c p (c.next p))
     → ((p q : Position) → IsOn c p → IsOn c q → Precedes c p q → NotPast c q (c.next p))
     → ((p q : Position) → IsOn c p → IsOn c q → rank_of c p ≡ rank_of c q → since_of c p ≡ since_of c q → p ≡ q)
     → ((p : Position) → IsOn c p → c.next p ≢ nowhere → RisesBehind c p (c.next p)) → IsChain c

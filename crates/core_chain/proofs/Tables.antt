@@ -3,7 +3,7 @@ use Rattle.std.proofs.Common.{◌≡◌, ℕ, ◌<◌, ◌^◌, Bool, IsTrue, ap
 use Rattle.packed_link.specs.Link.{pack, index_of, mark_of, with_mark}
 use Rattle.packed_link.proofs.Links.{index_of-pack, mark_of-pack, mark_of-with_mark, index_of-with_mark, index_of-bound}
 use Rattle.core_chain.specs.Chain.{Chain, Position, Node}
-use Rattle.core_chain.specs.Steps.{ChangesOnly, Joins, Leaves, CanInsert, Inserts, CanReplace, Replaces}
+use Rattle.core_chain.specs.Steps.{ChangesOnly, Joins, Departs, CanInsert, Inserts, CanReplace, Replaces}
 use Rattle.core_chain.specs.Steps.{SetsMark, CanUnlink, Unlinks, Untouched}
 use Rattle.core_chain.specs.Table.{Places, chain_in, WritesWord, StandsAlone, StandsElsewhere}
 
@@ -64,9 +64,10 @@ module _ (old new : ℕ → ℕ) (places : Places) (on on' : ℕ → Bool) (sinc
   }
 
   -- an unmarked link to the successor of a node that may be unlinked unlinks it
-  pub Unlinks-in : (at : Position) (node tag : ℕ) → StandsAlone places at → CanUnlink (chain_in old places on since) at node
+  pub Unlinks-in : (at : Position) (node tag : ℕ) → StandsAlone places at → CanUnlink
+      (chain_in old places on since) at node
       → WritesWord old new (places.word_at at) (pack (index_of (old (places.word_at (Node node)))) 0 tag)
-      → Leaves on on' node → Unlinks (chain_in old places on since) (chain_in new places on' since') at node
+      → Departs on on' node → Unlinks (chain_in old places on since) (chain_in new places on' since') at node
   Unlinks-in at node tag alone can writes leaves =
       let word : ℕ = old (places.word_at (Node node)) in
       let small = index_of-bound word in

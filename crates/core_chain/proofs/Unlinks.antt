@@ -3,8 +3,9 @@ use Rattle.std.proofs.Common.{◌≡◌, ◌≢◌, ℕ, sym, ap, ◌∙◌, sub
 use Rattle.packed_link.specs.Link.{nowhere}
 use Rattle.core_chain.specs.Chain.{Chain, Position, Head, Node, IsOn, IsChain, Precedes, rank_of, since_of}
 use Rattle.core_chain.specs.Steps.{Unlinks, IsFrozenTo, Keeps}
-use Rattle.core_chain.proofs.Orders.{if_same, by_order, LeadsTo, NotPast, RisesBehind, IsChain-by}
-use Rattle.core_chain.proofs.Orders.{rank_of-changed, since_of-changed, before_still, before_same, before_both, before_then}
+use Rattle.core_chain.proofs.Orders.{if_same, by_order, LeadsOnChain, NotPast, RisesBehind, IsChain-by}
+use Rattle.core_chain.proofs.Orders.{rank_of-changed, since_of-changed, before_still, before_same, before_both}
+use Rattle.core_chain.proofs.Orders.{before_then}
 use Rattle.core_chain.proofs.Orders.{one_leads, rises_behind}
 
 module _ (c d : Chain) (p : Position) (x : ℕ) (chain : IsChain c) (step : Unlinks c d p x) where
@@ -25,10 +26,10 @@ module _ (c d : Chain) (p : Position) (x : ℕ) (chain : IsChain c) (step : Unli
   back : (q : Position) → IsOn d q → IsOn c q
   back Head on = tt
   back (Node y) on =
-      sym (step.nodes.others y (λ e. step.nodes.leaves (subst (λ (z : ℕ). IsTrue (d.on z)) e on))) ∙ on
+      sym (step.nodes.others y (λ e. step.nodes.departs (subst (λ (z : ℕ). IsTrue (d.on z)) e on))) ∙ on
 
   gone : (q : Position) → IsOn d q → q ≢ Node x
-  gone q on e = step.nodes.leaves (subst (IsOn d) e on)
+  gone q on e = step.nodes.departs (subst (IsOn d) e on)
 
   -- what was on the chain is on it, but for the unlinked node
   pub IsOn-unlinked : (q : Position) → IsOn c q → q ≢ Node x → IsOn d q
@@ -39,8 +40,8 @@ module _ (c d : Chain) (p : Position) (x : ℕ) (chain : IsChain c) (step : Unli
   some none = step.can.named (sym step.can.led ∙ none)
 
   -- the node was on the chain, behind its predecessor
-  present : LeadsTo c p x
-  present = subst (LeadsTo c p) step.can.led (chain.leads p step.can.present some)
+  present : LeadsOnChain c p x
+  present = subst (LeadsOnChain c p) step.can.led (chain.leads p step.can.present some)
 
   -- what stands behind the predecessor stands behind the unlinked node
   behind : (r : Position) → IsOn d r → Precedes c p r → Precedes c (Node x) r
@@ -50,7 +51,7 @@ module _ (c d : Chain) (p : Position) (x : ℕ) (chain : IsChain c) (step : Unli
       (subst (λ (y : ℕ). Precedes c r (Node y)) (sym step.can.led) high)))
 
   -- the node's successor is on the chain
-  successor : c.next (Node x) ≢ nowhere → LeadsTo c (Node x) (c.next (Node x)) × IsOn d (Node (c.next (Node x)))
+  successor : c.next (Node x) ≢ nowhere → LeadsOnChain c (Node x) (c.next (Node x)) × IsOn d (Node (c.next (Node x)))
   successor some_x =
       let next = chain.leads (Node x) present.0 some_x in
       let ne : Node (c.next (Node x)) ≢ Node x = λ same.
@@ -61,12 +62,12 @@ module _ (c d : Chain) (p : Position) (x : ℕ) (chain : IsChain c) (step : Unli
   to_p : (q : Position) → q ≡ p → c.next (Node x) ≡ d.next q
   to_p q at = sym step.leads ∙ ap d.next (sym at)
 
-  leads : (q : Position) → IsOn d q → d.next q ≢ nowhere → LeadsTo d q (d.next q)
+  leads : (q : Position) → IsOn d q → d.next q ≢ nowhere → LeadsOnChain d q (d.next q)
   leads q on leads_on =
       if_same q p (λ at.
       let next = successor (λ e. leads_on (sym (to_p q at) ∙ e)) in
       let y : ℕ = c.next (Node x) in
-      subst (LeadsTo d q) (to_p q at) (
+      subst (LeadsOnChain d q) (to_p q at) (
         next.1,
         subst (λ (r : Position). Precedes d r (Node y)) (sym at)
             (forth p (Node y) step.can.present next.0.0 (before_then c p (Node x) (Node y) present.1 next.0.1)),
@@ -77,7 +78,7 @@ module _ (c d : Chain) (p : Position) (x : ℕ) (chain : IsChain c) (step : Unli
       let ne : Node (c.next q) ≢ Node x = λ same.
       let same' : c.next q ≡ x = (cc) in
       not_p (one_leads c q p chain (back q on) step.can.present some_q (same' ∙ sym step.can.led)) in
-      subst (LeadsTo d q) to
+      subst (LeadsOnChain d q) to
       (IsOn-unlinked (Node (c.next q)) next.0 ne, forth q (Node (c.next q)) (back q on) next.0 next.1))
 
   upto : (q r : Position) → IsOn d q → IsOn d r → Precedes d q r → NotPast d r (d.next q)

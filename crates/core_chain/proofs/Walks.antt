@@ -7,7 +7,7 @@ use Rattle.packed_link.specs.Link.{nowhere}
 use Rattle.core_chain.specs.Chain.{Chain, Position, Head, Node, IsOn, IsChain, Precedes, rank_of, since_of}
 use Rattle.core_chain.specs.Met.{MeetsFrom}
 use Rattle.core_chain.specs.Walk.{StandsBelow, Passes, stands_behind, rest_behind}
-use Rattle.core_chain.proofs.Orders.{IsBelow-precedes, Precedes-below, LeadsTo, NotPast, RisesBehind, IsChain-by}
+use Rattle.core_chain.proofs.Orders.{IsBelow-precedes, Precedes-below, LeadsOnChain, NotPast, RisesBehind, IsChain-by}
 use Rattle.core_chain.proofs.Orders.{by_order, before_then, rises_behind}
 use Rattle.core_chain.proofs.Meets.{met_behind, leader, IsMet-from_chain}
 
@@ -33,7 +33,8 @@ all_behind c p xs x chain on met =
     let both = (met_behind c p xs chain on met).1 x in (λ at. both.1 at, λ h. both.0 h)
 
 -- behind an unmarked word, these are the nodes of greater keys
-pub all_greater : (c : Chain) (p : Position) (xs : List ℕ) (x : ℕ) → IsChain c → IsOn c p → c.mark p ≡ 0 → MeetsFrom c p xs
+pub all_greater : (c : Chain) (p : Position) (xs : List ℕ) (x : ℕ) → IsChain c → IsOn c p → c.mark p ≡ 0
+    → MeetsFrom c p xs
     → Contains xs x ↔ (IsOn c (Node x) × StandsBelow c p (c.key x))
 all_greater c p xs x chain on unmarked met =
     let both = (met_behind c p xs chain on met).1 x in (
@@ -64,7 +65,7 @@ module _ (c : Chain) (p : Position) (chain : IsChain c) (on_p : IsOn c p) where
   behind_test q after = grind (arith, nat_tests)
 
   -- a node of the rest is on the chain, behind the word
-  whole : (x : ℕ) → IsOn (rest_behind c p) (Node x) → LeadsTo c p x
+  whole : (x : ℕ) → IsOn (rest_behind c p) (Node x) → LeadsOnChain c p x
   whole x on =
       let both = and_parts (c.on x) (stands_behind c p (Node x)) on in
       (both.0, behind_true (Node x) both.1)
@@ -74,7 +75,7 @@ module _ (c : Chain) (p : Position) (chain : IsChain c) (on_p : IsOn c p) where
   part x on after = and_from (c.on x) (stands_behind c p (Node x)) on (behind_test (Node x) after)
 
   leads : (q : Position) → IsOn (rest_behind c p) q → (rest_behind c p).next q ≢ nowhere
-      → LeadsTo (rest_behind c p) q ((rest_behind c p).next q)
+      → LeadsOnChain (rest_behind c p) q ((rest_behind c p).next q)
   leads Head on some = let to = chain.leads p on_p some in (part (c.next p) to.0 to.1, inl (omega arith))
   leads (Node x) on some =
       let at = whole x on in
@@ -98,7 +99,8 @@ module _ (c : Chain) (p : Position) (chain : IsChain c) (on_p : IsOn c p) where
   alone Head Head on_q on_r same same' = refl
   alone Head (Node y) on_q on_r same same' = absurd (omega arith)
   alone (Node x) Head on_q on_r same same' = absurd (omega arith)
-  alone (Node x) (Node y) on_q on_r same same' = chain.alone (Node x) (Node y) (whole x on_q).0 (whole y on_r).0 same same'
+  alone (Node x) (Node y) on_q on_r same same' = chain.alone (Node x) (Node y) (whole x on_q).0
+      (whole y on_r).0 same same'
 
   rises : (q : Position) → IsOn (rest_behind c p) q → (rest_behind c p).next q ≢ nowhere
       → RisesBehind (rest_behind c p) q ((rest_behind c p).next q)

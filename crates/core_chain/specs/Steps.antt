@@ -16,9 +16,9 @@ pub record Joins (old new : ℕ → Bool) (node : ℕ) : Type 0 where
   pub joins : IsTrue (new node)
   pub others : (x : ℕ) → x ≢ node → new x ≡ old x
 
--- one node leaves those on a chain, and every other stays as it is
-pub record Leaves (old new : ℕ → Bool) (node : ℕ) : Type 0 where
-  pub leaves : IsTrue (new node) → ⊥
+-- one node departs from those on a chain, and every other stays as it is
+pub record Departs (old new : ℕ → Bool) (node : ℕ) : Type 0 where
+  pub departs : IsTrue (new node) → ⊥
   pub others : (x : ℕ) → x ≢ node → new x ≡ old x
 
 -- a word may be made to lead to a node: it is on the chain and unmarked, and leads past the node's key; the node
@@ -83,7 +83,7 @@ pub record Unlinks (old new : Chain) (at : Position) (node : ℕ) : Type 0 where
   pub leads : new.next at ≡ old.next (Node node)
   pub unmarked : new.mark at ≡ 0
   pub words : ChangesOnly old new at
-  pub nodes : Leaves old.on new.on node
+  pub nodes : Departs old.on new.on node
 
 -- each word from the head up to this one is marked
 pub record IsFrozenTo (chain : Chain) (end : Position) : Type 0 where

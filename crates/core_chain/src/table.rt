@@ -5,7 +5,7 @@
 ghost use Rattle.std.specs.Prelude.{◌≡◌, ℕ, ◌<◌, ◌^◌, Bool};
 ghost use Rattle.packed_link.specs.Link.{index_of, pack, with_mark};
 ghost use Rattle.core_chain.specs.Chain.{Node, Position};
-ghost use Rattle.core_chain.specs.Steps.{CanInsert, CanUnlink, Inserts, Joins, Leaves, CanReplace, Replaces, SetsMark};
+ghost use Rattle.core_chain.specs.Steps.{CanInsert, CanUnlink, Inserts, Joins, Departs, CanReplace, Replaces, SetsMark};
 ghost use Rattle.core_chain.specs.Steps.{Unlinks};
 ghost use Rattle.core_chain.specs.Steps.{Untouched};
 ghost use Rattle.core_chain.specs.Table.{KeepsSince, Places, StandsAlone, StandsElsewhere, WritesWord, chain_in};
@@ -35,7 +35,7 @@ pub fn one_write_is_one_step()
         (at : Position) (node tag : ℕ)
         → KeepsSince on since since_then → StandsAlone places at → CanUnlink (chain_in old places on since) at node
         → WritesWord old new (places.word_at at) (pack (index_of (old (places.word_at (Node node)))) 0 tag)
-        → Leaves on on_then node
+        → Departs on on_then node
         → Unlinks (chain_in old places on since) (chain_in new places on_then since_then) at node }
 {}
 

@@ -1,5 +1,6 @@
 -- Where each node is a key or a pair of the graph, and where none is free.
-use Rattle.std.proofs.Common.{◌≡◌, ◌≢◌, ◌⊎◌, ℕ, zero, suc, ◌+◌, ◌<◌, ◌≤◌, Bool, true, false, cond, not, ◌&&◌, List, [], ◌∷◌, refl, sym, ap, ap₂, ◌∙◌, subst, arith, inl, inr, ⊎_elim}
+use Rattle.std.proofs.Common.{◌≡◌, ◌≢◌, ◌⊎◌, ℕ, zero, suc, ◌+◌, ◌<◌, ◌≤◌, Bool, true, false, cond, not, ◌&&◌, List, []}
+use Rattle.std.proofs.Common.{◌∷◌, refl, sym, ap, ap₂, ◌∙◌, subst, arith, inl, inr, ⊎_elim}
 use Rattle.std.specs.Prelude.{Contains}
 use Rattle.std.proofs.lemmas.Bool.{and_parts}
 use mathlib.Core.Logic.{dite}
@@ -33,14 +34,18 @@ module _ (sizes : Sizes) (z : IsLayout sizes) (journal : List Event) (kept : IsK
   empty_none n x t m =
       let f = free_list sizes z journal kept in
       let on = f.all x t (ap is_free m) in
-      let leads : Leads sizes.nodes (pool_in sizes journal).link nowhere (state sizes journal).free = subst (λ (i : ℕ). Leads sizes.nodes (pool_in sizes journal).link i (state sizes journal).free) n.empty f.leads in
-      let none : (state sizes journal).free ≡ [] = none_listed sizes.nodes (pool_in sizes journal).link (state sizes journal).free (few_nodes sizes z) leads in
+      let leads : Leads sizes.nodes (pool_in sizes journal).link nowhere (state sizes journal).free = subst
+      (λ (i : ℕ). Leads sizes.nodes (pool_in sizes journal).link i (state sizes journal).free) n.empty f.leads in
+      let none : (state sizes journal).free ≡ [] = none_listed sizes.nodes (pool_in sizes journal).link
+      (state sizes journal).free (few_nodes sizes z) leads in
       none_contained x (subst (λ (xs : List ℕ). Contains xs x) none on)
 
   pub none_empty : ((x : ℕ) → x < sizes.nodes → (node_in sizes journal x).mode ≢ Free) → NoneFree sizes journal
   none_empty h = record {
     empty = ⊎_elim (λ (e : index_of (word_at sizes journal (free_at sizes)) ≡ nowhere). e)
-        (λ (t : index_of (word_at sizes journal (free_at sizes)) < sizes.nodes). absurd (h (index_of (word_at sizes journal (free_at sizes))) t (first_is_free sizes z journal kept (index_of (word_at sizes journal (free_at sizes))) t refl)))
+        (λ (t : index_of (word_at sizes journal (free_at sizes)) < sizes.nodes). absurd
+        (h (index_of (word_at sizes journal (free_at sizes))) t
+        (first_is_free sizes z journal kept (index_of (word_at sizes journal (free_at sizes))) t refl)))
         (first_leads sizes z journal kept);
   }
 
@@ -68,12 +73,14 @@ module _ (f g : ℕ → Bool) (apart : (x : ℕ) → f x ≡ true → g x ≡ fa
       (λ (t : g n ≡ true). no (f n) (g n) t (one_each n) rest)
       (h n (omega arith))
     where
-      yes : (a b : Bool) → a ≡ true → b ≡ false → count f n + count g n ≡ n → (cond a 1 0 + count f n) + (cond b 1 0 + count g n) ≡ suc n
+      yes : (a b : Bool) → a ≡ true → b ≡ false → count f n + count g n ≡ n → (cond a 1 0 + count f n) +
+          (cond b 1 0 + count g n) ≡ suc n
       yes true false t u r = omega (arith, r)
       yes true true t u r = absurd (cc)
       yes false b t u r = absurd (cc)
 
-      no : (a b : Bool) → b ≡ true → cond a 1 0 + cond b 1 0 ≤ 1 → count f n + count g n ≡ n → (cond a 1 0 + count f n) + (cond b 1 0 + count g n) ≡ suc n
+      no : (a b : Bool) → b ≡ true → cond a 1 0 + cond b 1 0 ≤ 1 → count f n + count g n ≡ n →
+          (cond a 1 0 + count f n) + (cond b 1 0 + count g n) ≡ suc n
       no true true t u r = absurd (omega (arith, u))
       no false true t u r = omega (arith, r)
       no a false t u r = absurd (cc)
@@ -81,7 +88,8 @@ module _ (f g : ℕ → Bool) (apart : (x : ℕ) → f x ≡ true → g x ≡ fa
   each_both : (n : ℕ) → count f n + count g n ≡ n → (x : ℕ) → x < n → (f x ≡ true) ⊎ (g x ≡ true)
   each_both zero h x low = absurd (omega (arith, low))
   each_both (suc n) h x low = dite (ℕ_discrete x n)
-      (λ same. subst (λ (y : ℕ). (f y ≡ true) ⊎ (g y ≡ true)) (sym same) (by (f n) (g n) (let a = few_both n in omega (arith, h, a))))
+      (λ same. subst (λ (y : ℕ). (f y ≡ true) ⊎ (g y ≡ true)) (sym same)
+      (by (f n) (g n) (let a = few_both n in omega (arith, h, a))))
       (λ ne. each_both n (omega (arith, h, one_each n, few_both n)) x (omega (arith, low, ne)))
     where
       by : (a b : Bool) → 1 ≤ cond a 1 0 + cond b 1 0 → (a ≡ true) ⊎ (b ≡ true)
@@ -120,7 +128,8 @@ module _ (sizes : Sizes) (z : IsLayout sizes) (journal : List Event) (kept : IsK
   a_node : IsAllGraph sizes journal → (x : ℕ) → x < sizes.nodes → (key_test x ≡ true) ⊎ (pair_test x ≡ true)
   a_node g x t = by (s.node x).mode refl (s.node x).vertex refl (g.marked x t)
     where
-      both : (m : Mode) (v d c e : Bool) → m ≡ Linked → v ≡ false → d ≡ false → c ≡ true → e ≡ true → ((is_linked m && (not v && not d)) && (c && e)) ≡ true
+      both : (m : Mode) (v d c e : Bool) → m ≡ Linked → v ≡ false → d ≡ false → c ≡ true → e ≡ true →
+          ((is_linked m && (not v && not d)) && (c && e)) ≡ true
       both Linked false false true true a b f c e = refl
       both Linked false false true false a b f c e = absurd (cc)
       both Linked false false false h a b f c e = absurd (cc)
@@ -131,14 +140,17 @@ module _ (sizes : Sizes) (z : IsLayout sizes) (journal : List Event) (kept : IsK
       flags : (m : Mode) (v d : Bool) → m ≡ Linked → v ≡ true → d ≡ false → (is_linked m && (v && not d)) ≡ true
       flags m v d a b c = ap₂ (λ (p : Mode) (q : Bool). is_linked p && (q && not d)) a b ∙ ap not c
 
-      by : (m : Mode) → (s.node x).mode ≡ m → (v : Bool) → (s.node x).vertex ≡ v → (s.node x).marked ≡ false → (key_test x ≡ true) ⊎ (pair_test x ≡ true)
+      by : (m : Mode) → (s.node x).mode ≡ m → (v : Bool) → (s.node x).vertex ≡ v → (s.node x).marked ≡ false →
+          (key_test x ≡ true) ⊎ (pair_test x ≡ true)
       by Free m v e d = absurd (g.free x t m)
       by Fresh m v e d = absurd (g.fresh x t m)
       by Spent m v e d = absurd (g.spent x t m)
       by Linked m true e d = inl (flags (s.node x).mode (s.node x).vertex (s.node x).marked m e d)
-      by Linked m false e d = inr (both (s.node x).mode (s.node x).vertex (s.node x).marked _ _ m e d (g.source x t e) (g.target x t e))
+      by Linked m false e d = inr (both (s.node x).mode (s.node x).vertex (s.node x).marked _ _ m e d (g.source x t e)
+          (g.target x t e))
 
-  pub all_counted : IsAllGraph sizes journal → key_count (graph_of journal) + pair_count (graph_of journal) ≡ sizes.nodes
+  pub all_counted : IsAllGraph sizes journal → key_count (graph_of journal) + pair_count
+      (graph_of journal) ≡ sizes.nodes
   all_counted g =
       let k = keys_are sizes z journal kept in
       let p = pairs_are sizes z journal kept in
@@ -146,14 +158,16 @@ module _ (sizes : Sizes) (z : IsLayout sizes) (journal : List Event) (kept : IsK
       omega (arith, k, p, h)
 
   -- each node is one of the graph
-  pub each_all : ((x : ℕ) → x < sizes.nodes → (key_test x ≡ true) ⊎ (pair_test x ≡ true)) → key_count (graph_of journal) + pair_count (graph_of journal) ≡ sizes.nodes
+  pub each_all : ((x : ℕ) → x < sizes.nodes → (key_test x ≡ true) ⊎ (pair_test x ≡ true)) → key_count
+      (graph_of journal) + pair_count (graph_of journal) ≡ sizes.nodes
   each_all each =
       let k = keys_are sizes z journal kept in
       let p = pairs_are sizes z journal kept in
       let h = all_both key_test pair_test (λ x. key_no_pair s (s.node x)) sizes.nodes each in
       omega (arith, k, p, h)
 
-  each_counted : key_count (graph_of journal) + pair_count (graph_of journal) ≡ sizes.nodes → (x : ℕ) → x < sizes.nodes → (key_test x ≡ true) ⊎ (pair_test x ≡ true)
+  each_counted : key_count (graph_of journal) + pair_count (graph_of journal) ≡ sizes.nodes → (x : ℕ) → x < sizes.nodes
+      → (key_test x ≡ true) ⊎ (pair_test x ≡ true)
   each_counted is =
       let k = keys_are sizes z journal kept in
       let p = pairs_are sizes z journal kept in
@@ -171,15 +185,29 @@ module _ (sizes : Sizes) (z : IsLayout sizes) (journal : List Event) (kept : IsK
       let p = and_parts (is_linked (s.node x).mode) ((s.node x).vertex && not (s.node x).marked) h in
       let q = and_parts (s.node x).vertex (not (s.node x).marked) p.1 in
       let v = q.0 in
-      record { linked = linked_is (s.node x).mode p.0; unmarked = not_is (s.node x).marked q.1; source = λ e. absurd (cc); target = λ e. absurd (cc) }
+      record {
+        linked = linked_is (s.node x).mode p.0;
+        unmarked = not_is (s.node x).marked q.1;
+        source = λ e. absurd
+            (cc);
+        target = λ e. absurd (cc);
+      }
   of_graph x (inr h) =
-      let f = and_parts (is_linked (s.node x).mode && (not (s.node x).vertex && not (s.node x).marked)) (is_key_life s (s.node x).source && is_key_life s (s.node x).target) h in
+      let f = and_parts (is_linked (s.node x).mode && (not (s.node x).vertex && not (s.node x).marked))
+      (is_key_life s (s.node x).source && is_key_life s (s.node x).target) h in
       let p = and_parts (is_linked (s.node x).mode) (not (s.node x).vertex && not (s.node x).marked) f.0 in
       let q = and_parts (not (s.node x).vertex) (not (s.node x).marked) p.1 in
       let e = and_parts (is_key_life s (s.node x).source) (is_key_life s (s.node x).target) f.1 in
-      record { linked = linked_is (s.node x).mode p.0; unmarked = not_is (s.node x).marked q.1; source = λ _. e.0; target = λ _. e.1 }
+      record {
+        linked = linked_is (s.node x).mode p.0;
+        unmarked = not_is
+            (s.node x).marked q.1;
+        source = λ _. e.0;
+        target = λ _. e.1;
+      }
 
-  pub counted_all : key_count (graph_of journal) + pair_count (graph_of journal) ≡ sizes.nodes → IsAllGraph sizes journal
+  pub counted_all : key_count (graph_of journal) + pair_count (graph_of journal) ≡ sizes.nodes
+      → IsAllGraph sizes journal
   counted_all is = record {
     free = λ x t m. let h = (of_graph x (each_counted is x t)).linked in absurd (cc);
     fresh = λ x t m. let h = (of_graph x (each_counted is x t)).linked in absurd (cc);

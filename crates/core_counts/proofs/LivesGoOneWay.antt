@@ -1,5 +1,6 @@
 -- Each life goes through each stage at most once, and only after the one that it needs.
-use Rattle.std.proofs.Common.{◌≡◌, ◌≢◌, ℕ, ◌+◌, ◌<◌, ◌≤◌, Bool, true, false, cond, ◌&&◌, ◌||◌, List, [], ◌∷◌, ◌++◌, length, filter, refl, sym, ap, ◌∙◌, subst, arith}
+use Rattle.std.proofs.Common.{◌≡◌, ◌≢◌, ℕ, ◌+◌, ◌<◌, ◌≤◌, Bool, true, false, cond, ◌&&◌, ◌||◌, List, [], ◌∷◌, ◌++◌}
+use Rattle.std.proofs.Common.{length, filter, refl, sym, ap, ◌∙◌, subst, arith}
 use Rattle.std.specs.Prelude.{is_some}
 use Rattle.std.specs.List.{list_any}
 use Rattle.packed_link.specs.Link.{mark_of}
@@ -7,9 +8,12 @@ use Rattle.packed_link.specs.Layout.{Sizes, IsLayout, link_at}
 use Rattle.packed_link.specs.declared.link.Life.{Life}
 use Rattle.core_journal.specs.Event.{unlinks_vertex, unlinks_edge, pushes}
 use Rattle.core_journal.specs.declared.event.Kind.{Kind}
-use Rattle.core_journal.specs.declared.event.Kind.TheVariants.{PopFree, LinkVertex, MarkVertex, UnlinkVertex, LinkEdge, MarkEdge, UnlinkEdge, FreezeHead, FreezeEdge, PushFree, ReplaceEdge}
+use Rattle.core_journal.specs.declared.event.Kind.TheVariants.{PopFree, LinkVertex, MarkVertex, UnlinkVertex, LinkEdge}
+use Rattle.core_journal.specs.declared.event.Kind.TheVariants.{MarkEdge, UnlinkEdge, FreezeHead, FreezeEdge, PushFree}
+use Rattle.core_journal.specs.declared.event.Kind.TheVariants.{ReplaceEdge}
 use Rattle.core_journal.specs.declared.event.Event.{Event}
-use Rattle.core_journal.specs.Event.{same_life, links_vertex, marks_vertex, links_edge, marks_edge, cuts_edge, cut_life, replaces, unlinks, freezes_head}
+use Rattle.core_journal.specs.Event.{same_life, links_vertex, marks_vertex, links_edge, marks_edge, cuts_edge, cut_life}
+use Rattle.core_journal.specs.Event.{replaces, unlinks, freezes_head}
 use Rattle.core_journal.specs.Life.{vertex_linked, edge_linked}
 use Rattle.core_journal.specs.Machine.{word_at}
 use Rattle.core_journal.specs.State.{Mode, Free, Linked, Spent, Node, state}
@@ -36,7 +40,8 @@ module _ {A : Type 0} where
   none_counted test [] h = refl
   none_counted test (x ∷ xs) h = by (test x) (none_counted test xs) h
     where
-      by : (b : Bool) → (list_any test xs ≡ false → length (filter test xs) ≡ 0) → (b || list_any test xs) ≡ false → length (cond b (x ∷ filter test xs) (filter test xs)) ≡ 0
+      by : (b : Bool) → (list_any test xs ≡ false → length (filter test xs) ≡ 0) → (b || list_any test xs) ≡ false
+          → length (cond b (x ∷ filter test xs) (filter test xs)) ≡ 0
       by true more h = absurd (cc)
       by false more h = more h
 
@@ -44,16 +49,23 @@ module _ {A : Type 0} where
   some_counted test [] h = absurd (cc)
   some_counted test (x ∷ xs) h = by (test x) (some_counted test xs) h
     where
-      by : (b : Bool) → (list_any test xs ≡ true → 1 ≤ length (filter test xs)) → (b || list_any test xs) ≡ true → 1 ≤ length (cond b (x ∷ filter test xs) (filter test xs))
+      by : (b : Bool) → (list_any test xs ≡ true → 1 ≤ length (filter test xs)) → (b || list_any test xs) ≡ true
+          → 1 ≤ length (cond b (x ∷ filter test xs) (filter test xs))
       by true more h = omega arith
       by false more h = more h
 
 -- events of some kinds are such of more kinds
-fewer_kinds : (test more : Kind → Bool) → ((k : Kind) → test k ≡ true → more k ≡ true) → (x : Life) (journal : List Event) → about test x journal ≤ about more x journal
+fewer_kinds : (test more : Kind → Bool) → ((k : Kind) → test k ≡ true → more k ≡ true) → (x : Life)
+    (journal : List Event) → about test x journal ≤ about more x journal
 fewer_kinds test more each x [] = omega arith
-fewer_kinds test more each x (e ∷ es) = by (test e.kind) (more e.kind) (same_life x e.life) (each e.kind) (fewer_kinds test more each x es)
+fewer_kinds test more each x (e ∷ es) = by (test e.kind) (more e.kind) (same_life x e.life) (each e.kind)
+    (fewer_kinds test more each x es)
   where
-    by : (a b c : Bool) → (a ≡ true → b ≡ true) → about test x es ≤ about more x es → length (cond (a && c) (e ∷ filter (λ (d : Event). test d.kind && same_life x d.life) es) (filter (λ (d : Event). test d.kind && same_life x d.life) es)) ≤ length (cond (b && c) (e ∷ filter (λ (d : Event). more d.kind && same_life x d.life) es) (filter (λ (d : Event). more d.kind && same_life x d.life) es))
+    by : (a b c : Bool) → (a ≡ true → b ≡ true) → about test x es ≤ about more x es → length
+        (cond (a && c) (e ∷ filter (λ (d : Event). test d.kind && same_life x d.life) es)
+        (filter (λ (d : Event). test d.kind && same_life x d.life) es)) ≤ length
+        (cond (b && c) (e ∷ filter (λ (d : Event). more d.kind && same_life x d.life) es)
+        (filter (λ (d : Event). more d.kind && same_life x d.life) es))
     by true true true g h = omega (arith, h)
     by true true false g h = h
     by true false c g h = let t = g refl in absurd (cc)
@@ -73,18 +85,25 @@ used_spent _ h = absurd (cc)
 abbrev times : (Kind → Bool) → (Event → Life) → Life → List Event → ℕ
 times test at x journal = length (filter (λ (d : Event). test d.kind && same_life x (at d)) journal)
 
-times-snoc : (test : Kind → Bool) (at : Event → Life) (x : Life) (past : List Event) (e : Event) → times test at x (past ++ e ∷ []) ≡ times test at x past + cond (test e.kind && same_life x (at e)) 1 0
+times-snoc : (test : Kind → Bool) (at : Event → Life) (x : Life) (past : List Event) (e : Event) → times test at x
+    (past ++ e ∷ []) ≡ times test at x past + cond (test e.kind && same_life x (at e)) 1 0
 times-snoc test at x past e = count_snoc (λ (d : Event). test d.kind && same_life x (at d)) past e
 
 -- before an event of these kinds its life has none of them, and one of the others
-abbrev Follows : Sizes → (Kind → Bool) → (Event → Life) → (Life → List Event → ℕ) → Type 0
-Follows sizes test at other = (past : List Event) (e : Event) → IsKept sizes past → (k : Kind) → e.kind ≡ k → AllowedAs k sizes past e → test k ≡ true → (times test at (at e) past ≡ 0) × (1 ≤ other (at e) past)
+abbrev FollowsOther : Sizes → (Kind → Bool) → (Event → Life) → (Life → List Event → ℕ) → Type 0
+FollowsOther sizes test at other = (past : List Event) (e : Event) → IsKept sizes past → (k : Kind) → e.kind ≡ k
+    → AllowedAs k sizes past e → test k ≡ true → (times test at (at e) past ≡ 0) × (1 ≤ other (at e) past)
 
-module _ (sizes : Sizes) (test : Kind → Bool) (at : Event → Life) (other : Life → List Event → ℕ) (more : (x : Life) (past : List Event) (e : Event) → other x past ≤ other x (past ++ e ∷ [])) (none : (x : Life) → 0 ≤ other x []) (before : Follows sizes test at other) where
-  follow_step : (past : List Event) (e : Event) → IsKept sizes past → ((x : Life) → times test at x past ≤ other x past) → Allowed sizes past e → (x : Life) → times test at x (past ++ e ∷ []) ≤ other x (past ++ e ∷ [])
+module _ (sizes : Sizes) (test : Kind → Bool) (at : Event → Life) (other : Life → List Event → ℕ)
+    (more : (x : Life) (past : List Event) (e : Event) → other x past ≤ other x (past ++ e ∷ []))
+    (none : (x : Life) → 0 ≤ other x []) (before : FollowsOther sizes test at other) where
+  follow_step : (past : List Event) (e : Event) → IsKept sizes past → ((x : Life) → times test at x past ≤ other x past)
+      → Allowed sizes past e → (x : Life) → times test at x (past ++ e ∷ []) ≤ other x (past ++ e ∷ [])
   follow_step past e kept h ok x = by (test e.kind) refl (same_life x (at e)) refl (times-snoc test at x past e)
     where
-      by : (b : Bool) → test e.kind ≡ b → (c : Bool) → same_life x (at e) ≡ c → times test at x (past ++ e ∷ []) ≡ times test at x past + cond (b && c) 1 0 → times test at x (past ++ e ∷ []) ≤ other x (past ++ e ∷ [])
+      by : (b : Bool) → test e.kind ≡ b → (c : Bool) → same_life x (at e) ≡ c → times test at x
+          (past ++ e ∷ []) ≡ times test at x past + cond (b && c) 1 0 → times test at x (past ++ e ∷ []) ≤ other x
+          (past ++ e ∷ [])
       by true t true s is =
           let g = before past e kept e.kind refl ok.as_kind t in
           let l : x ≡ at e = same_is x (at e) s in
@@ -95,19 +114,24 @@ module _ (sizes : Sizes) (test : Kind → Bool) (at : Event → Life) (other : L
       by false t c s is = omega (arith, is, h x, more x past e)
 
   follows : (journal : List Event) → IsKept sizes journal → (x : Life) → times test at x journal ≤ other x journal
-  follows journal kept = kept_all sizes (λ (j : List Event). (x : Life) → times test at x j ≤ other x j) follow_step none journal kept
+  follows journal kept = kept_all sizes (λ (j : List Event). (x : Life) → times test at x j ≤ other x j) follow_step
+      none journal kept
 
 -- no life has two
-module _ (sizes : Sizes) (test : Kind → Bool) (before : (past : List Event) (e : Event) → IsKept sizes past → (k : Kind) → e.kind ≡ k → AllowedAs k sizes past e → test k ≡ true → about test e.life past ≡ 0) where
+module _ (sizes : Sizes) (test : Kind → Bool) (before : (past : List Event) (e : Event) → IsKept sizes past → (k : Kind)
+    → e.kind ≡ k → AllowedAs k sizes past e → test k ≡ true → about test e.life past ≡ 0) where
   once : (journal : List Event) → IsKept sizes journal → (x : Life) → about test x journal ≤ 1
-  once journal kept = kept_all sizes (λ (j : List Event). (x : Life) → about test x j ≤ 1) step (λ x. omega arith) journal kept
+  once journal kept = kept_all sizes (λ (j : List Event). (x : Life) → about test x j ≤ 1) step
+      (λ x. omega arith) journal kept
     where
-      step : (past : List Event) (e : Event) → IsKept sizes past → ((x : Life) → about test x past ≤ 1) → Allowed sizes past e → (x : Life) → about test x (past ++ e ∷ []) ≤ 1
+      step : (past : List Event) (e : Event) → IsKept sizes past → ((x : Life) → about test x past ≤ 1)
+          → Allowed sizes past e → (x : Life) → about test x (past ++ e ∷ []) ≤ 1
       step past e kept h ok x = by (test e.kind) refl (same_life x e.life) refl
         where
           by : (b : Bool) → test e.kind ≡ b → (c : Bool) → same_life x e.life ≡ c → about test x (past ++ e ∷ []) ≤ 1
           by true t true s =
-              let none : about test x past ≡ 0 = ap (λ (y : Life). about test y past) (same_is x e.life s) ∙ before past e kept e.kind refl ok.as_kind t in
+              let none : about test x past ≡ 0 = ap (λ (y : Life). about test y past) (same_is x e.life s)
+              ∙ before past e kept e.kind refl ok.as_kind t in
               omega (arith, about_this test x past e t s, none)
           by true t false s = omega (arith, about_else test x past e s, h x)
           by false t c s = omega (arith, about_other test x past e t, h x)
@@ -119,7 +143,8 @@ cuts_more : (x : Life) (past : List Event) (e : Event) → cuts x past ≤ cuts 
 cuts_more x past e = omega (arith, times-snoc cuts_edge cut_life x past e)
 
 -- a life that its node is in
-module _ (sizes : Sizes) (z : IsLayout sizes) (past : List Event) (kept : IsKept sizes past) (l : Life) (life : l.tag ≡ (node_in sizes past l.index).tag) where
+module _ (sizes : Sizes) (z : IsLayout sizes) (past : List Event) (kept : IsKept sizes past) (l : Life)
+    (life : l.tag ≡ (node_in sizes past l.index).tag) where
   abbrev x : ℕ
   x = l.index
 
@@ -149,78 +174,128 @@ module _ (sizes : Sizes) (z : IsLayout sizes) (past : List Event) (kept : IsKept
   vertex_link t u w =
       let key = ((named sizes z past kept).each x t).vertex_key u w in
       let is : vertex_linked past (life_of x v) ≡ true = linked-key past (life_of x v) ∙ ap is_some key in
-      omega (arith, its links_vertex, some_counted (λ (d : Event). links_vertex d.kind && same_life (life_of x v) d.life) past is)
+      omega (
+        arith,
+        its links_vertex,
+        some_counted (λ (d : Event). links_vertex d.kind && same_life
+            (life_of x v) d.life) past is,
+      )
 
   edge_link : x < sizes.nodes → IsUsed v.mode → v.vertex ≡ false → 1 ≤ about links_edge l past
   edge_link t u w =
       let link = ((named sizes z past kept).each x t).edge_link u w in
       let is : edge_linked past (life_of x v) ≡ true = linked-link past (life_of x v) ∙ ap is_some link.is in
-      omega (arith, its links_edge, some_counted (λ (d : Event). links_edge d.kind && same_life (life_of x v) d.life) past is)
+      omega (
+        arith,
+        its links_edge,
+        some_counted (λ (d : Event). links_edge d.kind && same_life (life_of x v) d.life)
+            past is,
+      )
 
   vertex_unmarked : x < sizes.nodes → IsUsed v.mode → v.vertex ≡ true → v.marked ≡ false → about marks_vertex l past ≡ 0
-  vertex_unmarked t u w m = its marks_vertex ∙ none_counted (λ (d : Event). marks_vertex d.kind && same_life (life_of x v) d.life) past (((named sizes z past kept).each x t).vertex_mark u w ∙ m)
+  vertex_unmarked t u w m = its marks_vertex ∙ none_counted (λ (d : Event). marks_vertex d.kind && same_life
+      (life_of x v) d.life) past (((named sizes z past kept).each x t).vertex_mark u w ∙ m)
 
   vertex_mark : x < sizes.nodes → IsUsed v.mode → v.vertex ≡ true → v.marked ≡ true → 1 ≤ about marks_vertex l past
-  vertex_mark t u w m = omega (arith, its marks_vertex, some_counted (λ (d : Event). marks_vertex d.kind && same_life (life_of x v) d.life) past (((named sizes z past kept).each x t).vertex_mark u w ∙ m))
+  vertex_mark t u w m = omega (
+    arith,
+    its marks_vertex,
+    some_counted
+        (λ (d : Event). marks_vertex d.kind && same_life (life_of x v) d.life) past
+        (((named sizes z past kept).each x t).vertex_mark u w ∙ m),
+  )
 
   edge_unmarked : x < sizes.nodes → IsUsed v.mode → v.vertex ≡ false → v.marked ≡ false → cuts l past ≡ 0
-  edge_unmarked t u w m = its_cuts ∙ none_counted (λ (d : Event). cuts_edge d.kind && same_life (life_of x v) (cut_life d)) past (((named sizes z past kept).each x t).edge_mark u w ∙ m)
+  edge_unmarked t u w m = its_cuts ∙ none_counted (λ (d : Event). cuts_edge d.kind && same_life (life_of x v)
+      (cut_life d)) past (((named sizes z past kept).each x t).edge_mark u w ∙ m)
 
   edge_mark : x < sizes.nodes → IsUsed v.mode → v.vertex ≡ false → v.marked ≡ true → 1 ≤ cuts l past
-  edge_mark t u w m = omega (arith, its_cuts, some_counted (λ (d : Event). cuts_edge d.kind && same_life (life_of x v) (cut_life d)) past (((named sizes z past kept).each x t).edge_mark u w ∙ m))
+  edge_mark t u w m = omega (
+    arith,
+    its_cuts,
+    some_counted (λ (d : Event). cuts_edge d.kind && same_life (life_of x v)
+        (cut_life d)) past (((named sizes z past kept).each x t).edge_mark u w ∙ m),
+  )
 
-  not_unlinked : (test : Kind → Bool) → ((k : Kind) → test k ≡ true → unlinks k ≡ true) → v.mode ≡ Linked → about test l past ≡ 0
+  not_unlinked : (test : Kind → Bool) → ((k : Kind) → test k ≡ true → unlinks k ≡ true) → v.mode ≡ Linked
+      → about test l past ≡ 0
   not_unlinked test each m =
       let none = ((told sizes z past kept).each x).unlinked (ap is_early m) in
       omega (arith, its test, fewer_kinds test unlinks each (life_of x v) past, none)
 
   -- an edge that's linked and unmarked is to be marked
-  to_mark : x < sizes.nodes → v.mode ≡ Linked → v.vertex ≡ false → mark_of (word_at sizes past (link_at sizes x)) ≡ 0 → (cuts l past ≡ 0) × (1 ≤ about links_edge l past)
+  to_mark : x < sizes.nodes → v.mode ≡ Linked → v.vertex ≡ false → mark_of (word_at sizes past (link_at sizes x)) ≡ 0 →
+      (cuts l past ≡ 0) × (1 ≤ about links_edge l past)
   to_mark t m w off =
       let u = used_linked _ m in
       (edge_unmarked t u w (not_marked t m off), edge_link t u w)
 
 module _ (sizes : Sizes) (z : IsLayout sizes) where
-  takes : (past : List Event) (e : Event) → IsKept sizes past → (k : Kind) → e.kind ≡ k → AllowedAs k sizes past e → pops k ≡ true → about pops e.life past ≡ 0
-  takes past e kept PopFree is ok t = (lives sizes z past kept).later pops e.life (omega (arith, (taken sizes z past e kept ok).tag))
+  takes : (past : List Event) (e : Event) → IsKept sizes past → (k : Kind) → e.kind ≡ k → AllowedAs k sizes past e
+      → pops k ≡ true → about pops e.life past ≡ 0
+  takes past e kept PopFree is ok t = (lives sizes z past kept).later pops e.life
+      (omega (arith, (taken sizes z past e kept ok).tag))
   takes past e kept _ is ok t = absurd (cc)
 
-  link_takes : Follows sizes links own (about pops)
-  link_takes past e kept LinkVertex is ok t =
-      (its sizes z past kept e.life ok.life links ∙ (linked_once sizes z past kept).fresh e.life.index ok.fresh.fresh, was_taken sizes z past kept e.life ok.life (let f = ok.fresh.fresh in λ h. absurd (cc)))
-  link_takes past e kept LinkEdge is ok t =
-      (its sizes z past kept e.life ok.life links ∙ (linked_once sizes z past kept).fresh e.life.index ok.fresh.fresh, was_taken sizes z past kept e.life ok.life (let f = ok.fresh.fresh in λ h. absurd (cc)))
-  link_takes past e kept ReplaceEdge is ok t =
-      (its sizes z past kept e.life ok.life links ∙ (linked_once sizes z past kept).fresh e.life.index ok.fresh.fresh, was_taken sizes z past kept e.life ok.life (let f = ok.fresh.fresh in λ h. absurd (cc)))
+  link_takes : FollowsOther sizes links own (about pops)
+  link_takes past e kept LinkVertex is ok t = (
+    its sizes z past kept e.life ok.life links ∙ (linked_once sizes z past kept).fresh e.life.index ok.fresh.fresh,
+    was_taken sizes z past kept e.life ok.life (let f = ok.fresh.fresh in λ h. absurd (cc)),
+  )
+  link_takes past e kept LinkEdge is ok t = (
+    its sizes z past kept e.life ok.life links ∙ (linked_once sizes z past kept).fresh e.life.index ok.fresh.fresh,
+    was_taken sizes z past kept e.life ok.life (let f = ok.fresh.fresh in λ h. absurd (cc)),
+  )
+  link_takes past e kept ReplaceEdge is ok t = (
+    its sizes z past kept e.life ok.life links ∙ (linked_once sizes z past kept).fresh e.life.index ok.fresh.fresh,
+    was_taken sizes z past kept e.life ok.life (let f = ok.fresh.fresh in λ h. absurd (cc)),
+  )
   link_takes past e kept _ is ok t = absurd (cc)
 
-  at_link : (past : List Event) (e : Event) (i : ℕ) (n : ℕ) → e.place ≡ i → mark_of (word_at sizes past e.place) ≡ n → mark_of (word_at sizes past i) ≡ n
+  at_link : (past : List Event) (e : Event) (i : ℕ) (n : ℕ) → e.place ≡ i → mark_of (word_at sizes past e.place) ≡ n
+      → mark_of (word_at sizes past i) ≡ n
   at_link past e i n p m = ap (λ (j : ℕ). mark_of (word_at sizes past j)) (sym p) ∙ m
 
-  mark_links_vertex : Follows sizes marks_vertex own (about links_vertex)
+  mark_links_vertex : FollowsOther sizes marks_vertex own (about links_vertex)
   mark_links_vertex past e kept MarkVertex is ok t =
       let u = used_linked _ ok.linked.linked in
-      let m = not_marked sizes z past kept e.life ok.life ok.there ok.linked.linked (at_link past e _ 0 ok.place ok.unmarked) in
-      (vertex_unmarked sizes z past kept e.life ok.life ok.there u ok.linked.vertex m, vertex_link sizes z past kept e.life ok.life ok.there u ok.linked.vertex)
+      let m = not_marked sizes z past kept e.life ok.life ok.there ok.linked.linked
+      (at_link past e _ 0 ok.place ok.unmarked) in (
+        vertex_unmarked sizes z past kept e.life ok.life ok.there u ok.linked.vertex m,
+        vertex_link sizes z past kept
+            e.life ok.life ok.there u ok.linked.vertex,
+      )
   mark_links_vertex past e kept _ is ok t = absurd (cc)
 
-  unlink_marks_vertex : Follows sizes unlinks_vertex own (about marks_vertex)
+  unlink_marks_vertex : FollowsOther sizes unlinks_vertex own (about marks_vertex)
   unlink_marks_vertex past e kept UnlinkVertex is ok t =
-      let u = used_linked _ ok.linked.linked in
-      (not_unlinked sizes z past kept e.life ok.life unlinks_vertex within ok.linked.linked, vertex_mark sizes z past kept e.life ok.life ok.there u ok.linked.vertex (is_marked sizes z past kept e.life ok.life ok.there ok.linked.linked ok.dead))
+      let u = used_linked _ ok.linked.linked in (
+        not_unlinked sizes z past kept e.life ok.life unlinks_vertex within ok.linked.linked,
+        vertex_mark sizes z past
+            kept e.life ok.life ok.there u ok.linked.vertex (is_marked sizes z past kept e.life ok.life ok.there
+            ok.linked.linked ok.dead),
+      )
     where
       within : (k : Kind) → unlinks_vertex k ≡ true → unlinks k ≡ true
       within UnlinkVertex h = refl
       within _ h = absurd (cc)
   unlink_marks_vertex past e kept _ is ok t = absurd (cc)
 
-  close_unlinks_vertex : Follows sizes freezes_head own (about unlinks_vertex)
+  close_unlinks_vertex : FollowsOther sizes freezes_head own (about unlinks_vertex)
   close_unlinks_vertex past e kept FreezeHead is ok t =
       let u = used_spent _ ok.spent.spent in
       let words = ((contents sizes z past kept).each e.life.index ok.there).vertex u ok.spent.vertex in
-      let head : (state sizes past).frozen e.life.index ≡ false = mark_isnt _ (sym words.second_mark ∙ at_link past e _ 0 ok.place ok.unmarked) in
-      let s = ok.spent.spent in
-      (its sizes z past kept e.life ok.life freezes_head ∙ ((told sizes z past kept).each e.life.index).unclosed (λ h. absurd (cc)) head, omega (arith, its sizes z past kept e.life ok.life unlinks_vertex, ((told sizes z past kept).each e.life.index).spent ok.spent.spent ok.spent.vertex))
+      let head : (state sizes past).frozen e.life.index ≡ false = mark_isnt _
+      (sym words.second_mark ∙ at_link past e _ 0 ok.place ok.unmarked) in
+      let s = ok.spent.spent in (
+        its sizes z past kept e.life ok.life freezes_head ∙ ((told sizes z past kept).each e.life.index).unclosed
+            (λ h. absurd (cc)) head,
+        omega (
+          arith,
+          its sizes z past kept e.life ok.life unlinks_vertex,
+          ((told sizes z past kept).each e.life.index).spent ok.spent.spent ok.spent.vertex,
+        ),
+      )
   close_unlinks_vertex past e kept _ is ok t = absurd (cc)
 
   -- the life that an event marks as an edge
@@ -230,60 +305,98 @@ module _ (sizes : Sizes) (z : IsLayout sizes) where
   cuts_itself : (e : Event) (k : Kind) → e.kind ≡ k → marks_edge k ≡ true → cut_life e ≡ e.life
   cuts_itself e k is m = own_cut e (ap marks_edge is ∙ m)
 
-  mark_links_edge : Follows sizes cuts_edge cut_life (about links_edge)
+  mark_links_edge : FollowsOther sizes cuts_edge cut_life (about links_edge)
   mark_links_edge past e kept MarkEdge is ok t = subst (IsToMark past) (sym (cuts_itself e MarkEdge is refl))
-      (to_mark sizes z past kept e.life ok.life ok.there ok.linked.linked ok.linked.edge (at_link past e _ 0 ok.place ok.unmarked))
+      (to_mark sizes z past kept e.life ok.life ok.there ok.linked.linked ok.linked.edge
+      (at_link past e _ 0 ok.place ok.unmarked))
   mark_links_edge past e kept FreezeEdge is ok t = subst (IsToMark past) (sym (cuts_itself e FreezeEdge is refl))
-      (to_mark sizes z past kept e.life ok.life ok.there ok.linked.linked ok.linked.edge (at_link past e _ 0 ok.place ok.unmarked))
-  mark_links_edge past e kept ReplaceEdge is ok t = subst (IsToMark past) (sym (ap (λ (k : Kind). cond (replaces k) e.old e.life) is))
-      (to_mark sizes z past kept e.old ok.old_life ok.old_there ok.linked.linked ok.linked.edge (at_link past e _ 0 ok.place ok.unmarked))
+      (to_mark sizes z past kept e.life ok.life ok.there ok.linked.linked ok.linked.edge
+      (at_link past e _ 0 ok.place ok.unmarked))
+  mark_links_edge past e kept ReplaceEdge is ok t = subst (IsToMark past)
+      (sym (ap (λ (k : Kind). cond (replaces k) e.old e.life) is))
+      (to_mark sizes z past kept e.old ok.old_life ok.old_there ok.linked.linked ok.linked.edge
+      (at_link past e _ 0 ok.place ok.unmarked))
   mark_links_edge past e kept _ is ok t = absurd (cc)
 
-  unlink_marks_edge : Follows sizes unlinks_edge own cuts
+  unlink_marks_edge : FollowsOther sizes unlinks_edge own cuts
   unlink_marks_edge past e kept UnlinkEdge is ok t =
-      let u = used_linked _ ok.linked.linked in
-      (not_unlinked sizes z past kept e.life ok.life unlinks_edge within ok.linked.linked, edge_mark sizes z past kept e.life ok.life ok.there u ok.linked.edge (is_marked sizes z past kept e.life ok.life ok.there ok.linked.linked ok.dead))
+      let u = used_linked _ ok.linked.linked in (
+        not_unlinked sizes z past kept e.life ok.life unlinks_edge within ok.linked.linked,
+        edge_mark sizes z past kept
+            e.life ok.life ok.there u ok.linked.edge (is_marked sizes z past kept e.life ok.life ok.there ok.linked.linked
+            ok.dead),
+      )
     where
       within : (k : Kind) → unlinks_edge k ≡ true → unlinks k ≡ true
       within UnlinkEdge h = refl
       within _ h = absurd (cc)
   unlink_marks_edge past e kept _ is ok t = absurd (cc)
 
-  push_takes : Follows sizes pushes own (about pops)
+  push_takes : FollowsOther sizes pushes own (about pops)
   push_takes past e kept PushFree is ok t =
-      let s = ok.ripe.stamped.spent.spent in
-      (its sizes z past kept e.life ok.life pushes ∙ ((told sizes z past kept).each e.life.index).back (λ h. absurd (cc)), was_taken sizes z past kept e.life ok.life (λ h. absurd (cc)))
+      let s = ok.ripe.stamped.spent.spent in (
+        its sizes z past kept e.life ok.life pushes ∙ ((told sizes z past kept).each e.life.index).back
+            (λ h. absurd (cc)),
+        was_taken sizes z past kept e.life ok.life (λ h. absurd (cc)),
+      )
   push_takes past e kept _ is ok t = absurd (cc)
 
   -- the list of a vertex that's stored is closed, and a spent edge is marked
-  push_closes : Follows sizes pushes own (λ (x : Life) (j : List Event). about freezes_head x j + cuts x j)
+  push_closes : FollowsOther sizes pushes own (λ (x : Life) (j : List Event). about freezes_head x j + cuts x j)
   push_closes past e kept PushFree is ok t =
       let v : Node = node_in sizes past e.life.index in
-      let s = ok.ripe.stamped.spent.spent in
-      ((push_takes past e kept PushFree is ok t).0, by v.vertex refl ((state sizes past).frozen e.life.index) refl (used_spent _ s))
+      let s = ok.ripe.stamped.spent.spent in (
+        (push_takes past e kept PushFree is ok t).0,
+        by v.vertex refl ((state sizes past).frozen e.life.index) refl
+            (used_spent _ s),
+      )
     where
-      by : (b : Bool) → (node_in sizes past e.life.index).vertex ≡ b → (f : Bool) → (state sizes past).frozen e.life.index ≡ f → IsUsed (node_in sizes past e.life.index).mode → 1 ≤ about freezes_head e.life past + cuts e.life past
-      by true w true f u = omega (arith, its sizes z past kept e.life ok.life freezes_head, ((told sizes z past kept).each e.life.index).closed f)
+      by : (b : Bool) → (node_in sizes past e.life.index).vertex ≡ b → (f : Bool) →
+          (state sizes past).frozen e.life.index ≡ f → IsUsed (node_in sizes past e.life.index).mode
+          → 1 ≤ about freezes_head e.life past + cuts e.life past
+      by true w true f u = omega (
+        arith,
+        its sizes z past kept e.life ok.life freezes_head,
+        ((told sizes z past kept).each e.life.index).closed f,
+      )
       by true w false f u =
-          let has : HasList sizes past e.life.index = record { there = ok.there; used = u; vertex = w; unfinished = λ (h : IsFrozenToEnd sizes past e.life.index). let c = h.head in absurd (cc) } in
-          let no : (node_in sizes past e.life.index).stored ≡ false = (sources sizes z past kept).unstored e.life.index has in
+          let has : HasList sizes past e.life.index = record {
+            there = ok.there;
+            used = u;
+            vertex = w;
+            unfinished = λ
+                (h : IsFrozenToEnd sizes past e.life.index). let c = h.head in absurd (cc);
+          } in
+          let no : (node_in sizes past e.life.index).stored ≡ false =
+          (sources sizes z past kept).unstored e.life.index has in
           let yes : (node_in sizes past e.life.index).stored ≡ true = ok.stored in
           absurd (cc)
-      by false w f c u = omega (arith, edge_mark sizes z past kept e.life ok.life ok.there u w (((link_words sizes z past kept).each e.life.index ok.there).marked ok.ripe.stamped.spent.spent))
+      by false w f c u = omega (
+        arith,
+        edge_mark sizes z past kept e.life ok.life ok.there u w
+            (((link_words sizes z past kept).each e.life.index ok.there).marked ok.ripe.stamped.spent.spent),
+      )
   push_closes past e kept _ is ok t = absurd (cc)
 
   -- as many are given back as were taken at most
-  pub given_taken : (journal : List Event) → IsKept sizes journal → (x : Life) → about pushes x journal ≤ about pops x journal
+  pub given_taken : (journal : List Event) → IsKept sizes journal → (x : Life)
+      → about pushes x journal ≤ about pops x journal
   given_taken = follows sizes pushes own (about pops) (about_more pops) (λ x. omega arith) push_takes
 
   pub one_way : (journal : List Event) → IsKept sizes journal → (x : Life) → GoesOneWay journal x
   one_way journal kept x = record {
     taken = once sizes pops takes journal kept x;
     linked = follows sizes links own (about pops) (about_more pops) (λ x. omega arith) link_takes journal kept x;
-    vertex_marked = follows sizes marks_vertex own (about links_vertex) (about_more links_vertex) (λ x. omega arith) mark_links_vertex journal kept x;
-    vertex_unlinked = follows sizes unlinks_vertex own (about marks_vertex) (about_more marks_vertex) (λ x. omega arith) unlink_marks_vertex journal kept x;
-    closed = follows sizes freezes_head own (about unlinks_vertex) (about_more unlinks_vertex) (λ x. omega arith) close_unlinks_vertex journal kept x;
-    edge_marked = follows sizes cuts_edge cut_life (about links_edge) (about_more links_edge) (λ x. omega arith) mark_links_edge journal kept x;
+    vertex_marked = follows sizes marks_vertex own (about links_vertex) (about_more links_vertex)
+        (λ x. omega arith) mark_links_vertex journal kept x;
+    vertex_unlinked = follows sizes unlinks_vertex own (about marks_vertex) (about_more marks_vertex)
+        (λ x. omega arith) unlink_marks_vertex journal kept x;
+    closed = follows sizes freezes_head own (about unlinks_vertex) (about_more unlinks_vertex)
+        (λ x. omega arith) close_unlinks_vertex journal kept x;
+    edge_marked = follows sizes cuts_edge cut_life (about links_edge) (about_more links_edge)
+        (λ x. omega arith) mark_links_edge journal kept x;
     edge_unlinked = follows sizes unlinks_edge own cuts cuts_more (λ x. omega arith) unlink_marks_edge journal kept x;
-    given_back = follows sizes pushes own (λ (y : Life) (j : List Event). about freezes_head y j + cuts y j) (λ y past e. omega (arith, about_more freezes_head y past e, cuts_more y past e)) (λ x. omega arith) push_closes journal kept x;
+    given_back = follows sizes pushes own (λ (y : Life) (j : List Event). about freezes_head y j + cuts y j)
+        (λ y past e. omega (arith, about_more freezes_head y past e, cuts_more y past e))
+        (λ x. omega arith) push_closes journal kept x;
   }

@@ -44,8 +44,8 @@ IsHolder sizes journal caller (Some x) = IsSpentVertex sizes journal caller x
 -- the list of each vertex that is spent with a caller, but of the one whose list is being frozen, is open at its head
 -- or frozen to its end
 pub record AreFinished (sizes : Sizes) (journal : List Event) (caller : ℕ) (but : Option ℕ) : Type 0 where
-  pub each : (v : ℕ) → (IsBeingFrozen but v → ⊥) → IsSpentVertex sizes journal caller v → (state sizes journal).frozen v ≡ true
-      → IsFrozenToEnd sizes journal v
+  pub each : (v : ℕ) → (IsBeingFrozen but v → ⊥) → IsSpentVertex sizes journal caller v
+      → (state sizes journal).frozen v ≡ true → IsFrozenToEnd sizes journal v
 
 -- a node is one of some
 abbrev pub is_among : List ℕ → ℕ → Bool

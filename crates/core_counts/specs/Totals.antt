@@ -40,8 +40,8 @@ pub record IsSourceMarked (journal : List Event) (x : Life) : Type 0 where
   pub marked : vertex_marked journal link.source ≡ true
 
 -- an edge life is over: it's marked, or its source is
-abbrev pub IsOver : List Event → Life → Type 0
-IsOver journal x = (edge_marked journal x ≡ true) ⊎ IsSourceMarked journal x
+abbrev pub IsEdgeOver : List Event → Life → Type 0
+IsEdgeOver journal x = (edge_marked journal x ≡ true) ⊎ IsSourceMarked journal x
 
 -- a caller raised counters at most once for each of some edges, which were linked and differ, and so often again
 pub record RaisesApart (journal : List Event) (caller again : ℕ) : Type 0 where
@@ -56,7 +56,7 @@ pub record RaisesOnce (start journal : List Event) (caller again : ℕ) (held : 
   pub edges : List Life
   pub apart : AllPairs ◌≢◌ (held ++ edges)
   pub linked : All (λ (x : Life). edge_linked journal x ≡ true) (held ++ edges)
-  pub over : All (IsOver start) edges
+  pub over : All (IsEdgeOver start) edges
   pub few : made raises caller journal ≤ length (held ++ edges) + again
 
 -- an edge isn't over at a front, and is linked by a later journal: there it's unmarked, and so is the source from which

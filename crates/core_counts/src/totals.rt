@@ -22,7 +22,7 @@ ghost use Rattle.core_journal.specs.Right.{IsAgain};
 ghost use Rattle.core_journal.specs.State.{state};
 ghost use Rattle.core_kept.specs.Counts.{about, all_made, made};
 ghost use Rattle.core_kept.specs.Kept.{IsKept, IsQuiet};
-ghost use Rattle.core_counts.specs.Totals.{GoesOneWay, IsNotOver, IsOver, RaisesApart, RaisesOnce, cuts, total};
+ghost use Rattle.core_counts.specs.Totals.{GoesOneWay, IsNotOver, IsEdgeOver, RaisesApart, RaisesOnce, cuts, total};
 
 /// Each life goes through each stage at most once, and only after the one that it needs. For the bound below.
 pub fn each_life_goes_one_way()
@@ -91,10 +91,10 @@ pub fn raises_are_done()
         → IsPrefix start past → IsNotOver start past x → All (λ (y : Life). x ≢ y) held
         → RaisesOnce start past caller again held → RaisesOnce start (past ++ e ∷ []) caller again (x ∷ held) }
     ensures done { (caller again : ℕ) (held : List Life) (start journal : List Event) → IsPrefix start journal
-        → All (IsOver journal) held → RaisesOnce start journal caller again held
+        → All (IsEdgeOver journal) held → RaisesOnce start journal caller again held
         → RaisesOnce journal journal caller again [] }
     ensures lost { (caller again : ℕ) (x : Life) (held : List Life) (start journal : List Event)
-        → IsPrefix start journal → All (IsOver journal) held → RaisesOnce start journal caller again (x ∷ held)
+        → IsPrefix start journal → All (IsEdgeOver journal) held → RaisesOnce start journal caller again (x ∷ held)
         → RaisesOnce journal journal caller (again + 1) [] }
     ensures links { (caller again : ℕ) (held : List Life) (start journal : List Event)
         → RaisesOnce start journal caller again held

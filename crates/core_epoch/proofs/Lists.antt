@@ -1,5 +1,6 @@
 -- What stands on a list, and that it stands there once.
-use Rattle.std.proofs.Common.{◌≡◌, ◌≢◌, ◌⊎◌, ℕ, zero, suc, ◌+◌, ◌<◌, ◌≤◌, List, [], ◌∷◌, get_or, sym, ◌∙◌, arith, inl, inr, ⊎_elim}
+use Rattle.std.proofs.Common.{◌≡◌, ◌≢◌, ◌⊎◌, ℕ, zero, suc, ◌+◌, ◌<◌, ◌≤◌, List, [], ◌∷◌, get_or, sym, ◌∙◌, arith, inl}
+use Rattle.std.proofs.Common.{inr, ⊎_elim}
 use Rattle.std.specs.Prelude.{AllPairs, Contains}
 use Rattle.std.specs.List.{range_with_len}
 use mathlib.Core.Logic.{dite}
@@ -40,14 +41,18 @@ pub range_contains : (k n x : ℕ) → k ≤ x → x < k + n → Contains (range
 range_contains k zero x h t = absurd (omega (arith, h, t))
 range_contains k (suc n) x h t = dite (ℕ_discrete k x)
     (λ same. contains_first x k (range_with_len (k + 1) n) same)
-    (λ ne. contains_later x k (range_with_len (k + 1) n) (range_contains (k + 1) n x (omega (arith, h, ne)) (omega (arith, t))))
+    (λ ne. contains_later x k (range_with_len (k + 1) n) (range_contains (k + 1) n x (omega (arith, h, ne))
+    (omega (arith, t))))
 
 pub range_within : (k n x : ℕ) → Contains (range_with_len k n) x → (k ≤ x) × (x < k + n)
 range_within k zero x at = absurd (contains_none x at)
 range_within k (suc n) x at =
-    let later : Contains (range_with_len (k + 1) n) x → (k ≤ x) × (x < k + suc n) = λ m. let h = range_within (k + 1) n x m in (omega (arith, h.0), omega (arith, h.1)) in
-    ⊎_elim (λ (same : k ≡ x). (omega (arith, same), omega (arith, same))) later (contains_cases x k (range_with_len (k + 1) n) at)
+    let later : Contains (range_with_len (k + 1) n) x → (k ≤ x) × (x < k + suc n) = λ m. let h = range_within
+    (k + 1) n x m in (omega (arith, h.0), omega (arith, h.1)) in
+    ⊎_elim (λ (same : k ≡ x). (omega (arith, same), omega (arith, same))) later
+    (contains_cases x k (range_with_len (k + 1) n) at)
 
 pub range_once : (k n : ℕ) → AllPairs ◌≢◌ (range_with_len k n)
 range_once k zero = λ i j d low high. absurd (omega arith)
-range_once k (suc n) = once_more k (range_with_len (k + 1) n) (λ y at same. let h = range_within (k + 1) n y at in omega (arith, h.0, same)) (range_once (k + 1) n)
+range_once k (suc n) = once_more k (range_with_len (k + 1) n)
+    (λ y at same. let h = range_within (k + 1) n y at in omega (arith, h.0, same)) (range_once (k + 1) n)

@@ -32,10 +32,24 @@ free_apart zero h = absurd (cc)
 free_apart (suc n) h = λ e. omega (arith, e)
 
 pub second_step : LeavesFree zero_taken zero_written
-second_step = record { first = refl; link = λ y m. put_else 0 (pack nowhere 0 1) zero_taken.link y (free_apart y m); is_free = λ y. refl; list = refl; changes = refl }
+second_step = record {
+  first = refl;
+  link = λ y m. put_else 0 (pack nowhere 0 1) zero_taken.link y
+      (free_apart y m);
+  is_free = λ y. refl;
+  list = refl;
+  changes = refl;
+}
 
 pub third_step : LeavesFree zero_written zero_ready
-third_step = record { first = refl; link = λ y m. put_else 0 (pack 1 1 1) zero_written.link y (free_apart y m); is_free = λ y. refl; list = refl; changes = refl }
+third_step = record {
+  first = refl;
+  link = λ y m. put_else 0 (pack 1 1 1) zero_written.link y
+      (free_apart y m);
+  is_free = λ y. refl;
+  list = refl;
+  changes = refl;
+}
 
 pub fourth_step : GivesBack 2 zero_ready zero_given 0
 fourth_step = record {

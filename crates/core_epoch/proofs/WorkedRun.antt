@@ -1,5 +1,6 @@
 -- The steps of the worked run.
-use Rattle.std.proofs.Common.{◌≡◌, ◌≢◌, ℕ, zero, suc, ◌+◌, ◌<◌, ◌≤◌, Bool, true, false, cond, refl, ap, arith, inl, inr, eq-eqb, ne_eqb}
+use Rattle.std.proofs.Common.{◌≡◌, ◌≢◌, ℕ, zero, suc, ◌+◌, ◌<◌, ◌≤◌, Bool, true, false, cond, refl, ap, arith, inl, inr}
+use Rattle.std.proofs.Common.{eq-eqb, ne_eqb}
 use mathlib.Core.Logic.{dite}
 use native.Mathlib.Decide.{ℕ_discrete}
 use Rattle.core_epoch.specs.Clock.{Clock, IsClear}
@@ -26,7 +27,8 @@ stays : (callers : ℕ) (old new : Clock) → new.epoch ≡ old.epoch → MovesC
 stays callers old new is more = absurd (omega (arith, is, more))
 
 module _ (callers : ℕ) (m : Moment) where
-  pub announced_follows : (caller loaded : ℕ) → caller < callers → m.clock.is_open caller ≡ false → loaded ≤ m.clock.epoch → Follows callers m (announced caller loaded m)
+  pub announced_follows : (caller loaded : ℕ) → caller < callers → m.clock.is_open caller ≡ false
+      → loaded ≤ m.clock.epoch → Follows callers m (announced caller loaded m)
   announced_follows caller loaded there closed reached = record {
     step = announce caller loaded record {
       there = there;
@@ -50,14 +52,21 @@ module _ (callers : ℕ) (m : Moment) where
     gives = none_given m.clock m.ends;
   }
 
-  pub withdrawn_follows : (caller : ℕ) → caller < callers → m.clock.is_open caller ≡ true → Follows callers m (withdrawn caller m)
+  pub withdrawn_follows : (caller : ℕ) → caller < callers → m.clock.is_open caller ≡ true → Follows callers m
+      (withdrawn caller m)
   withdrawn_follows caller there o = record {
     step = withdraw caller record {
       there = there;
       open_before = o;
       closes = put_here caller false m.clock.is_open caller refl;
       word = put_here caller 0 m.clock.word caller refl;
-      others = λ i ne. record { is_open = put_else caller false m.clock.is_open i ne; birth = refl; since = refl; word = λ _. put_else caller 0 m.clock.word i ne };
+      others = λ i ne. record {
+        is_open = put_else caller false m.clock.is_open i ne;
+        birth = refl;
+        since = refl;
+        word =
+            λ _. put_else caller 0 m.clock.word i ne;
+      };
       epoch = refl;
       count = refl;
     };
@@ -68,7 +77,12 @@ module _ (callers : ℕ) (m : Moment) where
 
   pub moved_follows : ((i : ℕ) → i < callers → IsClear m.clock.epoch i m.clock) → Follows callers m (moved m)
   moved_follows clear = record {
-    step = move record { passes = λ i. record { is_open = refl; birth = refl; since = refl; word = λ _. refl }; epoch = refl; count = refl };
+    step = move record {
+      passes = λ i. record { is_open = refl; birth = refl; since = refl; word = λ _. refl };
+      epoch =
+          refl;
+      count = refl;
+    };
     moves = λ _. clear;
     ends = same_ends m.clock m.ends;
     gives = none_given m.clock m.ends;
@@ -76,24 +90,45 @@ module _ (callers : ℕ) (m : Moment) where
 
   pub unlinked_follows : (x : ℕ) → Follows callers m (node_unlinked x m)
   unlinked_follows x = record {
-    step = rest record { passes = λ i. record { is_open = refl; birth = refl; since = refl; word = λ _. refl }; epoch = refl; count = refl };
+    step = rest record {
+      passes = λ i. record { is_open = refl; birth = refl; since = refl; word = λ _. refl };
+      epoch =
+          refl;
+      count = refl;
+    };
     moves = stays callers m.clock (node_unlinked x m).clock refl;
     ends = λ y. dite (ℕ_discrete y x)
-        (λ same. inr record { ended = put_here x (m.clock.count + 1) m.ends.ended y same; epoch = put_here x m.clock.epoch m.ends.epoch y same; spent = put_here x true m.ends.is_spent y same })
-        (λ ne. inl record { ended = put_else x (m.clock.count + 1) m.ends.ended y ne; epoch = put_else x m.clock.epoch m.ends.epoch y ne });
+        (λ same. inr record {
+          ended = put_here x (m.clock.count + 1) m.ends.ended y same;
+          epoch = put_here x
+              m.clock.epoch m.ends.epoch y same;
+          spent = put_here x true m.ends.is_spent y same;
+        })
+        (λ ne. inl record {
+          ended = put_else x (m.clock.count + 1) m.ends.ended y ne;
+          epoch = put_else x m.clock.epoch
+              m.ends.epoch y ne;
+        });
     gives = λ y h u. dite (ℕ_discrete y x)
         (λ same. let t : put_in x true m.ends.is_spent y ≡ true = put_here x true m.ends.is_spent y same in absurd (cc))
-        (λ ne. let t : put_in x true m.ends.is_spent y ≡ m.ends.is_spent y = put_else x true m.ends.is_spent y ne in absurd (cc));
+        (λ ne. let t : put_in x true m.ends.is_spent y ≡ m.ends.is_spent y = put_else x true m.ends.is_spent y ne in
+        absurd (cc));
   }
 
   pub given_back_follows : (x : ℕ) → m.ends.epoch x + 2 ≤ m.clock.epoch → Follows callers m (given_back x m)
   given_back_follows x old = record {
-    step = rest record { passes = λ i. record { is_open = refl; birth = refl; since = refl; word = λ _. refl }; epoch = refl; count = refl };
+    step = rest record {
+      passes = λ i. record { is_open = refl; birth = refl; since = refl; word = λ _. refl };
+      epoch =
+          refl;
+      count = refl;
+    };
     moves = stays callers m.clock (given_back x m).clock refl;
     ends = λ y. inl record { ended = refl; epoch = refl };
     gives = λ y h u. dite (ℕ_discrete y x)
         (λ same. omega (arith, ap m.ends.epoch same, old))
-        (λ ne. let t : put_in x false m.ends.is_spent y ≡ m.ends.is_spent y = put_else x false m.ends.is_spent y ne in absurd (cc));
+        (λ ne. let t : put_in x false m.ends.is_spent y ≡ m.ends.is_spent y = put_else x false m.ends.is_spent y ne in
+        absurd (cc));
   }
 
 -- two callers, each clear

@@ -1,5 +1,7 @@
 -- Lists, and what holds of each of their elements.
-use Rattle.std.proofs.Common.{◌≡◌, ℕ, zero, suc, ◌<◌, ◌≤◌, Bool, true, false, cond, ◌||◌, List, [], ◌∷◌, ◌++◌, length, take, map, filter, find, flat_map, Some, refl, sym, ap, ◌∙◌, arith, append_assoc, append-nil, length-append}
+use Rattle.std.proofs.Common.{◌≡◌, ℕ, zero, suc, ◌<◌, ◌≤◌, Bool, true, false, cond, ◌||◌, List, [], ◌∷◌, ◌++◌, length}
+use Rattle.std.proofs.Common.{take, map, filter, find, flat_map, Some, refl, sym, ap, ◌∙◌, arith, append_assoc}
+use Rattle.std.proofs.Common.{append-nil, length-append}
 use Rattle.std.specs.Prelude.{slice_get}
 use Rattle.std.specs.List.{list_any}
 use Rattle.graph_kinds.specs.History.{Every}
@@ -35,12 +37,14 @@ module _ {A : Type 0} where
   every_all P f [] = tt
   every_all P f (x ∷ xs) = (f x, every_all P f xs)
 
-  pub every_filter : (P Q : A → Type 0) (test : A → Bool) → ((x : A) → P x → test x ≡ true → Q x) → (xs : List A) → Every P xs → Every Q (filter test xs)
+  pub every_filter : (P Q : A → Type 0) (test : A → Bool) → ((x : A) → P x → test x ≡ true → Q x) → (xs : List A)
+      → Every P xs → Every Q (filter test xs)
   every_filter P Q test f [] h = tt
-  every_filter P Q test f (x ∷ xs) h = elim (test x) as (λ b. test x ≡ b → Every Q (cond b (x ∷ filter test xs) (filter test xs))) [
-    | true ↦ λ e. (f x h.0 e, every_filter P Q test f xs h.1)
-    | false ↦ λ e. every_filter P Q test f xs h.1
-  ] refl
+  every_filter P Q test f (x ∷ xs) h = elim (test x) as (λ b. test x ≡ b → Every Q
+      (cond b (x ∷ filter test xs) (filter test xs))) [
+        | true ↦ λ e. (f x h.0 e, every_filter P Q test f xs h.1)
+        | false ↦ λ e. every_filter P Q test f xs h.1
+      ] refl
 
   -- an element stands below the length
   pub get_short : (xs : List A) (k : ℕ) (x : A) → slice_get xs k ≡ Some x → k < length xs
@@ -79,12 +83,14 @@ module _ {A : Type 0} where
   -- a test that passed passes in a longer list
   pub any_more : (test : A → Bool) (xs more : List A) → list_any test xs ≡ true → list_any test (xs ++ more) ≡ true
   any_more test [] more h = absurd (cc)
-  any_more test (x ∷ xs) more h = elim (test x) as (λ b. (b || list_any test xs) ≡ true → (b || list_any test (xs ++ more)) ≡ true) [ true ↦ λ g. refl | false ↦ λ g. any_more test xs more g ] h
+  any_more test (x ∷ xs) more h = elim (test x) as (λ b. (b || list_any test xs) ≡ true →
+      (b || list_any test (xs ++ more)) ≡ true) [ true ↦ λ g. refl | false ↦ λ g. any_more test xs more g ] h
 
   -- what was found first is found first in a longer list
   pub find_more : (test : A → Bool) (xs more : List A) (x : A) → find test xs ≡ Some x → find test (xs ++ more) ≡ Some x
   find_more test [] more x h = absurd (cc)
-  find_more test (y ∷ xs) more x h = elim (test y) as (λ b. cond b (Some y) (find test xs) ≡ Some x → cond b (Some y) (find test (xs ++ more)) ≡ Some x) [ true ↦ λ g. g | false ↦ λ g. find_more test xs more x g ] h
+  find_more test (y ∷ xs) more x h = elim (test y) as (λ b. cond b (Some y) (find test xs) ≡ Some x → cond b (Some y)
+      (find test (xs ++ more)) ≡ Some x) [ true ↦ λ g. g | false ↦ λ g. find_more test xs more x g ] h
 
   -- prefixes
   pub prefix_refl : (xs : List A) → IsPrefix xs xs
@@ -92,7 +98,11 @@ module _ {A : Type 0} where
 
   -- a prefix of a prefix is one
   pub prefix_trans : (xs ys zs : List A) → IsPrefix xs ys → IsPrefix ys zs → IsPrefix xs zs
-  prefix_trans xs ys zs p q = record { rest = p.rest ++ q.rest; whole = sym (append_assoc xs p.rest q.rest) ∙ (ap (λ (l : List A). l ++ q.rest) p.whole ∙ q.whole) }
+  prefix_trans xs ys zs p q = record {
+    rest = p.rest ++ q.rest;
+    whole = sym (append_assoc xs p.rest q.rest) ∙
+        (ap (λ (l : List A). l ++ q.rest) p.whole ∙ q.whole);
+  }
 
   -- one more element leaves a prefix
   pub prefix_snoc : (xs : List A) (x : A) → IsPrefix xs (xs ++ x ∷ [])
@@ -109,11 +119,13 @@ module _ {A : Type 0} where
   prefix_length xs ys p = omega (arith, length-append xs p.rest, ap length p.whole)
 
 -- facts of the elements of a mapped list
-pub every_mapped : {A B : Type 0} (P : A → Type 0) (Q : B → Type 0) (f : A → B) → ((x : A) → P x → Q (f x)) → (xs : List A) → Every P xs → Every Q (map f xs)
+pub every_mapped : {A B : Type 0} (P : A → Type 0) (Q : B → Type 0) (f : A → B) → ((x : A) → P x → Q (f x)) →
+    (xs : List A) → Every P xs → Every Q (map f xs)
 every_mapped P Q f g [] h = tt
 every_mapped P Q f g (x ∷ xs) h = (g x h.0, every_mapped P Q f g xs h.1)
 
 -- facts of the elements of joined lists
-pub every_flat : {A B : Type 0} (P : A → Type 0) (Q : B → Type 0) (f : A → List B) → ((x : A) → P x → Every Q (f x)) → (xs : List A) → Every P xs → Every Q (flat_map f xs)
+pub every_flat : {A B : Type 0} (P : A → Type 0) (Q : B → Type 0) (f : A → List B) → ((x : A) → P x → Every Q (f x)) →
+    (xs : List A) → Every P xs → Every Q (flat_map f xs)
 every_flat P Q f g [] h = tt
 every_flat P Q f g (x ∷ xs) h = every_append Q (f x) (flat_map f xs) (g x h.0) (every_flat P Q f g xs h.1)

@@ -2,11 +2,15 @@
 use Rattle.std.proofs.Common.{◌≡◌, ◌+◌, List, [], ◌∷◌, ◌++◌, length, refl, arith}
 use Rattle.packed_link.specs.Layout.{Sizes}
 use Rattle.core_journal.specs.declared.event.Kind.{Kind}
-use Rattle.core_journal.specs.declared.event.Kind.TheVariants.{DrawNumber, PopFree, StorePrivate, LinkVertex, MarkVertex, UnlinkVertex, LinkEdge, Raise, MarkEdge, UnlinkEdge, ReplaceEdge, Announce, Withdraw, MoveEpoch, FreezeHead, FreezeEdge, StoreFree, PushFree}
+use Rattle.core_journal.specs.declared.event.Kind.TheVariants.{DrawNumber, PopFree, StorePrivate, LinkVertex}
+use Rattle.core_journal.specs.declared.event.Kind.TheVariants.{MarkVertex, UnlinkVertex, LinkEdge, Raise, MarkEdge}
+use Rattle.core_journal.specs.declared.event.Kind.TheVariants.{UnlinkEdge, ReplaceEdge, Announce, Withdraw, MoveEpoch}
+use Rattle.core_journal.specs.declared.event.Kind.TheVariants.{FreezeHead, FreezeEdge, StoreFree, PushFree}
 use Rattle.core_journal.specs.declared.event.Event.{Event}
 use Rattle.core_journal.specs.State.{State, state_by, opening, state_from, state}
 
-from-append : (sizes : Sizes) (s : State) (xs ys : List Event) → state_from sizes s (xs ++ ys) ≡ state_from sizes (state_from sizes s xs) ys
+from-append : (sizes : Sizes) (s : State) (xs ys : List Event) → state_from sizes s (xs ++ ys) ≡ state_from sizes
+    (state_from sizes s xs) ys
 from-append sizes s [] ys = refl
 from-append sizes s (e ∷ es) ys = from-append sizes (state_by e.kind sizes e s) es ys
 
@@ -16,7 +20,8 @@ unfolding state
 state-nil sizes = refl
 
 -- one more event changes the state as its kind says
-pub state-snoc : (sizes : Sizes) (journal : List Event) (e : Event) → state sizes (journal ++ e ∷ []) ≡ state_by e.kind sizes e (state sizes journal)
+pub state-snoc : (sizes : Sizes) (journal : List Event) (e : Event) → state sizes
+    (journal ++ e ∷ []) ≡ state_by e.kind sizes e (state sizes journal)
 unfolding state
 state-snoc sizes journal e = from-append sizes (opening sizes) journal (e ∷ [])
 
@@ -42,7 +47,12 @@ counted_by PushFree sizes e s = refl
 
 count_from : (sizes : Sizes) (s : State) (es : List Event) → (state_from sizes s es).count ≡ s.count + length es
 count_from sizes s [] = omega arith
-count_from sizes s (e ∷ es) = omega (arith, count_from sizes (state_by e.kind sizes e s) es, counted_by e.kind sizes e s)
+count_from sizes s (e ∷ es) = omega (
+  arith,
+  count_from sizes (state_by e.kind sizes e s) es,
+  counted_by e.kind sizes e
+      s,
+)
 
 -- the count is the number of events
 pub count-length : (sizes : Sizes) (journal : List Event) → (state sizes journal).count ≡ length journal

@@ -1,5 +1,7 @@
 -- What books say of turns, and what stands at a place of their history.
-use Rattle.std.proofs.Common.{◌≡◌, ◌≢◌, ℕ, zero, suc, ◌<◌, ◌≤◌, Bool, true, false, ◌&&◌, ◌==◌, List, [], ◌∷◌, ◌++◌, length, take, map, filter, Option, Some, None, refl, sym, ap, subst, arith, inl, inr, ◌⊎◌, eqb-true}
+use Rattle.std.proofs.Common.{◌≡◌, ◌≢◌, ℕ, zero, suc, ◌<◌, ◌≤◌, Bool, true, false, ◌&&◌, ◌==◌, List, [], ◌∷◌, ◌++◌}
+use Rattle.std.proofs.Common.{length, take, map, filter, Option, Some, None, refl, sym, ap, subst, arith, inl, inr, ◌⊎◌}
+use Rattle.std.proofs.Common.{eqb-true}
 use Rattle.std.specs.Prelude.{slice_get}
 use Rattle.graph_kinds.specs.declared.call.Call.{Call}
 use Rattle.graph_kinds.specs.declared.call.Call.TheVariants.{RemoveVertex}
@@ -14,7 +16,8 @@ use Rattle.graph_kinds.specs.Graph.{Graph, empty_graph, has}
 use Rattle.graph_kinds.specs.Answer.{answer, alters, needs_node, after}
 use Rattle.core_journal.specs.History.{Turn, same_class, stands, item, running, entries_at, or_running, items_at}
 use Rattle.core_journal.specs.Right.{StandsAt, FramedFrom, IsAnswer, CallersApart}
-use Rattle.core_journal.proofs.Lists.{every_append, every_map, every_both, every_none, every_all, every_filter, every_mapped, every_flat}
+use Rattle.core_journal.proofs.Lists.{every_append, every_map, every_both, every_none, every_all, every_filter}
+use Rattle.core_journal.proofs.Lists.{every_mapped, every_flat}
 
 -- the graph after what an event is to it
 abbrev pub applied : Graph → Option Call → Graph
@@ -37,7 +40,8 @@ RunsFrom g [] = Unit {0}
 RunsFrom g (t ∷ ts) = Does g t.call × RunsFrom (applied g t.call) ts
 
 -- a call of a turn alters the graph at it
-pub runs_at : (g : Graph) (ts : List Turn) (p : ℕ) (t : Turn) → RunsFrom g ts → slice_get ts p ≡ Some t → Does (replayed g (take p ts)) t.call
+pub runs_at : (g : Graph) (ts : List Turn) (p : ℕ) (t : Turn) → RunsFrom g ts → slice_get ts p ≡ Some t → Does
+    (replayed g (take p ts)) t.call
 runs_at g [] p t r e = absurd (cc)
 runs_at g (s ∷ ts) zero t r e = let same : s ≡ t = cc in subst (λ (x : Turn). Does g x.call) same r.0
 runs_at g (s ∷ ts) (suc p) t r e = runs_at (applied g s.call) ts p t r.1 e
@@ -97,7 +101,8 @@ StandsBy Own ts caller e = OwnBy ts caller e
 pub record BookIn (ts : List Turn) (b : Book) : Type 0 where
   pub right : Every (λ (e : Entry). StandsBy e.class ts b.caller e) b.entries
   pub framed : FramedFrom (length ts) 0 b.entries
-  pub covers : (p : ℕ) (t : Turn) (c : Call) → slice_get ts p ≡ Some t → t.caller ≡ b.caller → t.call ≡ Some c → length (filter (stands Own p) b.entries) ≡ 1
+  pub covers : (p : ℕ) (t : Turn) (c : Call) → slice_get ts p ≡ Some t → t.caller ≡ b.caller → t.call ≡ Some c → length
+      (filter (stands Own p) b.entries) ≡ 1
 
 class_is : (c d : Class) → same_class c d ≡ true → d ≡ c
 class_is Silent Silent e = refl
@@ -120,10 +125,13 @@ stands_at c p e h = by (same_class c e.class) (p == e.place) refl refl h
     by false t f g h = absurd (cc)
 
 -- what the items at a place have, from what the entries have there
-pub each_at : (c : Class) (p : ℕ) (B : Book → Type 0) (P : Item → Type 0) → ((b : Book) → B b → Every (λ (e : Entry). StandsAt c p e → P (item b.caller e)) b.entries) → (books : List Book) → Every B books → Every P (entries_at c p books)
+pub each_at : (c : Class) (p : ℕ) (B : Book → Type 0) (P : Item → Type 0) →
+    ((b : Book) → B b → Every (λ (e : Entry). StandsAt c p e → P (item b.caller e)) b.entries) → (books : List Book)
+    → Every B books → Every P (entries_at c p books)
 each_at c p B P f books h = every_flat B P (λ (b : Book). map (item b.caller) (filter (stands c p) b.entries))
     (λ b k. every_mapped (λ e. P (item b.caller e)) P (item b.caller) (λ e q. q) (filter (stands c p) b.entries)
-    (every_filter (λ e. StandsAt c p e → P (item b.caller e)) (λ e. P (item b.caller e)) (stands c p) (λ e q s. q (stands_at c p e s)) b.entries (f b k)))
+    (every_filter (λ e. StandsAt c p e → P (item b.caller e)) (λ e. P (item b.caller e)) (stands c p)
+    (λ e q s. q (stands_at c p e s)) b.entries (f b k)))
     books h
 
 -- later entries stand behind
@@ -131,7 +139,8 @@ pub all_since : (n least : ℕ) (es : List Entry) → FramedFrom n least es → 
 all_since n least [] f = tt
 all_since n least (e ∷ es) f = (
   omega (arith, f.0.apart, f.0.since),
-  every_map (λ (d : Entry). e.end ≤ d.place) (λ (d : Entry). least ≤ d.place) (λ d h. omega (arith, f.0.apart, f.0.since, f.0.until, h)) es (all_since n e.end es f.1),
+  every_map (λ (d : Entry). e.end ≤ d.place) (λ (d : Entry). least ≤ d.place)
+      (λ d h. omega (arith, f.0.apart, f.0.since, f.0.until, h)) es (all_since n e.end es f.1),
 )
 
 -- an entry doesn't stand between the place and the end of another
@@ -143,8 +152,10 @@ framed_grid n least [] f = tt
 framed_grid n least (e ∷ es) f =
     let behind = all_since n e.end es f.1 in (
       (inl (omega arith), every_map (λ (d : Entry). e.end ≤ d.place) (IsOutside e) (λ d h. inr h) es behind),
-      every_map (λ (d : Entry). (e.end ≤ d.place) × Every (IsOutside d) es) (λ (d : Entry). Every (IsOutside d) (e ∷ es)) (λ d h. (inl (omega (arith, f.0.until, h.0)), h.1)) es
-          (every_both (λ (d : Entry). e.end ≤ d.place) (λ (d : Entry). Every (IsOutside d) es) es behind (framed_grid n e.end es f.1)),
+      every_map (λ (d : Entry). (e.end ≤ d.place) × Every (IsOutside d) es)
+          (λ (d : Entry). Every (IsOutside d) (e ∷ es)) (λ d h. (inl (omega (arith, f.0.until, h.0)), h.1)) es
+          (every_both (λ (d : Entry). e.end ≤ d.place) (λ (d : Entry). Every (IsOutside d) es) es behind
+          (framed_grid n e.end es f.1)),
     )
 
 abbrev IsElse : Book → Book → Type 0
@@ -154,25 +165,32 @@ apart_grid : (books : List Book) → CallersApart books → Every (λ (b : Book)
 apart_grid [] h = tt
 apart_grid (b ∷ bs) h = (
   (inr refl, every_map (λ (c : Book). c.caller ≢ b.caller) (IsElse b) (λ c ne. inl ne) bs h.0),
-  every_map (λ (c : Book). (c.caller ≢ b.caller) × Every (IsElse c) bs) (λ (c : Book). Every (IsElse c) (b ∷ bs)) (λ c k. (inl (λ e. k.0 (sym e)), k.1)) bs
+  every_map (λ (c : Book). (c.caller ≢ b.caller) × Every (IsElse c) bs) (λ (c : Book). Every (IsElse c) (b ∷ bs))
+      (λ c k. (inl (λ e. k.0 (sym e)), k.1)) bs
       (every_both (λ (c : Book). c.caller ≢ b.caller) (λ (c : Book). Every (IsElse c) bs) bs h.0 (apart_grid bs h.1)),
 )
 
 -- facts of the own items, or of the one that runs
-pub or_running_each : (P : Item → Type 0) (t : Turn) (xs : List Item) → Every P xs → ((c : Call) → t.call ≡ Some c → P (running t.caller c)) → Every P (or_running t xs)
+pub or_running_each : (P : Item → Type 0) (t : Turn) (xs : List Item) → Every P xs →
+    ((c : Call) → t.call ≡ Some c → P (running t.caller c)) → Every P (or_running t xs)
 or_running_each P t (i ∷ xs) h f = h
-or_running_each P t [] h f = elim t.call as (λ o. t.call ≡ o → Every P (elim o as (λ _. List Item) [ None ↦ [] | Some c ↦ running t.caller c ∷ [] ])) [
-  | None ↦ λ e. tt
-  | Some c ↦ λ e. (f c e, tt)
-] refl
+or_running_each P t [] h f = elim t.call as (λ o. t.call ≡ o → Every P
+    (elim o as (λ _. List Item) [ None ↦ [] | Some c ↦ running t.caller c ∷ [] ])) [
+      | None ↦ λ e. tt
+      | Some c ↦ λ e. (f c e, tt)
+    ] refl
 
 -- no item of this caller stands at the numbers strictly between these two
 abbrev pub IsFree : List Turn → List Book → ℕ → ℕ → ℕ → Type 0
-IsFree ts books caller low high = (r : ℕ) (t : Turn) → low < r → r < high → slice_get ts r ≡ Some t → Every (λ (i : Item). i.caller ≢ caller) (items_at r t books)
+IsFree ts books caller low high = (r : ℕ) (t : Turn) → low < r → r < high → slice_get ts r ≡ Some t → Every
+    (λ (i : Item). i.caller ≢ caller) (items_at r t books)
 
-entry_free : (ts : List Turn) (books : List Book) (b : Book) (e : Entry) → BookIn ts b → Every (IsElse b) books → Every (IsOutside e) b.entries → IsFree ts books b.caller e.place e.end
+entry_free : (ts : List Turn) (books : List Book) (b : Book) (e : Entry) → BookIn ts b → Every (IsElse b) books → Every
+    (IsOutside e) b.entries → IsFree ts books b.caller e.place e.end
 entry_free ts books b e k others outside r t low high at =
-    every_append P (entries_at Silent r books) _ (none Silent) (every_append P (entries_at Late r books) _ (none Late) (or_running_each P t (entries_at Own r books) (none Own) still))
+    every_append P (entries_at Silent r books) _ (none Silent)
+    (every_append P (entries_at Late r books) _ (none Late)
+    (or_running_each P t (entries_at Own r books) (none Own) still))
   where
     P : Item → Type 0
     P i = i.caller ≢ b.caller
@@ -183,15 +201,19 @@ entry_free ts books b e k others outside r t low high at =
 
     one : (c : Class) (d : Book) → IsElse b d → Every (λ (x : Entry). StandsAt c r x → P (item d.caller x)) d.entries
     one c d (inl ne) = every_all (λ (x : Entry). StandsAt c r x → P (item d.caller x)) (λ x s. ne) d.entries
-    one c d (inr same) = subst (λ (d : Book). Every (λ (x : Entry). StandsAt c r x → P (item d.caller x)) d.entries) (sym same)
-        (every_map (IsOutside e) (λ (x : Entry). StandsAt c r x → P (item b.caller x)) (λ x o s. absurd (away c x o s)) b.entries outside)
+    one c d (inr same) = subst (λ (d : Book). Every (λ (x : Entry). StandsAt c r x → P (item d.caller x)) d.entries)
+        (sym same)
+        (every_map (IsOutside e) (λ (x : Entry). StandsAt c r x → P (item b.caller x))
+        (λ x o s. absurd (away c x o s)) b.entries outside)
 
     none : (c : Class) → Every P (entries_at c r books)
     none c = each_at c r (IsElse b) P (one c) books others
 
     still : (c : Call) → t.call ≡ Some c → t.caller ≢ b.caller
     still c is same =
-        let empty = every_none (filter (stands Own r) b.entries) (every_filter (IsOutside e) (λ _. ⊥) (stands Own r) (λ x o s. away Own x o (stands_at Own r x s)) b.entries outside) in
+        let empty = every_none (filter (stands Own r) b.entries)
+        (every_filter (IsOutside e) (λ _. ⊥) (stands Own r)
+        (λ x o s. away Own x o (stands_at Own r x s)) b.entries outside) in
         omega (arith, k.covers r t c at same is, ap length empty)
 
 -- what is known of each entry
@@ -204,12 +226,17 @@ pub record BooksIn (ts : List Turn) (books : List Book) : Type 0 where
   pub each : Every (BookIn ts) books
 
 -- what is known of each entry of true books
-pub entries_in : (ts : List Turn) (books : List Book) → BooksIn ts books → Every (λ (b : Book). Every (EntryIn ts books b.caller) b.entries) books
+pub entries_in : (ts : List Turn) (books : List Book) → BooksIn ts books → Every
+    (λ (b : Book). Every (EntryIn ts books b.caller) b.entries) books
 entries_in ts books h =
-    every_map (λ (b : Book). BookIn ts b × Every (IsElse b) books) (λ (b : Book). Every (EntryIn ts books b.caller) b.entries) (λ b k. one b k.0 k.1) books
+    every_map (λ (b : Book). BookIn ts b × Every (IsElse b) books)
+    (λ (b : Book). Every (EntryIn ts books b.caller) b.entries) (λ b k. one b k.0 k.1) books
     (every_both (BookIn ts) (λ (b : Book). Every (IsElse b) books) books h.each (apart_grid books h.apart))
   where
     one : (b : Book) → BookIn ts b → Every (IsElse b) books → Every (EntryIn ts books b.caller) b.entries
-    one b k others = every_map (λ (e : Entry). StandsBy e.class ts b.caller e × Every (IsOutside e) b.entries) (EntryIn ts books b.caller)
+    one b k others = every_map (λ (e : Entry). StandsBy e.class ts b.caller e × Every (IsOutside e) b.entries)
+        (EntryIn ts books b.caller)
         (λ e g. record { stands = g.0; free = entry_free ts books b e k others g.1 }) b.entries
-        (every_both (λ (e : Entry). StandsBy e.class ts b.caller e) (λ (e : Entry). Every (IsOutside e) b.entries) b.entries k.right (framed_grid (length ts) 0 b.entries k.framed))
+        (every_both (λ (e : Entry). StandsBy e.class ts b.caller e)
+        (λ (e : Entry). Every (IsOutside e) b.entries) b.entries k.right
+        (framed_grid (length ts) 0 b.entries k.framed))

@@ -14,10 +14,12 @@ use Rattle.core_journal.specs.GraphOf.{graph_of, present_key, IsRegular}
 use Rattle.core_journal.specs.History.{history, history_of, turns, IsClosed}
 use Rattle.core_journal.specs.Right.{IsBookOf, CallersApart, IsMarkedAfter}
 use Rattle.core_journal.specs.Changes.{IsNewVertex, IsRemovedVertex, IsNewEdge}
-use Rattle.core_journal.specs.Worked.{small, first_life, own, worked_journal, first_book, second_book, worked_books, worked_history, one_key}
+use Rattle.core_journal.specs.Worked.{small, first_life, own, worked_journal, first_book, second_book, worked_books}
+use Rattle.core_journal.specs.Worked.{worked_history, one_key}
 use Rattle.core_journal.proofs.Calls.{adds_vertex, removes_there, adds_edge}
 use Rattle.core_journal.proofs.Snoc.{same_is}
-use Rattle.core_journal.proofs.GraphRows.{has-graph, weight-graph, new_vertex_graph, removed_vertex_graph, new_edge_graph}
+use Rattle.core_journal.proofs.GraphRows.{has-graph, weight-graph, new_vertex_graph, removed_vertex_graph}
+use Rattle.core_journal.proofs.GraphRows.{new_edge_graph}
 use Rattle.core_journal.proofs.Regular.{new_vertex_regular, removed_vertex_regular, new_edge_regular}
 use Rattle.core_journal.proofs.Computed.{answers_added, answers_gone, own_right, covers_by, closed_by}
 use Rattle.core_journal.proofs.Laws.{history_legal}
@@ -29,7 +31,15 @@ abbrev e1 : Event
 e1 = record blank { kind = LinkVertex; life = first_life 1; key = 2 }
 
 abbrev e2 : Event
-e2 = record blank { kind = LinkEdge; life = first_life 2; key = 2; source = first_life 0; target = first_life 1; weight = 5 }
+e2 = record blank {
+  kind = LinkEdge;
+  life = first_life 2;
+  key = 2;
+  source = first_life 0;
+  target = first_life 1;
+  weight
+      = 5;
+}
 
 abbrev e3 : Event
 e3 = record blank { caller = 1; kind = MarkVertex; life = first_life 1 }
@@ -98,12 +108,23 @@ second_only x false false f g e = absurd (cc)
 
 removed3 : IsRemovedVertex past3 e3 2
 unfolding key_of
-removed3 = record { kind = refl; there = refl; only = λ x is. second_only x (same_life x (first_life 0)) (same_life x (first_life 1)) refl refl is }
+removed3 = record {
+  kind = refl;
+  there = refl;
+  only = λ x is. second_only x (same_life x (first_life 0))
+      (same_life x (first_life 1)) refl refl is;
+}
 
 -- each event is regular
 pub worked_regular : IsRegular worked_journal
 worked_regular = record {
-  steps = (new_vertex_regular [] e0 new0 no_one, (new_vertex_regular (e0 ∷ []) e1 new1 no_two, (new_edge_regular past2 e2 1 2 new2 source2 target2 no_pair, (removed_vertex_regular past3 e3 2 removed3, tt))));
+  steps = (
+    new_vertex_regular [] e0 new0 no_one,
+    (
+      new_vertex_regular (e0 ∷ []) e1 new1 no_two,
+      (new_edge_regular past2 e2 1 2 new2 source2 target2 no_pair, (removed_vertex_regular past3 e3 2 removed3, tt)),
+    ),
+  );
 }
 
 -- the books are of two callers
@@ -129,18 +150,50 @@ marked_after = record {
 first_true : IsBookOf small worked_journal first_book
 first_true = record {
   right = (
-    own_right worked_journal 0 (own (AddVertex 1) Added 0 0 1) e0 refl refl (adds_vertex (graph_of []) 1 no_one) (new_vertex_graph [] e0 new0) (answers_added (graph_of []) 1 no_one),
+    own_right worked_journal 0 (own (AddVertex 1) Added 0 0 1) e0 refl refl (adds_vertex (graph_of []) 1 no_one)
+        (new_vertex_graph [] e0 new0) (answers_added (graph_of []) 1 no_one),
     (
-      own_right worked_journal 0 (own (AddVertex 2) Added 1 1 2) e1 refl refl (adds_vertex (graph_of (e0 ∷ [])) 2 no_two) (new_vertex_graph (e0 ∷ []) e1 new1) (answers_added (graph_of (e0 ∷ [])) 2 no_two),
-      (own_right worked_journal 0 (own (AddEdge 1 2 5) Overtaken 2 2 4) e2 refl refl (adds_edge (graph_of past2) 1 2 5 one_two two_two no_pair) (new_edge_graph past2 e2 1 2 new2 source2 target2) marked_after, tt),
+      own_right worked_journal 0 (own (AddVertex 2) Added 1 1 2) e1 refl refl
+          (adds_vertex (graph_of (e0 ∷ [])) 2 no_two) (new_vertex_graph (e0 ∷ []) e1 new1)
+          (answers_added (graph_of (e0 ∷ [])) 2 no_two),
+      (
+        own_right worked_journal 0 (own (AddEdge 1 2 5) Overtaken 2 2 4) e2 refl refl
+            (adds_edge (graph_of past2) 1 2 5 one_two two_two no_pair)
+            (new_edge_graph past2 e2 1 2 new2 source2 target2) marked_after,
+        tt,
+      ),
     ),
   );
   framed = record {
     order = (
-      record { apart = omega arith; since = omega arith; until = omega arith; within = omega arith; before = λ h. omega arith },
+      record {
+        apart = omega arith;
+        since = omega arith;
+        until = omega arith;
+        within = omega arith;
+        before = λ h. omega
+            arith;
+      },
       (
-        record { apart = omega arith; since = omega arith; until = omega arith; within = omega arith; before = λ h. omega arith },
-        (record { apart = omega arith; since = omega arith; until = omega arith; within = omega arith; before = λ h. omega arith }, tt),
+        record {
+          apart = omega arith;
+          since = omega arith;
+          until = omega arith;
+          within = omega arith;
+          before = λ h.
+              omega arith;
+        },
+        (
+          record {
+            apart = omega arith;
+            since = omega arith;
+            until = omega arith;
+            within = omega arith;
+            before = λ h.
+                omega arith;
+          },
+          tt,
+        ),
       ),
     );
   };
@@ -149,8 +202,25 @@ first_true = record {
 
 second_true : IsBookOf small worked_journal second_book
 second_true = record {
-  right = (own_right worked_journal 1 (own (RemoveVertex 2) (Removed 0) 3 0 4) e3 refl refl (removes_there (graph_of past3) 2 two_three) (removed_vertex_graph past3 e3 2 removed3) (answers_gone (graph_of past3) 2 two_three), tt);
-  framed = record { order = (record { apart = omega arith; since = omega arith; until = omega arith; within = omega arith; before = λ h. omega arith }, tt) };
+  right = (
+    own_right worked_journal 1 (own (RemoveVertex 2) (Removed 0) 3 0 4) e3 refl refl
+        (removes_there (graph_of past3) 2 two_three) (removed_vertex_graph past3 e3 2 removed3)
+        (answers_gone (graph_of past3) 2 two_three),
+    tt,
+  );
+  framed = record {
+    order = (
+      record {
+        apart = omega arith;
+        since = omega arith;
+        until = omega arith;
+        within = omega
+            arith;
+        before = λ h. omega arith;
+      },
+      tt,
+    );
+  };
   covers = covers_by worked_journal 1 4 second_book.entries refl (λ e at. absurd (cc));
 }
 
@@ -165,7 +235,9 @@ worked_items = refl
 
 -- so it is legal
 pub worked_legal : IsLegal worked_history one_key
-worked_legal = subst (λ h. IsLegal h one_key) worked_items (subst (IsLegal (history worked_journal worked_books)) worked_graph (history_legal small worked_journal worked_books worked_regular worked_apart worked_true))
+worked_legal = subst (λ h. IsLegal h one_key) worked_items (subst
+    (IsLegal (history worked_journal worked_books)) worked_graph
+    (history_legal small worked_journal worked_books worked_regular worked_apart worked_true))
 
 -- no other caller changes the graph
 pub worked_closed : IsClosed worked_journal worked_books

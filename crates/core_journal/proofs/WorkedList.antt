@@ -37,7 +37,15 @@ pub end_closed : EndsAt closed_list (first_life 4) 9
 unfolding link_of
 end_closed = inr (record {
   stays = refl;
-  link = record blank { kind = LinkEdge; place = link_at small 3; life = first_life 4; key = 3; source = first_life 0; target = first_life 2; weight = 6 };
+  link = record blank {
+    kind = LinkEdge;
+    place = link_at small 3;
+    life = first_life 4;
+    key = 3;
+    source = first_life 0;
+    target = first_life 2;
+    weight = 6;
+  };
   edge = refl;
   mark_place = 6;
   mark = record blank { kind = MarkEdge; place = link_at small 4; life = first_life 4 };

@@ -1,5 +1,6 @@
 -- The worked journals reuse safely: in one no node is taken twice, in the other one is, after its life is over.
-use Rattle.std.proofs.Common.{◌≡◌, ℕ, zero, suc, ◌<◌, true, false, true≢false, sym, ne_eqb, ◌==◌, ◌∙◌, List, [], ◌++◌, refl, arith, inl}
+use Rattle.std.proofs.Common.{◌≡◌, ℕ, zero, suc, ◌<◌, true, false, true≢false, sym, ne_eqb, ◌==◌, ◌∙◌, List, [], ◌++◌}
+use Rattle.std.proofs.Common.{refl, arith, inl}
 use Rattle.std.specs.Prelude.{take, drop}
 use Rattle.core_journal.specs.declared.event.Event.{Event}
 use Rattle.core_journal.specs.declared.event.Kind.TheVariants.{UnlinkVertex, PopFree}
@@ -37,7 +38,13 @@ first_over : IsOver tiny given (first_life 0)
 unfolding state
 first_over = record {
   end = 11;
-  ends = inl (record { event = record blank { kind = UnlinkVertex; place = 5; word = 16777215; life = first_life 0 }; at = refl; unlinks = refl; life = refl });
+  ends = inl (record {
+    event = record blank { kind = UnlinkVertex; place = 5; word = 16777215; life = first_life 0 };
+    at
+        = refl;
+    unlinks = refl;
+    life = refl;
+  });
   passes = λ caller is. passes caller is;
 }
   where
@@ -49,5 +56,6 @@ pub second_reuse : ReusesSafely tiny second_life
 second_reuse =
     take_one tiny given taken_again
     (quiet_stretch tiny (take 3 given) (drop 3 given) refl
-    (take_one tiny (take 2 given) (record blank { kind = PopFree; place = 3; word = 33554433; life = first_life 0 }) (quiet_stretch tiny [] (take 2 given) refl (reuse_nil tiny)) tt))
+    (take_one tiny (take 2 given) (record blank { kind = PopFree; place = 3; word = 33554433; life = first_life 0 })
+    (quiet_stretch tiny [] (take 2 given) refl (reuse_nil tiny)) tt))
     (first_over, tt)

@@ -11,12 +11,13 @@ use Rattle.core_journal.specs.Machine.{word_at}
 use Rattle.core_journal.specs.State.{State, state}
 use Rattle.core_journal.proofs.MachineWords.{word_first}
 use Rattle.core_kept.specs.Kept.{IsKept}
-use Rattle.core_kept.proofs.ByKind.{Keeps, IsAfter, holds_all}
+use Rattle.core_kept.proofs.ByKind.{KeepsByKind, IsAfter, holds_all}
 
 record AreUnmarked (sizes : Sizes) (s : State) (w : ℕ → ℕ) : Type 0 where
   pub each : (j : ℕ) → j < sizes.buckets → mark_of (w (bucket_at sizes j)) ≡ 0
 
-module _ (sizes : Sizes) (past : List Event) (e : Event) (w : ℕ → ℕ) (a : IsAfter sizes past e w) (c : AreUnmarked sizes (state sizes past) (word_at sizes past)) (s : State) where
+module _ (sizes : Sizes) (past : List Event) (e : Event) (w : ℕ → ℕ) (a : IsAfter sizes past e w)
+    (c : AreUnmarked sizes (state sizes past) (word_at sizes past)) (s : State) where
   -- the event writes an unmarked word, wherever
   unmarked_word : mark_of e.word ≡ 0 → AreUnmarked sizes s w
   unmarked_word live = record {
@@ -29,12 +30,20 @@ module _ (sizes : Sizes) (past : List Event) (e : Event) (w : ℕ → ℕ) (a : 
   other_word : ((j : ℕ) → j < sizes.buckets → bucket_at sizes j ≢ e.place) → AreUnmarked sizes s w
   other_word ne = record { each = λ j low. ap mark_of (a.else (bucket_at sizes j) (ne j low)) ∙ c.each j low }
 
-unmarked_step : (sizes : Sizes) → IsLayout sizes → Keeps sizes (AreUnmarked sizes)
-unmarked_step sizes z past e kept c LinkVertex by ok w a = unmarked_word sizes past e w a c _ (ap mark_of ok.word ∙ mark_of-pack e.life.index 0 (tag_of (word_at sizes past e.place)) (omega (arith, ok.there, z.few_nodes)) (omega arith))
-unmarked_step sizes z past e kept c UnlinkVertex by ok w a = unmarked_word sizes past e w a c _ (ap mark_of ok.word ∙ mark_of-pack (index_of (word_at sizes past _)) 0 (tag_of (word_at sizes past e.place)) (omega arith) (omega arith))
-unmarked_step sizes z past e kept c ReplaceEdge by ok w a = other_word sizes past e w a c _ (λ j low h. omega (arith, ok.place, ok.old_there, h, low))
-unmarked_step sizes z past e kept c _ by ok w a = other_word sizes past e w a c _ (λ j low h. omega (arith, ok.place, ok.there, h, low))
+unmarked_step : (sizes : Sizes) → IsLayout sizes → KeepsByKind sizes (AreUnmarked sizes)
+unmarked_step sizes z past e kept c LinkVertex by ok w a = unmarked_word sizes past e w a c _
+    (ap mark_of ok.word ∙ mark_of-pack e.life.index 0 (tag_of (word_at sizes past e.place))
+    (omega (arith, ok.there, z.few_nodes)) (omega arith))
+unmarked_step sizes z past e kept c UnlinkVertex by ok w a = unmarked_word sizes past e w a c _
+    (ap mark_of ok.word ∙ mark_of-pack (index_of (word_at sizes past _)) 0 (tag_of (word_at sizes past e.place))
+    (omega arith) (omega arith))
+unmarked_step sizes z past e kept c ReplaceEdge by ok w a = other_word sizes past e w a c _
+    (λ j low h. omega (arith, ok.place, ok.old_there, h, low))
+unmarked_step sizes z past e kept c _ by ok w a = other_word sizes past e w a c _
+    (λ j low h. omega (arith, ok.place, ok.there, h, low))
 
 -- the word of a bucket is unmarked
-pub bucket_unmarked : (sizes : Sizes) → IsLayout sizes → (journal : List Event) → IsKept sizes journal → (j : ℕ) → j < sizes.buckets → mark_of (word_at sizes journal (bucket_at sizes j)) ≡ 0
-bucket_unmarked sizes z journal kept j low = (holds_all sizes (AreUnmarked sizes) (unmarked_step sizes z) (record { each = λ i there. ap mark_of (word_first sizes (Bucket i) there) }) journal kept).each j low
+pub bucket_unmarked : (sizes : Sizes) → IsLayout sizes → (journal : List Event) → IsKept sizes journal → (j : ℕ)
+    → j < sizes.buckets → mark_of (word_at sizes journal (bucket_at sizes j)) ≡ 0
+bucket_unmarked sizes z journal kept j low = (holds_all sizes (AreUnmarked sizes) (unmarked_step sizes z)
+    (record { each = λ i there. ap mark_of (word_first sizes (Bucket i) there) }) journal kept).each j low

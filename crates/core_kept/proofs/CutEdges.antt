@@ -18,19 +18,26 @@ pub record WasLinked (journal : List Event) (x : Life) : Type 0 where
   pub is : link_of journal x ≡ Some link
 
 module _ (sizes : Sizes) (z : IsLayout sizes) (past : List Event) (kept : IsKept sizes past) where
-  linked_was : (x : Life) → x.index < sizes.nodes → x.tag ≡ (node_in sizes past x.index).tag → IsLinkedEdge sizes past x.index → WasLinked past x
+  linked_was : (x : Life) → x.index < sizes.nodes → x.tag ≡ (node_in sizes past x.index).tag
+      → IsLinkedEdge sizes past x.index → WasLinked past x
   linked_was x there life l =
       let n = ((named sizes z past kept).each x.index there).edge_link (subst IsUsed (sym l.linked) tt) l.edge in
-      record { link = n.link; is = ap (link_of past) (life_is x x.index (node_in sizes past x.index).tag refl life) ∙ n.is }
+      record {
+        link = n.link;
+        is = ap (link_of past) (life_is x x.index (node_in sizes past x.index).tag refl life)
+            ∙ n.is;
+      }
 
-  cut_by : (k : Kind) (e : Event) → cuts_edge k ≡ true → AllowedAs k sizes past e → WasLinked past (cond (replaces k) e.old e.life)
+  cut_by : (k : Kind) (e : Event) → cuts_edge k ≡ true → AllowedAs k sizes past e → WasLinked past
+      (cond (replaces k) e.old e.life)
   cut_by MarkEdge e is ok = linked_was e.life ok.there ok.life ok.linked
   cut_by FreezeEdge e is ok = linked_was e.life ok.there ok.life ok.linked
   cut_by ReplaceEdge e is ok = linked_was e.old ok.old_there ok.old_life ok.linked
   cut_by _ e is ok = absurd (cc)
 
 -- an edge that an event marks was linked before
-pub cut_was_linked : (sizes : Sizes) → IsLayout sizes → (past : List Event) (e : Event) → IsKept sizes (past ++ e ∷ []) → cuts_edge e.kind ≡ true → (link : Event) × (link_of past (cut_life e) ≡ Some link)
+pub cut_was_linked : (sizes : Sizes) → IsLayout sizes → (past : List Event) (e : Event) → IsKept sizes (past ++ e ∷ [])
+    → cuts_edge e.kind ≡ true → (link : Event) × (link_of past (cut_life e) ≡ Some link)
 cut_was_linked sizes z past e kept is =
     let w = cut_by sizes z past (past_kept sizes past e kept) e.kind e is (last_allowed sizes past e kept).as_kind in
     (w.link, w.is)

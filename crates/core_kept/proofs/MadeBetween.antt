@@ -1,5 +1,6 @@
 -- How many events of some kinds a caller made tells whether it made any in between.
-use Rattle.std.proofs.Common.{◌≡◌, ℕ, ◌+◌, ◌≤◌, ◌==◌, ◌&&◌, Bool, true, false, cond, List, [], ◌∷◌, ◌++◌, length, filter, Some, refl, sym, ap, ◌∙◌, arith, eq-eqb}
+use Rattle.std.proofs.Common.{◌≡◌, ℕ, ◌+◌, ◌≤◌, ◌==◌, ◌&&◌, Bool, true, false, cond, List, [], ◌∷◌, ◌++◌, length}
+use Rattle.std.proofs.Common.{filter, Some, refl, sym, ap, ◌∙◌, arith, eq-eqb}
 use Rattle.std.specs.Prelude.{slice_get}
 use Rattle.core_journal.specs.declared.event.Kind.{Kind}
 use Rattle.core_journal.specs.declared.event.Event.{Event}
@@ -20,7 +21,9 @@ module _ (test : Kind → Bool) (caller : ℕ) where
   from_is past [] = refl
   from_is past (x ∷ xs) = by (is_own test caller x) (from_is (past ++ x ∷ []) xs)
     where
-      by : (b : Bool) → passing_from (own test caller) (past ++ x ∷ []) xs ≡ length (filter (is_own test caller) xs) → cond b 1 0 + passing_from (own test caller) (past ++ x ∷ []) xs ≡ length (cond b (x ∷ filter (is_own test caller) xs) (filter (is_own test caller) xs))
+      by : (b : Bool) → passing_from (own test caller) (past ++ x ∷ []) xs ≡ length (filter (is_own test caller) xs)
+          → cond b 1 0 + passing_from (own test caller) (past ++ x ∷ []) xs ≡ length
+          (cond b (x ∷ filter (is_own test caller) xs) (filter (is_own test caller) xs))
       by true h = omega (arith, h)
       by false h = omega (arith, h)
 
@@ -32,7 +35,8 @@ module _ (test : Kind → Bool) (caller : ℕ) where
   passes e by is = λ i. (is i) && (eq-eqb e.caller caller by i)
 
   passes_by : (e : Event) → e.caller ≡ caller → is_own test caller e ≡ false → test e.kind ≡ false
-  passes_by e by not_own = sym (and_true (test e.kind)) ∙ (ap (λ (b : Bool). test e.kind && b) (sym (eq-eqb e.caller caller by)) ∙ not_own)
+  passes_by e by not_own = sym (and_true (test e.kind)) ∙ (ap (λ (b : Bool). test e.kind && b)
+      (sym (eq-eqb e.caller caller by)) ∙ not_own)
     where
       and_true : (b : Bool) → (b && true) ≡ b
       and_true true = refl
@@ -43,10 +47,15 @@ module _ (test : Kind → Bool) (caller : ℕ) where
     made_grows = omega (arith, passing_grows (own test caller) front journal p, made_is front, made_is journal)
 
     -- as many: none in between
-    pub none_between : made test caller journal ≡ made test caller front → (n : ℕ) (e : Event) → length front ≤ n → slice_get journal n ≡ Some e → e.caller ≡ caller → test e.kind ≡ false
-    none_between same n e far at by = passes_by e by (passing_none (own test caller) front journal p (omega (arith, same, made_is front, made_is journal)) n e far at)
+    pub none_between : made test caller journal ≡ made test caller front → (n : ℕ) (e : Event) → length front ≤ n
+        → slice_get journal n ≡ Some e → e.caller ≡ caller → test e.kind ≡ false
+    none_between same n e far at by = passes_by e by (passing_none (own test caller) front journal p
+        (omega (arith, same, made_is front, made_is journal)) n e far at)
 
     -- one more: one in between, and no other
-    pub one_between : made test caller journal ≡ made test caller front + 1 → (m n : ℕ) (d e : Event) → length front ≤ m → slice_get journal m ≡ Some d → d.caller ≡ caller → test d.kind ≡ true → length front ≤ n → slice_get journal n ≡ Some e → e.caller ≡ caller → test e.kind ≡ true → n ≡ m
+    pub one_between : made test caller journal ≡ made test caller front + 1 → (m n : ℕ) (d e : Event) → length front ≤ m
+        → slice_get journal m ≡ Some d → d.caller ≡ caller → test d.kind ≡ true → length front ≤ n
+        → slice_get journal n ≡ Some e → e.caller ≡ caller → test e.kind ≡ true → n ≡ m
     one_between one m n d e far_m at_m by_m is_m far_n at_n by_n is_n =
-        passing_only (own test caller) front journal p (omega (arith, one, made_is front, made_is journal)) m n d e far_m at_m (passes d by_m is_m) far_n at_n (passes e by_n is_n)
+        passing_only (own test caller) front journal p (omega (arith, one, made_is front, made_is journal)) m n d e
+        far_m at_m (passes d by_m is_m) far_n at_n (passes e by_n is_n)

@@ -1,5 +1,6 @@
 -- What one meets from the head of a chain after each step: the list of the state after the event.
-use Rattle.std.proofs.Common.{◌≡◌, ◌≢◌, ℕ, suc, Bool, true, false, cond, not, ◌||◌, ◌==◌, List, [], ◌∷◌, refl, sym, ap, ◌∙◌, subst, arith, eq-eqb, eqb-true, ne_eqb, ◌⊎◌, ⊎_elim, inl, inr}
+use Rattle.std.proofs.Common.{◌≡◌, ◌≢◌, ℕ, suc, Bool, true, false, cond, not, ◌||◌, ◌==◌, List, [], ◌∷◌, refl, sym, ap}
+use Rattle.std.proofs.Common.{◌∙◌, subst, arith, eq-eqb, eqb-true, ne_eqb, ◌⊎◌, ⊎_elim, inl, inr}
 use Rattle.std.specs.Prelude.{Contains}
 use Rattle.std.specs.List.{list_any}
 use mathlib.Core.Logic.{dite}
@@ -9,10 +10,10 @@ use Rattle.packed_link.specs.Link.{nowhere}
 use Rattle.packed_link.specs.Layout.{Sizes, link_at}
 use Rattle.core_chain.specs.Chain.{Chain, Position, Head, Node, IsOn, IsChain, Precedes}
 use Rattle.core_chain.specs.Met.{MeetsFrom, RisesAlong, IsMet}
-use Rattle.core_chain.specs.Steps.{Inserts, Replaces, Unlinks, SetsMark, Untouched, Joins, Leaves}
+use Rattle.core_chain.specs.Steps.{Inserts, Replaces, Unlinks, SetsMark, Untouched, Joins, Departs}
 use Rattle.core_chain.specs.Table.{Places}
 use Rattle.core_chain.proofs.Orders.{if_same, one_leads, before_same, before_then}
-use Rattle.core_chain.proofs.Inserts.{Puts, Puts-inserted, Puts-replaced}
+use Rattle.core_chain.proofs.Inserts.{PutsNode, PutsNode-inserted, PutsNode-replaced}
 use Rattle.core_chain.proofs.Marks.{next-marked}
 use Rattle.core_chain.proofs.Meets.{met_behind}
 use Rattle.core_journal.specs.State.{put_behind, linked_in, unlinked_from}
@@ -26,26 +27,34 @@ pub contains_stands : (y : ℕ) (xs : List ℕ) → stands y xs ≡ true → Con
 contains_stands y [] h = absurd (cc)
 contains_stands y (x ∷ xs) h = by (x == y) refl (contains_stands y xs) h
   where
-    by : (b : Bool) → (x == y) ≡ b → (stands y xs ≡ true → Contains xs y) → (b || stands y xs) ≡ true → Contains (x ∷ xs) y
+    by : (b : Bool) → (x == y) ≡ b → (stands y xs ≡ true → Contains xs y) → (b || stands y xs) ≡ true → Contains
+        (x ∷ xs) y
     by true e more h = (0, omega arith, eqb-true x y e)
     by false e more h = let c = more h in (suc c.0, omega (arith, c.1), c.2)
 
 -- what holds of all elements of a list holds of each
 pub each_such : (P : ℕ → Type 0) (xs : List ℕ) → ((x : ℕ) → Contains xs x → P x) → Every P xs
 each_such P [] all = tt
-each_such P (x ∷ xs) all = (all x (0, omega arith, refl), each_such P xs (λ y c. all y (suc c.0, omega (arith, c.1), c.2)))
+each_such P (x ∷ xs) all = (
+  all x (0, omega arith, refl),
+  each_such P xs
+      (λ y c. all y (suc c.0, omega (arith, c.1), c.2)),
+)
 
 -- a node put behind none, and none taken away
 put_none : (test : ℕ → Bool) (y : ℕ) (xs : List ℕ) → Every (λ x. test x ≡ false) xs → put_behind test y xs ≡ xs
 put_none test y [] h = refl
-put_none test y (x ∷ xs) h = ap (λ (b : Bool). cond b (x ∷ y ∷ xs) (x ∷ put_behind test y xs)) h.0 ∙ ap (λ (l : List ℕ). x ∷ l) (put_none test y xs h.1)
+put_none test y (x ∷ xs) h = ap (λ (b : Bool). cond b (x ∷ y ∷ xs) (x ∷ put_behind test y xs)) h.0 ∙ ap
+    (λ (l : List ℕ). x ∷ l) (put_none test y xs h.1)
 
 pub unlinked_else : (y : ℕ) (xs : List ℕ) → Every (λ x. x ≢ y) xs → unlinked_from y xs ≡ xs
 unlinked_else y [] h = refl
-unlinked_else y (x ∷ xs) h = ap (λ (b : Bool). cond (not b) (x ∷ unlinked_from y xs) (unlinked_from y xs)) (ne_eqb x y h.0) ∙ ap (λ (l : List ℕ). x ∷ l) (unlinked_else y xs h.1)
+unlinked_else y (x ∷ xs) h = ap (λ (b : Bool). cond (not b) (x ∷ unlinked_from y xs) (unlinked_from y xs))
+    (ne_eqb x y h.0) ∙ ap (λ (l : List ℕ). x ∷ l) (unlinked_else y xs h.1)
 
 -- a chain stays as it is where a node is linked in at a place that is neither its head nor the link of a node on it
-pub linked_else : (sizes : Sizes) (head place y : ℕ) (xs : List ℕ) → place ≢ head → Every (λ x. place ≢ link_at sizes x) xs → linked_in sizes head place y xs ≡ xs
+pub linked_else : (sizes : Sizes) (head place y : ℕ) (xs : List ℕ) → place ≢ head → Every
+    (λ x. place ≢ link_at sizes x) xs → linked_in sizes head place y xs ≡ xs
 linked_else sizes head place y xs apart h =
     ap (λ (b : Bool). cond b (y ∷ xs) (put_behind (λ x. place == link_at sizes x) y xs)) (ne_eqb place head apart)
     ∙ put_none (λ x. place == link_at sizes x) y xs (each xs h)
@@ -55,7 +64,8 @@ linked_else sizes head place y xs apart h =
     each (x ∷ xs) h = (ne_eqb place (link_at sizes x) h.0, each xs h.1)
 
 -- a word from which the links lead on as before meets what it met
-pub meets_same : (c d : Chain) (p : Position) (xs : List ℕ) → IsChain c → IsOn c p → ((q : Position) → IsOn c q → d.next q ≡ c.next q) → MeetsFrom c p xs → MeetsFrom d p xs
+pub meets_same : (c d : Chain) (p : Position) (xs : List ℕ) → IsChain c → IsOn c p →
+    ((q : Position) → IsOn c q → d.next q ≡ c.next q) → MeetsFrom c p xs → MeetsFrom d p xs
 meets_same c d p [] chain on same met = same p on ∙ met
 meets_same c d p (x ∷ xs) chain on same met =
     let some : c.next p ≢ nowhere = λ e. met.1 (sym met.0 ∙ e) in
@@ -63,16 +73,24 @@ meets_same c d p (x ∷ xs) chain on same met =
     (same p on ∙ met.0, met.1, meets_same c d (Node x) xs chain there same met.2)
 
 -- after a mark, and where nothing changes
-pub meets_marked : (c d : Chain) (at : Position) (xs : List ℕ) → IsChain c → SetsMark c d at → MeetsFrom c Head xs → MeetsFrom d Head xs
+pub meets_marked : (c d : Chain) (at : Position) (xs : List ℕ) → IsChain c → SetsMark c d at → MeetsFrom c Head xs
+    → MeetsFrom d Head xs
 meets_marked c d at xs chain step met = meets_same c d Head xs chain tt (λ q on. next-marked c d at step q) met
 
-pub meets_untouched : (c d : Chain) (xs : List ℕ) → IsChain c → Untouched c d → MeetsFrom c Head xs → MeetsFrom d Head xs
+pub meets_untouched : (c d : Chain) (xs : List ℕ) → IsChain c → Untouched c d → MeetsFrom c Head xs
+    → MeetsFrom d Head xs
 meets_untouched c d xs chain same met = meets_same c d Head xs chain tt same.next met
 
 -- words that differ from one lead on as before, from a word that leads where another led
-moved : (c d : Chain) (at p q : Position) (xs : List ℕ) → ((r : Position) → r ≢ at → d.next r ≡ c.next r) → Every (λ x. Node x ≢ at) xs → d.next q ≡ c.next p → MeetsFrom c p xs → MeetsFrom d q xs
+moved : (c d : Chain) (at p q : Position) (xs : List ℕ) → ((r : Position) → r ≢ at → d.next r ≡ c.next r) → Every
+    (λ x. Node x ≢ at) xs → d.next q ≡ c.next p → MeetsFrom c p xs → MeetsFrom d q xs
 moved c d at p q [] others apart same met = same ∙ met
-moved c d at p q (x ∷ xs) others apart same met = (same ∙ met.0, met.1, moved c d at (Node x) (Node x) xs others apart.1 (others (Node x) apart.0) met.2)
+moved c d at p q (x ∷ xs) others apart same met = (
+  same ∙ met.0,
+  met.1,
+  moved c d at (Node x) (Node x) xs others apart.1
+      (others (Node x) apart.0) met.2,
+)
 
 -- a word doesn't stand behind another
 abbrev pub IsUpTo : Chain → Position → Position → Type 0
@@ -80,17 +98,20 @@ IsUpTo c q p = (q ≡ p) ⊎ Precedes c q p
 
 -- so it stands before what stands behind that
 before_next : (c : Chain) (q p : Position) (x : ℕ) → IsUpTo c q p → Precedes c p (Node x) → Precedes c q (Node x)
-before_next c q p x upto low = ⊎_elim (λ same. subst (λ (r : Position). Precedes c r (Node x)) (sym same) low) (λ before. before_then c q p (Node x) before low) upto
+before_next c q p x upto low = ⊎_elim (λ same. subst (λ (r : Position). Precedes c r (Node x)) (sym same) low)
+    (λ before. before_then c q p (Node x) before low) upto
 
 -- what rises behind a word stands at no such word
-apart_from : (c : Chain) (at p : Position) (xs : List ℕ) → IsUpTo c at p → RisesAlong c p xs → Every (λ x. Node x ≢ at) xs
+apart_from : (c : Chain) (at p : Position) (xs : List ℕ) → IsUpTo c at p → RisesAlong c p xs → Every
+    (λ x. Node x ≢ at) xs
 apart_from c at p [] upto rising = tt
 apart_from c at p (x ∷ xs) upto rising =
     let low = before_next c at p x upto rising.0 in
     ((λ e. before_same c at (Node x) low (sym e)), apart_from c at (Node x) xs (inr low) rising.1)
 
 -- what rises behind a node is no such node
-risen : (c : Chain) (p : Position) (n : ℕ) (xs : List ℕ) → IsUpTo c (Node n) p → RisesAlong c p xs → Every (λ x. x ≢ n) xs
+risen : (c : Chain) (p : Position) (n : ℕ) (xs : List ℕ) → IsUpTo c (Node n) p → RisesAlong c p xs → Every
+    (λ x. x ≢ n) xs
 risen c p n [] upto rising = tt
 risen c p n (x ∷ xs) upto rising =
     let low = before_next c (Node n) p x upto rising.0 in
@@ -102,48 +123,74 @@ pub record AreLinks (sizes : Sizes) (places : Places) : Type 0 where
   pub apart : (x : ℕ) → places.word_at Head ≢ link_at sizes x
 
 -- a node that is inserted behind the link of a node stands behind that node
-put_in : (sizes : Sizes) (c d : Chain) (x n : ℕ) (p : Position) (xs : List ℕ) → Puts c d (Node x) n → p ≢ Node x → MeetsFrom c p xs → RisesAlong c p xs → MeetsFrom d p (put_behind (λ y. link_at sizes x == link_at sizes y) n xs)
+put_in : (sizes : Sizes) (c d : Chain) (x n : ℕ) (p : Position) (xs : List ℕ) → PutsNode c d (Node x) n → p ≢ Node x
+    → MeetsFrom c p xs → RisesAlong c p xs → MeetsFrom d p (put_behind (λ y. link_at sizes x == link_at sizes y) n xs)
 put_in sizes c d x n p [] step ne met rising = step.words.next p ne ∙ met
 put_in sizes c d x n p (y ∷ ys) step ne met rising = dite (ℕ_discrete y x)
     (λ same.
-    let here : (link_at sizes x == link_at sizes y) ≡ true = eq-eqb (link_at sizes x) (link_at sizes y) (omega (arith, same)) in
-    let not_new : Node n ≢ Node x = λ e. let z : n ≡ x = cc in step.absent (subst (λ (q : Position). IsOn c q) (ap Node (sym z)) step.present) in
-    let to : d.next (Node n) ≡ c.next (Node y) = step.words.next (Node n) not_new ∙ (step.filled ∙ ap (λ (z : ℕ). c.next (Node z)) (sym same)) in
-    let rest : MeetsFrom d (Node n) ys = moved c d (Node x) (Node y) (Node n) ys step.words.next (apart_from c (Node x) (Node y) ys (inl (ap Node (sym same))) rising.1) to met.2 in
+    let here : (link_at sizes x == link_at sizes y) ≡ true = eq-eqb (link_at sizes x) (link_at sizes y)
+    (omega (arith, same)) in
+    let not_new : Node n ≢ Node x = λ e. let z : n ≡ x = cc in step.absent
+    (subst (λ (q : Position). IsOn c q) (ap Node (sym z)) step.present) in
+    let to : d.next (Node n) ≡ c.next (Node y) = step.words.next (Node n) not_new ∙
+    (step.filled ∙ ap (λ (z : ℕ). c.next (Node z)) (sym same)) in
+    let rest : MeetsFrom d (Node n) ys = moved c d (Node x) (Node y) (Node n) ys step.words.next
+    (apart_from c (Node x) (Node y) ys (inl (ap Node (sym same))) rising.1) to met.2 in
     let led : d.next (Node y) ≡ n = ap (λ (z : ℕ). d.next (Node z)) same ∙ step.leads in
-    subst (λ (b : Bool). MeetsFrom d p (cond b (y ∷ n ∷ ys) (y ∷ put_behind (λ z. link_at sizes x == link_at sizes z) n ys))) (sym here)
+    subst (λ (b : Bool). MeetsFrom d p (cond b (y ∷ n ∷ ys) (y ∷ put_behind
+    (λ z. link_at sizes x == link_at sizes z) n ys))) (sym here)
     (step.words.next p ne ∙ met.0, met.1, (led, step.named, rest)))
     (λ other.
-    let here : (link_at sizes x == link_at sizes y) ≡ false = ne_eqb (link_at sizes x) (link_at sizes y) (λ h. other (omega (arith, h))) in
-    subst (λ (b : Bool). MeetsFrom d p (cond b (y ∷ n ∷ ys) (y ∷ put_behind (λ z. link_at sizes x == link_at sizes z) n ys))) (sym here)
-    (step.words.next p ne ∙ met.0, met.1, put_in sizes c d x n (Node y) ys step (λ e. let z : y ≡ x = cc in other z) met.2 rising.1))
+    let here : (link_at sizes x == link_at sizes y) ≡ false = ne_eqb (link_at sizes x) (link_at sizes y)
+    (λ h. other (omega (arith, h))) in
+    subst (λ (b : Bool). MeetsFrom d p (cond b (y ∷ n ∷ ys) (y ∷ put_behind
+    (λ z. link_at sizes x == link_at sizes z) n ys))) (sym here) (
+      step.words.next p ne ∙ met.0,
+      met.1,
+      put_in sizes c d x n (Node y) ys step
+          (λ e. let z : y ≡ x = cc in other z) met.2 rising.1,
+    ))
 
 module _ (sizes : Sizes) (places : Places) (are : AreLinks sizes places) where
   -- what is linked in at the head stands first, and at the link of a node behind it
   at_head : (y : ℕ) (xs : List ℕ) → linked_in sizes (places.word_at Head) (places.word_at Head) y xs ≡ y ∷ xs
-  at_head y xs = ap (λ (b : Bool). cond b (y ∷ xs) (put_behind (λ x. places.word_at Head == link_at sizes x) y xs)) (eq-eqb (places.word_at Head) (places.word_at Head) refl)
+  at_head y xs = ap (λ (b : Bool). cond b (y ∷ xs) (put_behind (λ x. places.word_at Head == link_at sizes x) y xs))
+      (eq-eqb (places.word_at Head) (places.word_at Head) refl)
 
-  at_node : (x y : ℕ) (xs : List ℕ) → linked_in sizes (places.word_at Head) (places.word_at (Node x)) y xs ≡ put_behind (λ z. link_at sizes x == link_at sizes z) y xs
+  at_node : (x y : ℕ) (xs : List ℕ) → linked_in sizes (places.word_at Head) (places.word_at (Node x)) y xs ≡ put_behind
+      (λ z. link_at sizes x == link_at sizes z) y xs
   at_node x y xs =
-      ap (λ (b : Bool). cond b (y ∷ xs) (put_behind (λ z. places.word_at (Node x) == link_at sizes z) y xs)) (ne_eqb (places.word_at (Node x)) (places.word_at Head) (λ e. are.apart x (sym e ∙ are.links x)))
+      ap (λ (b : Bool). cond b (y ∷ xs) (put_behind (λ z. places.word_at (Node x) == link_at sizes z) y xs))
+      (ne_eqb (places.word_at (Node x)) (places.word_at Head) (λ e. are.apart x (sym e ∙ are.links x)))
       ∙ ap (λ (p : ℕ). put_behind (λ z. p == link_at sizes z) y xs) (are.links x)
 
   -- after a node is inserted one meets the list into which it's linked
-  pub meets_inserted : (c d : Chain) (at : Position) (n : ℕ) (xs : List ℕ) → IsChain c → Inserts c d at n → MeetsFrom c Head xs → MeetsFrom d Head (linked_in sizes (places.word_at Head) (places.word_at at) n xs)
+  pub meets_inserted : (c d : Chain) (at : Position) (n : ℕ) (xs : List ℕ) → IsChain c → Inserts c d at n
+      → MeetsFrom c Head xs → MeetsFrom d Head (linked_in sizes (places.word_at Head) (places.word_at at) n xs)
   meets_inserted c d Head n xs chain step met =
       let to : d.next (Node n) ≡ c.next Head = step.words.next (Node n) (λ e. absurd (cc)) ∙ step.can.filled in
-      subst (λ (l : List ℕ). MeetsFrom d Head l) (sym (at_head n xs))
-      (step.leads, step.can.named, moved c d Head Head (Node n) xs step.words.next (apart_from c Head Head xs (inl refl) (met_behind c Head xs chain tt met).0) to met)
+      subst (λ (l : List ℕ). MeetsFrom d Head l) (sym (at_head n xs)) (
+        step.leads,
+        step.can.named,
+        moved c d Head Head (Node n) xs step.words.next
+            (apart_from c Head Head xs (inl refl) (met_behind c Head xs chain tt met).0) to met,
+      )
   meets_inserted c d (Node x) n xs chain step met =
-      subst (λ (l : List ℕ). MeetsFrom d Head l) (sym (at_node x n xs)) (put_in sizes c d x n Head xs (Puts-inserted c d (Node x) n chain step) (λ e. absurd (cc)) met (met_behind c Head xs chain tt met).0)
+      subst (λ (l : List ℕ). MeetsFrom d Head l) (sym (at_node x n xs))
+      (put_in sizes c d x n Head xs (PutsNode-inserted c d (Node x) n chain step) (λ e. absurd (cc)) met
+      (met_behind c Head xs chain tt met).0)
 
   -- so after a node is replaced
-  pub meets_replaced : (c d : Chain) (x n : ℕ) (xs : List ℕ) → IsChain c → Replaces c d x n → MeetsFrom c Head xs → MeetsFrom d Head (linked_in sizes (places.word_at Head) (places.word_at (Node x)) n xs)
+  pub meets_replaced : (c d : Chain) (x n : ℕ) (xs : List ℕ) → IsChain c → Replaces c d x n → MeetsFrom c Head xs
+      → MeetsFrom d Head (linked_in sizes (places.word_at Head) (places.word_at (Node x)) n xs)
   meets_replaced c d x n xs chain step met =
-      subst (λ (l : List ℕ). MeetsFrom d Head l) (sym (at_node x n xs)) (put_in sizes c d x n Head xs (Puts-replaced c d x n chain step) (λ e. absurd (cc)) met (met_behind c Head xs chain tt met).0)
+      subst (λ (l : List ℕ). MeetsFrom d Head l) (sym (at_node x n xs))
+      (put_in sizes c d x n Head xs (PutsNode-replaced c d x n chain step) (λ e. absurd (cc)) met
+      (met_behind c Head xs chain tt met).0)
 
 -- a node that is taken out is no more met
-take_out : (c d : Chain) (at : Position) (n : ℕ) (p : Position) (xs : List ℕ) → IsChain c → Unlinks c d at n → IsOn c p → p ≢ Node n → MeetsFrom c p xs → RisesAlong c p xs → MeetsFrom d p (unlinked_from n xs)
+take_out : (c d : Chain) (at : Position) (n : ℕ) (p : Position) (xs : List ℕ) → IsChain c → Unlinks c d at n → IsOn c p
+    → p ≢ Node n → MeetsFrom c p xs → RisesAlong c p xs → MeetsFrom d p (unlinked_from n xs)
 take_out c d at n p [] chain step on ne met rising = if_same p at
     (λ same. absurd (step.can.named (sym step.can.led ∙ (ap c.next (sym same) ∙ met))))
     (λ other. step.words.next p other ∙ met)
@@ -154,28 +201,42 @@ take_out c d at n p (y ∷ ys) chain step on ne met rising =
     (λ same.
     let is : y ≡ n = sym met.0 ∙ (ap c.next same ∙ step.can.led) in
     let to : d.next p ≡ c.next (Node y) = ap d.next same ∙ (step.leads ∙ ap (λ (z : ℕ). c.next (Node z)) (sym is)) in
-    let rest : MeetsFrom d p ys = moved c d at (Node y) p ys step.words.next (apart_from c at (Node y) ys (inr (subst (λ (r : Position). Precedes c r (Node y)) same rising.0)) rising.1) to met.2 in
-    subst (λ (b : Bool). MeetsFrom d p (cond (not b) (y ∷ unlinked_from n ys) (unlinked_from n ys))) (sym (eq-eqb y n is))
-    (subst (λ (l : List ℕ). MeetsFrom d p l) (sym (unlinked_else n ys (risen c (Node y) n ys (inl (ap Node (sym is))) rising.1))) rest))
+    let rest : MeetsFrom d p ys = moved c d at (Node y) p ys step.words.next
+    (apart_from c at (Node y) ys (inr (subst (λ (r : Position). Precedes c r (Node y)) same rising.0)) rising.1) to
+    met.2 in
+    subst (λ (b : Bool). MeetsFrom d p (cond (not b) (y ∷ unlinked_from n ys) (unlinked_from n ys)))
+    (sym (eq-eqb y n is))
+    (subst (λ (l : List ℕ). MeetsFrom d p l) (sym (unlinked_else n ys
+    (risen c (Node y) n ys (inl (ap Node (sym is))) rising.1))) rest))
     (λ other.
-    let not_it : y ≢ n = λ is. other (one_leads c p at chain on step.can.present some (met.0 ∙ (is ∙ sym step.can.led))) in
-    subst (λ (b : Bool). MeetsFrom d p (cond (not b) (y ∷ unlinked_from n ys) (unlinked_from n ys))) (sym (ne_eqb y n not_it))
-    (step.words.next p other ∙ met.0, met.1, take_out c d at n (Node y) ys chain step there (λ e. let is : y ≡ n = cc in not_it is) met.2 rising.1))
+    let not_it : y ≢ n = λ is. other (one_leads c p at chain on step.can.present some (met.0 ∙ (is ∙ sym step.can.led)))
+    in
+    subst (λ (b : Bool). MeetsFrom d p (cond (not b) (y ∷ unlinked_from n ys) (unlinked_from n ys)))
+    (sym (ne_eqb y n not_it)) (
+      step.words.next p other ∙ met.0,
+      met.1,
+      take_out c d at n (Node y) ys chain step there
+          (λ e. let is : y ≡ n = cc in not_it is) met.2 rising.1,
+    ))
 
 -- after a node is unlinked one meets the list without it
-pub meets_unlinked : (c d : Chain) (at : Position) (n : ℕ) (xs : List ℕ) → IsChain c → Unlinks c d at n → MeetsFrom c Head xs → MeetsFrom d Head (unlinked_from n xs)
-meets_unlinked c d at n xs chain step met = take_out c d at n Head xs chain step tt (λ e. absurd (cc)) met (met_behind c Head xs chain tt met).0
+pub meets_unlinked : (c d : Chain) (at : Position) (n : ℕ) (xs : List ℕ) → IsChain c → Unlinks c d at n
+    → MeetsFrom c Head xs → MeetsFrom d Head (unlinked_from n xs)
+meets_unlinked c d at n xs chain step met = take_out c d at n Head xs chain step tt (λ e. absurd (cc)) met
+    (met_behind c Head xs chain tt met).0
 
 -- a node joins the list into which it's linked
 put_joins : (test : ℕ → Bool) (n x : ℕ) (xs : List ℕ) → x ≢ n → stands x (put_behind test n xs) ≡ stands x xs
 put_joins test n x [] ne = refl
 put_joins test n x (y ∷ ys) ne = by (test y) (put_joins test n x ys ne)
   where
-    by : (b : Bool) → stands x (put_behind test n ys) ≡ stands x ys → stands x (cond b (y ∷ n ∷ ys) (y ∷ put_behind test n ys)) ≡ stands x (y ∷ ys)
+    by : (b : Bool) → stands x (put_behind test n ys) ≡ stands x ys → stands x
+        (cond b (y ∷ n ∷ ys) (y ∷ put_behind test n ys)) ≡ stands x (y ∷ ys)
     by true h = ap (λ (b : Bool). (y == x) || (b || stands x ys)) (ne_eqb n x (λ e. ne (sym e)))
     by false h = ap (λ (b : Bool). (y == x) || b) h
 
-put_stands : (test : ℕ → Bool) (n b : ℕ) (xs : List ℕ) → test b ≡ true → stands b xs ≡ true → stands n (put_behind test n xs) ≡ true
+put_stands : (test : ℕ → Bool) (n b : ℕ) (xs : List ℕ) → test b ≡ true → stands b xs ≡ true → stands n
+    (put_behind test n xs) ≡ true
 put_stands test n b [] hits h = absurd (cc)
 put_stands test n b (y ∷ ys) hits h = by (test y) (y == b) refl refl (put_stands test n b ys hits) h
   where
@@ -183,13 +244,15 @@ put_stands test n b (y ∷ ys) hits h = by (test y) (y == b) refl refl (put_stan
     or_true true = refl
     or_true false = refl
 
-    by : (t s : Bool) → test y ≡ t → (y == b) ≡ s → (stands b ys ≡ true → stands n (put_behind test n ys) ≡ true) → (s || stands b ys) ≡ true → stands n (cond t (y ∷ n ∷ ys) (y ∷ put_behind test n ys)) ≡ true
+    by : (t s : Bool) → test y ≡ t → (y == b) ≡ s → (stands b ys ≡ true → stands n (put_behind test n ys) ≡ true) →
+        (s || stands b ys) ≡ true → stands n (cond t (y ∷ n ∷ ys) (y ∷ put_behind test n ys)) ≡ true
     by true s i j more h = ap (λ (a : Bool). (y == n) || (a || stands n ys)) (eq-eqb n n refl) ∙ or_true (y == n)
     by false true i j more h = absurd (let e : test y ≡ true = ap test (eqb-true y b j) ∙ hits in cc)
     by false false i j more h = ap (λ (a : Bool). (y == n) || a) (more h) ∙ or_true (y == n)
 
 -- where another node is linked in, a node stands on the list as before
-pub linked_stands : (sizes : Sizes) (head place n x : ℕ) (xs : List ℕ) → x ≢ n → stands x (linked_in sizes head place n xs) ≡ stands x xs
+pub linked_stands : (sizes : Sizes) (head place n x : ℕ) (xs : List ℕ) → x ≢ n → stands x
+    (linked_in sizes head place n xs) ≡ stands x xs
 linked_stands sizes head place n x xs ne = by (place == head)
   where
     by : (b : Bool) → stands x (cond b (n ∷ xs) (put_behind (λ z. place == link_at sizes z) n xs)) ≡ stands x xs
@@ -197,25 +260,32 @@ linked_stands sizes head place n x xs ne = by (place == head)
     by false = put_joins (λ z. place == link_at sizes z) n x xs ne
 
 module _ (sizes : Sizes) (places : Places) (are : AreLinks sizes places) where
-  pub joins_linked : (at : Position) (n : ℕ) (xs : List ℕ) → ((x : ℕ) → at ≡ Node x → stands x xs ≡ true) → Joins (λ x. stands x xs) (λ x. stands x (linked_in sizes (places.word_at Head) (places.word_at at) n xs)) n
+  pub joins_linked : (at : Position) (n : ℕ) (xs : List ℕ) → ((x : ℕ) → at ≡ Node x → stands x xs ≡ true) → Joins
+      (λ x. stands x xs) (λ x. stands x (linked_in sizes (places.word_at Head) (places.word_at at) n xs)) n
   joins_linked Head n xs behind = record {
-    joins = ap (λ (l : List ℕ). stands n l) (at_head sizes places are n xs) ∙ ap (λ (b : Bool). b || stands n xs) (eq-eqb n n refl);
-    others = λ x ne. ap (λ (l : List ℕ). stands x l) (at_head sizes places are n xs) ∙ ap (λ (b : Bool). b || stands x xs) (ne_eqb n x (λ e. ne (sym e)));
+    joins = ap (λ (l : List ℕ). stands n l) (at_head sizes places are n xs) ∙ ap (λ (b : Bool). b || stands n xs)
+        (eq-eqb n n refl);
+    others = λ x ne. ap (λ (l : List ℕ). stands x l) (at_head sizes places are n xs) ∙ ap
+        (λ (b : Bool). b || stands x xs) (ne_eqb n x (λ e. ne (sym e)));
   }
   joins_linked (Node b) n xs behind = record {
-    joins = ap (λ (l : List ℕ). stands n l) (at_node sizes places are b n xs) ∙ put_stands (λ z. link_at sizes b == link_at sizes z) n b xs (eq-eqb (link_at sizes b) (link_at sizes b) refl) (behind b refl);
-    others = λ x ne. ap (λ (l : List ℕ). stands x l) (at_node sizes places are b n xs) ∙ put_joins (λ z. link_at sizes b == link_at sizes z) n x xs ne;
+    joins = ap (λ (l : List ℕ). stands n l) (at_node sizes places are b n xs) ∙ put_stands
+        (λ z. link_at sizes b == link_at sizes z) n b xs (eq-eqb (link_at sizes b) (link_at sizes b) refl)
+        (behind b refl);
+    others = λ x ne. ap (λ (l : List ℕ). stands x l) (at_node sizes places are b n xs) ∙ put_joins
+        (λ z. link_at sizes b == link_at sizes z) n x xs ne;
   }
 
 -- a node leaves the list without it
-pub leaves_unlinked : (n : ℕ) (xs : List ℕ) → Leaves (λ x. stands x xs) (λ x. stands x (unlinked_from n xs)) n
-leaves_unlinked n xs = record { leaves = λ h. gone xs h; others = λ x ne. stays x ne xs }
+pub leaves_unlinked : (n : ℕ) (xs : List ℕ) → Departs (λ x. stands x xs) (λ x. stands x (unlinked_from n xs)) n
+leaves_unlinked n xs = record { departs = λ h. gone xs h; others = λ x ne. stays x ne xs }
   where
     gone : (xs : List ℕ) → stands n (unlinked_from n xs) ≡ true → ⊥
     gone [] h = absurd (cc)
     gone (y ∷ ys) h = by (y == n) refl (gone ys) h
       where
-        by : (b : Bool) → (y == n) ≡ b → (stands n (unlinked_from n ys) ≡ true → ⊥) → stands n (cond (not b) (y ∷ unlinked_from n ys) (unlinked_from n ys)) ≡ true → ⊥
+        by : (b : Bool) → (y == n) ≡ b → (stands n (unlinked_from n ys) ≡ true → ⊥) → stands n
+            (cond (not b) (y ∷ unlinked_from n ys) (unlinked_from n ys)) ≡ true → ⊥
         by true e more h = more h
         by false e more h = more (sym (ap (λ (b : Bool). b || stands n (unlinked_from n ys)) e) ∙ h)
 
@@ -223,17 +293,20 @@ leaves_unlinked n xs = record { leaves = λ h. gone xs h; others = λ x ne. stay
     stays x ne [] = refl
     stays x ne (y ∷ ys) = by (y == n) refl (stays x ne ys)
       where
-        by : (b : Bool) → (y == n) ≡ b → stands x (unlinked_from n ys) ≡ stands x ys → stands x (cond (not b) (y ∷ unlinked_from n ys) (unlinked_from n ys)) ≡ stands x (y ∷ ys)
-        by true e h = h ∙ sym (ap (λ (b : Bool). b || stands x ys) (ne_eqb y x (λ same. ne (sym same ∙ eqb-true y n e))))
+        by : (b : Bool) → (y == n) ≡ b → stands x (unlinked_from n ys) ≡ stands x ys → stands x
+            (cond (not b) (y ∷ unlinked_from n ys) (unlinked_from n ys)) ≡ stands x (y ∷ ys)
+        by true e h = h ∙ sym (ap (λ (b : Bool). b || stands x ys)
+            (ne_eqb y x (λ same. ne (sym same ∙ eqb-true y n e))))
         by false e h = ap (λ (b : Bool). (y == x) || b) h
 
 -- what stands on the list without a node is another, and stood on it before
 pub unlinked_stands : (n x : ℕ) (xs : List ℕ) → stands x (unlinked_from n xs) ≡ true → (x ≢ n) × (stands x xs ≡ true)
 unlinked_stands n x xs h =
     let l = leaves_unlinked n xs in
-    let ne : x ≢ n = λ e. l.leaves (subst (λ (y : ℕ). stands y (unlinked_from n xs) ≡ true) e h) in
+    let ne : x ≢ n = λ e. l.departs (subst (λ (y : ℕ). stands y (unlinked_from n xs) ≡ true) e h) in
     (ne, sym (l.others x ne) ∙ h)
 
 -- a node off the chain is none of those that are met
 pub each_absent : (c : Chain) (n : ℕ) (xs : List ℕ) → IsMet c xs → (IsOn c (Node n) → ⊥) → Every (λ x. x ≢ n) xs
-each_absent c n xs met none = each_such (λ x. x ≢ n) xs (λ x h same. none ((met.exactly n).1 (subst (Contains xs) same h)))
+each_absent c n xs met none = each_such (λ x. x ≢ n) xs (λ x h same. none
+    ((met.exactly n).1 (subst (Contains xs) same h)))

@@ -15,7 +15,8 @@ use Rattle.core_kept.proofs.Ripe.{ripe_before}
 use Rattle.core_kept.proofs.MetLives.{IsSameLinked, met_stays}
 
 -- what is met is linked or spent
-pub met_used : (sizes : Sizes) (journal : List Event) (caller x : ℕ) → HasMet sizes journal caller x → IsUsed (node_in sizes journal x).mode
+pub met_used : (sizes : Sizes) (journal : List Event) (caller x : ℕ) → HasMet sizes journal caller x → IsUsed
+    (node_in sizes journal x).mode
 met_used sizes journal caller x m = by (node_in sizes journal x).mode m.free m.fresh
   where
     by : (k : Mode) → k ≢ Free → k ≢ Fresh → IsUsed k
@@ -25,10 +26,16 @@ met_used sizes journal caller x m = by (node_in sizes journal x).mode m.free m.f
     by Spent f g = tt
 
 -- a ripe node is met in no open pass
-pub ripe_not_met : (sizes : Sizes) → IsLayout sizes → (journal : List Event) → IsKept sizes journal → (caller i x : ℕ) → IsRipe sizes journal caller x → HasMet sizes journal i x → ⊥
-ripe_not_met sizes z journal kept caller i x r m = omega (arith, ripe_before sizes z journal kept caller x i r m.pass, m.spent r.stamped.spent.spent)
+pub ripe_not_met : (sizes : Sizes) → IsLayout sizes → (journal : List Event) → IsKept sizes journal → (caller i x : ℕ)
+    → IsRipe sizes journal caller x → HasMet sizes journal i x → ⊥
+ripe_not_met sizes z journal kept caller i x r m = omega (
+  arith,
+  ripe_before sizes z journal kept caller x i r m.pass,
+  m.spent r.stamped.spent.spent,
+)
 
-module _ (sizes : Sizes) (z : IsLayout sizes) (front journal : List Event) (kept : IsKept sizes journal) (caller x : ℕ) (p : IsSamePass sizes front journal caller) (m : HasMet sizes front caller x) where
+module _ (sizes : Sizes) (z : IsLayout sizes) (front journal : List Event) (kept : IsKept sizes journal) (caller x : ℕ)
+    (p : IsSamePass sizes front journal caller) (m : HasMet sizes front caller x) where
   -- it's met still, in its life
   pub still_met : HasMet sizes journal caller x × IsSameLinked (node_in sizes front x) (node_in sizes journal x)
   still_met = met_stays sizes z caller x front journal p.before kept m p.open_still p.since
@@ -37,22 +44,34 @@ module _ (sizes : Sizes) (z : IsLayout sizes) (front journal : List Event) (kept
   pub key_stays : x < sizes.nodes → word_at sizes journal (key_at sizes x) ≡ word_at sizes front (key_at sizes x)
   key_stays there = by (node_in sizes front x).vertex refl
     where
-      by : (b : Bool) → (node_in sizes front x).vertex ≡ b → word_at sizes journal (key_at sizes x) ≡ word_at sizes front (key_at sizes x)
+      by : (b : Bool) → (node_in sizes front x).vertex ≡ b → word_at sizes journal
+          (key_at sizes x) ≡ word_at sizes front (key_at sizes x)
       by true is =
           let s = still_met in
-          let old = ((contents sizes z front (kept_front sizes front journal p.before kept)).each x there).vertex (met_used sizes front caller x m) is in
-          let new = ((contents sizes z journal kept).each x there).vertex (met_used sizes journal caller x s.0) (s.1.vertex ∙ is) in
+          let old = ((contents sizes z front (kept_front sizes front journal p.before kept)).each x there).vertex
+          (met_used sizes front caller x m) is in
+          let new = ((contents sizes z journal kept).each x there).vertex (met_used sizes journal caller x s.0)
+          (s.1.vertex ∙ is) in
           new.key_word ∙ (s.1.key ∙ sym old.key_word)
       by false is =
           let s = still_met in
-          let old = ((contents sizes z front (kept_front sizes front journal p.before kept)).each x there).edge (met_used sizes front caller x m) is in
-          let new = ((contents sizes z journal kept).each x there).edge (met_used sizes journal caller x s.0) (s.1.vertex ∙ is) in
+          let old = ((contents sizes z front (kept_front sizes front journal p.before kept)).each x there).edge
+          (met_used sizes front caller x m) is in
+          let new = ((contents sizes z journal kept).each x there).edge (met_used sizes journal caller x s.0)
+          (s.1.vertex ∙ is) in
           new.key_word ∙ (s.1.key ∙ sym old.key_word)
 
   -- so do an edge's target and weight
-  pub edge_stays : x < sizes.nodes → (node_in sizes front x).vertex ≡ false → (word_at sizes journal (second_at sizes x) ≡ word_at sizes front (second_at sizes x)) × (word_at sizes journal (third_at sizes x) ≡ word_at sizes front (third_at sizes x))
+  pub edge_stays : x < sizes.nodes → (node_in sizes front x).vertex ≡ false →
+      (word_at sizes journal (second_at sizes x) ≡ word_at sizes front (second_at sizes x)) ×
+      (word_at sizes journal (third_at sizes x) ≡ word_at sizes front (third_at sizes x))
   edge_stays there is =
       let s = still_met in
-      let old = ((contents sizes z front (kept_front sizes front journal p.before kept)).each x there).edge (met_used sizes front caller x m) is in
-      let new = ((contents sizes z journal kept).each x there).edge (met_used sizes journal caller x s.0) (s.1.vertex ∙ is) in
-      (new.target_word ∙ (ap (λ (y : Life). pack y.index 0 y.tag) s.1.target ∙ sym old.target_word), new.weight_word ∙ (s.1.weight ∙ sym old.weight_word))
+      let old = ((contents sizes z front (kept_front sizes front journal p.before kept)).each x there).edge
+      (met_used sizes front caller x m) is in
+      let new = ((contents sizes z journal kept).each x there).edge (met_used sizes journal caller x s.0)
+      (s.1.vertex ∙ is) in (
+        new.target_word ∙ (ap (λ (y : Life). pack y.index 0 y.tag) s.1.target ∙ sym old.target_word),
+        new.weight_word ∙
+            (s.1.weight ∙ sym old.weight_word),
+      )

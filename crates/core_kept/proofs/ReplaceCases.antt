@@ -32,22 +32,28 @@ new_edge_node v e count = record v {
   since = count + 1;
 }
 
-module _ (sizes : Sizes) (z : IsLayout sizes) (past : List Event) (e : Event) (kept : IsKept sizes past) (ok : IsReplaceEdge sizes past e) where
+module _ (sizes : Sizes) (z : IsLayout sizes) (past : List Event) (e : Event) (kept : IsKept sizes past)
+    (ok : IsReplaceEdge sizes past e) where
   -- a fresh node is unmarked
   pub new_unmarked : (node_in sizes past e.life.index).marked ≡ false
   new_unmarked = (((link_words sizes z past kept).each e.life.index ok.there).unmarked ok.fresh.fresh).0
 
   -- another node than the new edge's, before the frozen part is handed over, is as after a mark of the old edge
   pub else_marked : (x : ℕ) → x ≢ e.life.index
-      → (marked_state (joined_edge sizes e (state sizes past)) e.old.index).node x ≡ (marked_state (state sizes past) e.old.index).node x
+      → (marked_state (joined_edge sizes e (state sizes past)) e.old.index).node x ≡
+      (marked_state (state sizes past) e.old.index).node x
   else_marked x ne =
       let s : State = state sizes past in
       let j : State = joined_edge sizes e s in
       let v = new_edge_node (s.node e.life.index) e s.count in
-      put_case (λ (u : Node). u ≡ (marked_state s e.old.index).node x) e.old.index (record (j.node e.old.index) { marked = true }) j.node x
-      (λ same. subst (λ (i : ℕ). record (j.node e.old.index) { marked = true } ≡ (marked_state s e.old.index).node i) (sym same)
-      (ap (λ (n : Node). record n { marked = true }) (old_joined sizes past e ok) ∙ sym (put_same e.old.index (record (s.node e.old.index) { marked = true }) s.node)))
-      (λ other. put_other e.life.index v s.node x ne ∙ sym (put_other e.old.index (record (s.node e.old.index) { marked = true }) s.node x other))
+      put_case (λ (u : Node). u ≡ (marked_state s e.old.index).node x) e.old.index
+      (record (j.node e.old.index) { marked = true }) j.node x
+      (λ same. subst (λ (i : ℕ). record (j.node e.old.index) { marked = true } ≡ (marked_state s e.old.index).node i)
+      (sym same)
+      (ap (λ (n : Node). record n { marked = true }) (old_joined sizes past e ok) ∙ sym
+      (put_same e.old.index (record (s.node e.old.index) { marked = true }) s.node)))
+      (λ other. put_other e.life.index v s.node x ne ∙ sym (put_other e.old.index
+      (record (s.node e.old.index) { marked = true }) s.node x other))
 
   -- by cases on what a node is after the event
   pub replaced_case : (P : Node → Type 0) (x : ℕ)
@@ -55,10 +61,12 @@ module _ (sizes : Sizes) (z : IsLayout sizes) (past : List Event) (e : Event) (k
       → (x ≢ e.life.index → P ((marked_state (state sizes past) e.old.index).node x))
       → (x ≢ e.life.index → ((marked_state (state sizes past) e.old.index).node x).mode ≡ Linked
       → ((marked_state (state sizes past) e.old.index).node x).marked ≡ true
-      → list_any (λ z. z == x) (frozen_part (marked_state (joined_edge sizes e (state sizes past)) e.old.index) ((joined_edge sizes e (state sizes past)).node e.old.index).source.index) ≡ true
+      → list_any (λ z. z == x) (frozen_part (marked_state (joined_edge sizes e (state sizes past)) e.old.index)
+      ((joined_edge sizes e (state sizes past)).node e.old.index).source.index) ≡ true
       → P (record ((marked_state (state sizes past) e.old.index).node x) {
         mode = Spent;
-        who = ((marked_state (joined_edge sizes e (state sizes past)) e.old.index).node ((joined_edge sizes e (state sizes past)).node e.old.index).source.index).who;
+        who = ((marked_state (joined_edge sizes e (state sizes past)) e.old.index).node
+            ((joined_edge sizes e (state sizes past)).node e.old.index).source.index).who;
         ended = (state sizes past).count + 1;
         epoch = (state sizes past).epoch;
       }))
@@ -69,25 +77,39 @@ module _ (sizes : Sizes) (z : IsLayout sizes) (past : List Event) (e : Event) (k
       let v = new_edge_node (s.node e.life.index) e s.count in
       let t : State = marked_state j e.old.index in
       let at_new : x ≡ e.life.index → t.node x ≡ v = λ is. ap t.node is
-      ∙ (put_other e.old.index (record (j.node e.old.index) { marked = true }) j.node e.life.index (λ h. old_apart sizes past e ok (sym h))
+      ∙ (put_other e.old.index (record (j.node e.old.index) { marked = true }) j.node e.life.index
+      (λ h. old_apart sizes past e ok (sym h))
       ∙ put_same e.life.index v s.node) in
       dite (ℕ_discrete x e.life.index)
       (λ is. handed_case P t (j.node e.old.index).source.index x (subst P (sym (at_new is)) (new is))
-      (λ _ marked _. let f = ap (λ (n : Node). n.marked) (sym (at_new is)) in let g : v.marked ≡ true = ap (λ (n : Node). n.marked) (sym (at_new is)) ∙ marked in let u : v.marked ≡ false = new_unmarked in absurd (cc)))
+      (λ _ marked _. let f = ap (λ (n : Node). n.marked) (sym (at_new is)) in let g : v.marked ≡ true = ap
+      (λ (n : Node). n.marked) (sym (at_new is)) ∙ marked in let u : v.marked ≡ false = new_unmarked in absurd
+      (cc)))
       (λ ne. handed_case P t (j.node e.old.index).source.index x (subst P (sym (else_marked x ne)) (same ne))
-      (λ m marked part. subst (λ (n : Node). P (record n { mode = Spent; who = (t.node (j.node e.old.index).source.index).who; ended = s.count + 1; epoch = s.epoch })) (sym (else_marked x ne))
-      (given ne (ap (λ (n : Node). n.mode) (sym (else_marked x ne)) ∙ m) (ap (λ (n : Node). n.marked) (sym (else_marked x ne)) ∙ marked) part)))
+      (λ m marked part. subst (λ (n : Node). P (record n {
+        mode = Spent;
+        who =
+            (t.node (j.node e.old.index).source.index).who;
+        ended = s.count + 1;
+        epoch = s.epoch;
+      }))
+      (sym (else_marked x ne))
+      (given ne (ap (λ (n : Node). n.mode) (sym (else_marked x ne)) ∙ m)
+      (ap (λ (n : Node). n.marked) (sym (else_marked x ne)) ∙ marked) part)))
 
   -- the word that is written leads to the new edge's node
   pub leads_new : index_of e.word ≡ e.life.index
-  leads_new = ap index_of ok.word ∙ index_of-pack e.life.index 1 (tag_of (word_at sizes past e.place)) (omega (arith, ok.there, z.few_nodes))
+  leads_new = ap index_of ok.word ∙ index_of-pack e.life.index 1 (tag_of (word_at sizes past e.place))
+      (omega (arith, ok.there, z.few_nodes))
 
   -- and is marked
   pub marks_old : mark_of e.word ≡ 1
-  marks_old = ap mark_of ok.word ∙ mark_of-pack e.life.index 1 (tag_of (word_at sizes past e.place)) (omega (arith, ok.there, z.few_nodes)) (omega arith)
+  marks_old = ap mark_of ok.word ∙ mark_of-pack e.life.index 1 (tag_of (word_at sizes past e.place))
+      (omega (arith, ok.there, z.few_nodes)) (omega arith)
 
   -- that node after the event
-  pub new_after : e.kind ≡ ReplaceEdge → node_in sizes (past ++ e ∷ []) e.life.index ≡ new_edge_node (node_in sizes past e.life.index) e (state sizes past).count
+  pub new_after : e.kind ≡ ReplaceEdge → node_in sizes (past ++ e ∷ []) e.life.index ≡ new_edge_node
+      (node_in sizes past e.life.index) e (state sizes past).count
   new_after is =
       let v = new_edge_node (node_in sizes past e.life.index) e (state sizes past).count in
       ap (λ (s : State). s.node e.life.index) (state-snoc sizes past e)

@@ -8,7 +8,8 @@ use Rattle.core_kept.specs.Edges.{IsReplaceEdge}
 use Rattle.core_kept.proofs.ByKind.{put_other}
 
 -- the two are different nodes
-pub old_apart : (sizes : Sizes) (past : List Event) (e : Event) → IsReplaceEdge sizes past e → e.old.index ≢ e.life.index
+pub old_apart : (sizes : Sizes) (past : List Event) (e : Event) → IsReplaceEdge sizes past e
+    → e.old.index ≢ e.life.index
 old_apart sizes past e ok same =
     let f = ap (λ (y : ℕ). (node_in sizes past y).mode) same ∙ ok.fresh.fresh in
     let l = ok.linked.linked in absurd (cc)

@@ -1,4 +1,5 @@
--- Each kept journal reuses safely: where a node is taken, each of its earlier lives has ended, and each open pass was announced
+-- Each kept journal reuses safely: where a node is taken, each of its earlier lives has ended, and each open pass was
+-- announced
 -- after that end.
 use Rattle.std.proofs.Common.{◌≡◌, ℕ, List, Some, ap, ◌∙◌, subst, arith, ⊎_elim}
 use Rattle.std.specs.Prelude.{slice_get}
@@ -18,19 +19,30 @@ use Rattle.core_kept.proofs.LivesEnd.{IsGone, IsPresent, fates}
 use Rattle.core_kept.proofs.Ripe.{ordered}
 
 -- a node is taken whose earlier lives are over
-over_here : (sizes : Sizes) → IsLayout sizes → (past : List Event) (e : Event) → IsKept sizes past → Allowed sizes past e → e.kind ≡ PopFree → (k : ℕ) (a : Event) → slice_get past k ≡ Some a → a.kind ≡ PopFree → a.life.index ≡ e.life.index → IsOver sizes past a.life
+over_here : (sizes : Sizes) → IsLayout sizes → (past : List Event) (e : Event) → IsKept sizes past
+    → Allowed sizes past e → e.kind ≡ PopFree → (k : ℕ) (a : Event) → slice_get past k ≡ Some a → a.kind ≡ PopFree
+    → a.life.index ≡ e.life.index → IsOver sizes past a.life
 over_here sizes z past e kept ok is k a at pops same =
     let allowed : AllowedAs PopFree sizes past e = subst (λ (k : Kind). AllowedAs k sizes past e) is ok.as_kind in
-    let free : (node_in sizes past a.life.index).mode ≡ Free = ap (λ (y : ℕ). (node_in sizes past y).mode) same ∙ (taken sizes z past e kept allowed).free in
+    let free : (node_in sizes past a.life.index).mode ≡ Free = ap (λ (y : ℕ). (node_in sizes past y).mode) same ∙
+    (taken sizes z past e kept allowed).free in
     ⊎_elim
     (λ (gone : IsGone past a.life (node_in sizes past a.life.index)). record {
       end = gone.life.end;
       ends = gone.life.ends;
-      passes = λ i o. omega (arith, gone.life.before, (ordered sizes z past kept).unspent i a.life.index o (ap is_spent free));
+      passes = λ i o. omega (
+        arith,
+        gone.life.before,
+        (ordered sizes z past kept).unspent i a.life.index o
+            (ap is_spent free),
+      );
     })
     (λ (here : IsPresent past a.life (node_in sizes past a.life.index)). absurd (here.free free))
     ((fates sizes z past kept).fate k a at pops)
 
 -- safe reuse
-pub reuses_safely : (sizes : Sizes) → IsLayout sizes → (journal : List Event) → IsKept sizes journal → ReusesSafely sizes journal
-reuses_safely sizes z journal kept = kept_all sizes (ReusesSafely sizes) (λ past e k c ok. reuse_snoc sizes past e c (λ is n a at pops same. over_here sizes z past e k ok is n a at pops same)) (reuse_nil sizes) journal kept
+pub reuses_safely : (sizes : Sizes) → IsLayout sizes → (journal : List Event) → IsKept sizes journal
+    → ReusesSafely sizes journal
+reuses_safely sizes z journal kept = kept_all sizes (ReusesSafely sizes)
+    (λ past e k c ok. reuse_snoc sizes past e c (λ is n a at pops same. over_here sizes z past e k ok is n a at pops
+    same)) (reuse_nil sizes) journal kept

@@ -1,5 +1,7 @@
--- The frozen part of each list after each kept journal: what it holds, where its words lead, and that it begins the list.
-use Rattle.std.proofs.Common.{◌≡◌, ◌⊎◌, ℕ, Bool, true, false, cond, List, [], ◌∷◌, refl, sym, ap, ◌∙◌, subst, arith, ⊎_elim, inl, inr}
+-- The frozen part of each list after each kept journal: what it holds, where its words lead, and that it begins the
+-- list.
+use Rattle.std.proofs.Common.{◌≡◌, ◌⊎◌, ℕ, Bool, true, false, cond, List, [], ◌∷◌, refl, sym, ap, ◌∙◌, subst, arith}
+use Rattle.std.proofs.Common.{⊎_elim, inl, inr}
 use Rattle.std.specs.Prelude.{take_while}
 use mathlib.Core.Logic.{dite}
 use native.Mathlib.Decide.{ℕ_discrete}
@@ -32,7 +34,8 @@ pub record IsEnd (sizes : Sizes) (journal : List Event) (x place : ℕ) : Type 0
   pub head : (state sizes journal).frozen x ≡ true
   pub part : (y : ℕ) → at ≡ Node y → stands y (frozen_part (state sizes journal) x) ≡ true
 
-pub frozen_end : (sizes : Sizes) (journal : List Event) (x place : ℕ) → IsFrozenWord sizes journal x place → IsEnd sizes journal x place
+pub frozen_end : (sizes : Sizes) (journal : List Event) (x place : ℕ) → IsFrozenWord sizes journal x place
+    → IsEnd sizes journal x place
 frozen_end sizes journal x place f = ⊎_elim
     (λ h. record { at = Head; place_is = sym h; on = tt; head = f.head; part = λ y p. absurd (cc) })
     (λ (h : (y : ℕ) × (stands y (frozen_part (state sizes journal) x) ≡ true) × (place ≡ link_at sizes y)). record {
@@ -40,64 +43,91 @@ frozen_end sizes journal x place f = ⊎_elim
       place_is = sym h.2;
       on = part_listed (state sizes journal).node (state sizes journal).edges (state sizes journal).frozen x h.0 h.1;
       head = f.head;
-      part = λ y p. let q : h.0 ≡ y = cc in subst (λ (v : ℕ). stands v (frozen_part (state sizes journal) x) ≡ true) q h.1;
+      part = λ y p. let q : h.0 ≡ y = cc in subst (λ (v : ℕ). stands v (frozen_part (state sizes journal) x) ≡ true) q
+          h.1;
     })
     f.at
 
 -- a word of a list leads to none, or to an edge of it
-leads_on : (sizes : Sizes) → IsLayout sizes → (journal : List Event) → IsKept sizes journal → (x : ℕ) → HasList sizes journal x → (at : Position) → IsOn (edge_chain sizes journal x) at → (place : ℕ) → list_word sizes x at ≡ place
-    → (index_of (word_at sizes journal place) ≡ nowhere) ⊎ (is_listed (state sizes journal) x (index_of (word_at sizes journal place)) ≡ true)
-leads_on sizes z journal kept x has at on place is = subst (λ (p : ℕ). (index_of (word_at sizes journal p) ≡ nowhere) ⊎ (is_listed (state sizes journal) x (index_of (word_at sizes journal p)) ≡ true)) is
+leads_on : (sizes : Sizes) → IsLayout sizes → (journal : List Event) → IsKept sizes journal → (x : ℕ)
+    → HasList sizes journal x → (at : Position) → IsOn (edge_chain sizes journal x) at → (place : ℕ)
+    → list_word sizes x at ≡ place
+    → (index_of (word_at sizes journal place) ≡ nowhere) ⊎ (is_listed (state sizes journal) x
+    (index_of (word_at sizes journal place)) ≡ true)
+leads_on sizes z journal kept x has at on place is = subst (λ (p : ℕ). (index_of (word_at sizes journal p) ≡ nowhere) ⊎
+    (is_listed (state sizes journal) x (index_of (word_at sizes journal p)) ≡ true)) is
     (dite (ℕ_discrete (index_of (word_at sizes journal (list_word sizes x at))) nowhere) (λ none. inl none)
     (λ some. inr (((lists sizes z journal kept).each x (has_open sizes journal x has)).chain.leads at on some).0))
 
 -- what the frozen parts hold
-pub frozen_parts : (sizes : Sizes) → IsLayout sizes → (journal : List Event) → IsKept sizes journal → FrozenParts sizes journal
+pub frozen_parts : (sizes : Sizes) → IsLayout sizes → (journal : List Event) → IsKept sizes journal
+    → FrozenParts sizes journal
 frozen_parts sizes z journal kept =
     let c = listing sizes z journal kept in record {
       handed = λ x y has h. c.handed x y (has_open sizes journal x has) h;
       linked = λ x y has h f. c.linked x y (has_open sizes journal x has) h f;
-      leads = λ x place has f. let d = frozen_end sizes journal x place f in leads_on sizes z journal kept x has d.at d.on place d.place_is;
+      leads = λ x place has f. let d = frozen_end sizes journal x place f in leads_on sizes z journal kept x has d.at
+          d.on place d.place_is;
     }
 
 -- each node that rises behind a word stands behind it
-rises_behind : (c : Chain) (p : Position) (xs : List ℕ) (v : ℕ) → RisesAlong c p xs → stands v xs ≡ true → Precedes c p (Node v)
+rises_behind : (c : Chain) (p : Position) (xs : List ℕ) (v : ℕ) → RisesAlong c p xs → stands v xs ≡ true → Precedes c p
+    (Node v)
 rises_behind c p [] v rising on = absurd (cc)
 rises_behind c p (x ∷ xs) v rising on =
     stands_case (Precedes c p (Node v)) x v xs on (λ same. subst (λ (u : ℕ). Precedes c p (Node u)) same rising.0)
     (λ _ later. before_then c p (Node x) (Node v) rising.0 (rises_behind c (Node x) xs v rising.1 later))
 
 -- what stands no further than a node of the longest part that passes a test is in it, where the nodes rise
-part_before : (c : Chain) (test : ℕ → Bool) (p : Position) (xs : List ℕ) (y v : ℕ) → RisesAlong c p xs → stands y (take_while test xs) ≡ true → stands v xs ≡ true → (Precedes c (Node y) (Node v) → ⊥) → stands v (take_while test xs) ≡ true
+part_before : (c : Chain) (test : ℕ → Bool) (p : Position) (xs : List ℕ) (y v : ℕ) → RisesAlong c p xs → stands y
+    (take_while test xs) ≡ true → stands v xs ≡ true → (Precedes c (Node y) (Node v) → ⊥) → stands v
+    (take_while test xs) ≡ true
 part_before c test p [] y v rising h on not_behind = absurd (cc)
 part_before c test p (x ∷ xs) y v rising h on not_behind = yes_no (stands v (take_while test (x ∷ xs)) ≡ true) (test x)
-    (λ e. ap (λ (l : List ℕ). stands v l) (part_more test x xs e) ∙ stands_case (stands v (x ∷ take_while test xs) ≡ true) x v xs on
+    (λ e. ap (λ (l : List ℕ). stands v l) (part_more test x xs e) ∙ stands_case
+    (stands v (x ∷ take_while test xs) ≡ true) x v xs on
     (λ same. stands_here x v (take_while test xs) same)
-    (λ _ later. stands_later x v (take_while test xs) (stands_case (stands v (take_while test xs) ≡ true) x y (take_while test xs) (sym (ap (λ (l : List ℕ). stands y l) (part_more test x xs e)) ∙ h)
-    (λ same. absurd (not_behind (subst (λ (u : ℕ). Precedes c (Node u) (Node v)) same (rises_behind c (Node x) xs v rising.1 later))))
+    (λ _ later. stands_later x v (take_while test xs) (stands_case (stands v (take_while test xs) ≡ true) x y
+    (take_while test xs) (sym (ap (λ (l : List ℕ). stands y l) (part_more test x xs e)) ∙ h)
+    (λ same. absurd (not_behind (subst (λ (u : ℕ). Precedes c (Node u) (Node v)) same
+    (rises_behind c (Node x) xs v rising.1 later))))
     (λ _ more. part_before c test (Node x) xs y v rising.1 more later not_behind))))
     (λ e. let t : false ≡ true = sym (ap (λ (l : List ℕ). stands y l) (part_end test x xs e)) ∙ h in absurd (cc))
 
-module _ (sizes : Sizes) (z : IsLayout sizes) (journal : List Event) (kept : IsKept sizes journal) (x : ℕ) (o : IsOpenIn sizes (state sizes journal) x) (head : (state sizes journal).frozen x ≡ true) where
+module _ (sizes : Sizes) (z : IsLayout sizes) (journal : List Event) (kept : IsKept sizes journal) (x : ℕ)
+    (o : IsOpenIn sizes (state sizes journal) x) (head : (state sizes journal).frozen x ≡ true) where
   -- the links of the frozen part are marked
-  part_links : (v : ℕ) → stands v (frozen_part (state sizes journal) x) ≡ true → mark_of (word_at sizes journal (link_at sizes v)) ≡ 1
+  part_links : (v : ℕ) → stands v (frozen_part (state sizes journal) x) ≡ true → mark_of
+      (word_at sizes journal (link_at sizes v)) ≡ 1
   part_links v h =
       let c = listing sizes z journal kept in
-      let there = (c.on x v (part_listed (state sizes journal).node (state sizes journal).edges (state sizes journal).frozen x v h)).there in
+      let there = (c.on x v (part_listed (state sizes journal).node (state sizes journal).edges
+      (state sizes journal).frozen x v h)).there in
       (((link_words sizes z journal kept).each v there).spent (c.handed x v o h)).marked
 
   -- and so are all words up to one of it
-  before_marked : (at p : Position) → ((y : ℕ) → at ≡ Node y → stands y (frozen_part (state sizes journal) x) ≡ true) → IsOn (edge_chain sizes journal x) p → (Precedes (edge_chain sizes journal x) at p → ⊥) → (edge_chain sizes journal x).mark p ≡ 1
-  before_marked at Head part on not_behind = (((contents sizes z journal kept).each x o.there).vertex o.used o.vertex).second_mark ∙ ap mark_bit head
+  before_marked : (at p : Position) → ((y : ℕ) → at ≡ Node y → stands y (frozen_part (state sizes journal) x) ≡ true)
+      → IsOn (edge_chain sizes journal x) p → (Precedes (edge_chain sizes journal x) at p → ⊥) →
+      (edge_chain sizes journal x).mark p ≡ 1
+  before_marked at Head part on not_behind = (((contents sizes z journal kept).each x o.there).vertex o.used
+      o.vertex).second_mark ∙ ap mark_bit head
   before_marked Head (Node v) part on not_behind = absurd (not_behind (inl (omega arith)))
   before_marked (Node y) (Node v) part on not_behind =
       let s : State = state sizes journal in
       let test : ℕ → Bool = λ u. (s.node u).marked in
-      let h : stands y (take_while test (s.edges x)) ≡ true = subst (λ (b : Bool). stands y (cond b (take_while test (s.edges x)) []) ≡ true) head (part y refl) in
+      let h : stands y (take_while test (s.edges x)) ≡ true = subst
+      (λ (b : Bool). stands y (cond b (take_while test (s.edges x)) []) ≡ true) head (part y refl) in
       let rising = (list_met sizes z journal kept x o).rising in
-      let in_part : stands v (take_while test (s.edges x)) ≡ true = part_before (edge_chain sizes journal x) test Head (s.edges x) y v rising h on not_behind in
+      let in_part : stands v (take_while test (s.edges x)) ≡ true = part_before (edge_chain sizes journal x) test Head
+      (s.edges x) y v rising h on not_behind in
       part_links v (subst (λ (b : Bool). stands v (cond b (take_while test (s.edges x)) []) ≡ true) (sym head) in_part)
 
 -- the frozen words of a list are a frozen part of its chain
-pub frozen_to : (sizes : Sizes) → IsLayout sizes → (journal : List Event) → IsKept sizes journal → (x : ℕ) → IsOpenIn sizes (state sizes journal) x → (place : ℕ) (d : IsEnd sizes journal x place) → IsFrozenTo (edge_chain sizes journal x) d.at
-frozen_to sizes z journal kept x o place d = record { present = d.on; marks = λ p on not_behind. before_marked sizes z journal kept x o d.head d.at p d.part on not_behind }
+pub frozen_to : (sizes : Sizes) → IsLayout sizes → (journal : List Event) → IsKept sizes journal → (x : ℕ)
+    → IsOpenIn sizes (state sizes journal) x → (place : ℕ) (d : IsEnd sizes journal x place) → IsFrozenTo
+    (edge_chain sizes journal x) d.at
+frozen_to sizes z journal kept x o place d = record {
+  present = d.on;
+  marks = λ p on not_behind. before_marked sizes z
+      journal kept x o d.head d.at p d.part on not_behind;
+}

@@ -1,6 +1,7 @@
 -- The graph of a kept journal is a graph, and the pair of two present vertices is that of the one unmarked edge between
 -- their lives.
-use Rattle.std.proofs.Common.{◌≡◌, ◌≢◌, ℕ, ◌≤◌, Bool, true, false, cond, List, Option, Some, None, refl, sym, ap, ◌∙◌, subst, true≢false}
+use Rattle.std.proofs.Common.{◌≡◌, ◌≢◌, ℕ, ◌≤◌, Bool, true, false, cond, List, Option, Some, None, refl, sym, ap, ◌∙◌}
+use Rattle.std.proofs.Common.{subst, true≢false}
 use Rattle.std.specs.Prelude.{option_and_then}
 use Rattle.graph_kinds.specs.Graph.{IsGraph, weight_of}
 use Rattle.packed_link.specs.Layout.{Sizes, IsLayout}
@@ -24,14 +25,18 @@ value : {A : Type 0} (a b : A) → Some a ≡ Some b → a ≡ b
 value a b p = cc
 
 -- an edge that was linked and not marked has its pair, where its ends are present
-pub pair_shown : (journal : List Event) (x : Life) (link : Event) (a b : ℕ) → link_of journal x ≡ Some link → edge_marked journal x ≡ false → present_key journal link.source ≡ Some a → present_key journal link.target ≡ Some b → present_pair journal x ≡ Some ((a, b), link.weight)
+pub pair_shown : (journal : List Event) (x : Life) (link : Event) (a b : ℕ) → link_of journal x ≡ Some link
+    → edge_marked journal x ≡ false → present_key journal link.source ≡ Some a
+    → present_key journal link.target ≡ Some b → present_pair journal x ≡ Some ((a, b), link.weight)
 pair_shown journal x link a b is uncut from to =
     ap (λ (c : Bool). cond c None (option_and_then (pair_between journal) (link_of journal x))) uncut
     ∙ (ap (option_and_then (pair_between journal)) is ∙ (λ i. weighed link.weight (both (from i) (to i))))
 
 module _ (sizes : Sizes) (z : IsLayout sizes) (journal : List Event) (kept : IsKept sizes journal) where
   -- its weight is that of the pair
-  pub weight_between : (x : Life) (link : Event) (a b : ℕ) → link_of journal x ≡ Some link → edge_marked journal x ≡ false → present_key journal link.source ≡ Some a → present_key journal link.target ≡ Some b → weight_of (graph_of journal) a b ≡ Some link.weight
+  pub weight_between : (x : Life) (link : Event) (a b : ℕ) → link_of journal x ≡ Some link
+      → edge_marked journal x ≡ false → present_key journal link.source ≡ Some a
+      → present_key journal link.target ≡ Some b → weight_of (graph_of journal) a b ≡ Some link.weight
   weight_between x link a b is uncut from to =
       let h = pair_shown journal x link a b is uncut from to in
       only_pair journal x a b link.weight h (λ y v g. one_pair sizes z journal kept y x a b v link.weight g h)
@@ -46,7 +51,8 @@ module _ (sizes : Sizes) (z : IsLayout sizes) (journal : List Event) (kept : IsK
     pub key : link.key ≡ b
     pub to : present_key journal link.target ≡ Some b
 
-  edge_to : (source : Life) (a b w : ℕ) → present_key journal source ≡ Some a → weight_of (graph_of journal) a b ≡ Some w → IsEdgeTo source b
+  edge_to : (source : Life) (a b w : ℕ) → present_key journal source ≡ Some a → weight_of
+      (graph_of journal) a b ≡ Some w → IsEdgeTo source b
   edge_to source a b w there h =
       let l = life_of_pair journal a b w h in
       let j = joined_is journal l.0 a b w l.1 in
@@ -56,11 +62,13 @@ module _ (sizes : Sizes) (z : IsLayout sizes) (journal : List Event) (kept : IsK
         is = j.is;
         uncut = j.uncut;
         from = one_present sizes z journal kept j.link.source source a j.source there;
-        key = value j.link.key b (sym ((ends_linked sizes z journal kept).target l.0 j.link j.is) ∙ (present_is journal j.link.target b j.target).1);
+        key = value j.link.key b (sym ((ends_linked sizes z journal kept).target l.0 j.link j.is) ∙
+            (present_is journal j.link.target b j.target).1);
         to = j.target;
       }
 
-  none_where : (a b : ℕ) → ((w : ℕ) → weight_of (graph_of journal) a b ≡ Some w → ⊥) → weight_of (graph_of journal) a b ≡ None
+  none_where : (a b : ℕ) → ((w : ℕ) → weight_of (graph_of journal) a b ≡ Some w → ⊥) → weight_of
+      (graph_of journal) a b ≡ None
   none_where a b not = by (weight_of (graph_of journal) a b) refl
     where
       by : (o : Option ℕ) → weight_of (graph_of journal) a b ≡ o → weight_of (graph_of journal) a b ≡ None
@@ -68,21 +76,27 @@ module _ (sizes : Sizes) (z : IsLayout sizes) (journal : List Event) (kept : IsK
       by (Some w) h = absurd (not w h)
 
   -- no unmarked edge of the source has the key: there's no such pair
-  pub no_edge_no_pair : (source : Life) (a b : ℕ) → present_key journal source ≡ Some a → ((x : Life) (link : Event) → link_of journal x ≡ Some link → link.source ≡ source → link.key ≡ b → edge_marked journal x ≡ true) → weight_of (graph_of journal) a b ≡ None
+  pub no_edge_no_pair : (source : Life) (a b : ℕ) → present_key journal source ≡ Some a →
+      ((x : Life) (link : Event) → link_of journal x ≡ Some link → link.source ≡ source → link.key ≡ b
+      → edge_marked journal x ≡ true) → weight_of (graph_of journal) a b ≡ None
   no_edge_no_pair source a b there cut = none_where a b (λ w h.
       let e = edge_to source a b w there h in
       true≢false (sym (cut e.life e.link e.is e.from e.key) ∙ e.uncut))
 
   -- the one unmarked edge of the source and the key has another target life: there's no such pair
-  pub other_target_no_pair : (source target x : Life) (link : Event) (a b : ℕ) → present_key journal source ≡ Some a → present_key journal target ≡ Some b → link_of journal x ≡ Some link → edge_marked journal x ≡ false → link.source ≡ source → link.key ≡ b → link.target ≢ target → weight_of (graph_of journal) a b ≡ None
+  pub other_target_no_pair : (source target x : Life) (link : Event) (a b : ℕ) → present_key journal source ≡ Some a
+      → present_key journal target ≡ Some b → link_of journal x ≡ Some link → edge_marked journal x ≡ false
+      → link.source ≡ source → link.key ≡ b → link.target ≢ target → weight_of (graph_of journal) a b ≡ None
   other_target_no_pair source target x link a b there to is uncut from key apart = none_where a b (λ w h.
       let e = edge_to source a b w there h in
-      let one : e.life ≡ x = one_present_edge sizes z journal kept e.life x e.link link e.is is (e.from ∙ sym from) (e.key ∙ sym key) e.uncut uncut in
+      let one : e.life ≡ x = one_present_edge sizes z journal kept e.life x e.link link e.is is (e.from ∙ sym from)
+      (e.key ∙ sym key) e.uncut uncut in
       let same : e.link ≡ link = value e.link link (sym e.is ∙ (ap (link_of journal) one ∙ is)) in
       apart (ap (λ (d : Event). d.target) (sym same) ∙ one_present sizes z journal kept e.link.target target b e.to to))
 
   -- an edge that was linked and not marked has a weight of at least 1
-  pub weighs : (x : Life) (link : Event) → link_of journal x ≡ Some link → edge_marked journal x ≡ false → 1 ≤ link.weight
+  pub weighs : (x : Life) (link : Event) → link_of journal x ≡ Some link → edge_marked journal x ≡ false
+      → 1 ≤ link.weight
   weighs x link is uncut =
       let live = (live_edges sizes z journal kept).live x link is uncut in
       let v = node_in sizes journal x.index in
@@ -90,7 +104,8 @@ module _ (sizes : Sizes) (z : IsLayout sizes) (journal : List Event) (kept : IsK
       let used : IsUsed v.mode = subst IsUsed (sym live.linked) tt in
       let d = ((named sizes z journal kept).each x.index there).edge_link used live.edge in
       let words = ((contents sizes z journal kept).each x.index there).edge used live.edge in
-      let which : d.link ≡ link = value d.link link (sym d.is ∙ (ap (link_of journal) (sym (life_is x x.index v.tag refl live.life)) ∙ is)) in
+      let which : d.link ≡ link = value d.link link (sym d.is ∙
+      (ap (link_of journal) (sym (life_is x x.index v.tag refl live.life)) ∙ is)) in
       subst (λ (n : ℕ). 1 ≤ n) (sym d.of_weight ∙ ap (λ (e : Event). e.weight) which) words.some
 
   pub graph_is : IsGraph (graph_of journal)

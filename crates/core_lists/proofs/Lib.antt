@@ -6,7 +6,7 @@ pub mod EffectOfKinds
 pub mod EventKeepsRest
 pub mod EventsOnLists
 pub mod FewEdges
-pub mod FreezingLeaves
+pub mod ListingsBehindSteps
 pub mod FrozenPart
 pub mod FrozenPathIsList
 pub mod FrozenToEndIsList

@@ -1,7 +1,8 @@
 -- The list of each vertex after each kept journal as a chain, and what each kind of event does to it.
 use Rattle.core_kept.proofs.Contents.{contents}
 use Rattle.core_journal.proofs.States.{counted_by}
-use Rattle.std.proofs.Common.{◌≡◌, ◌≢◌, ℕ, ◌<◌, true, false, List, [], refl, sym, ap, ◌∙◌, subst, arith, ⊎_elim, inl, inr, ◌≤◌, ◌+◌}
+use Rattle.std.proofs.Common.{◌≡◌, ◌≢◌, ℕ, ◌<◌, true, false, List, [], refl, sym, ap, ◌∙◌, subst, arith, ⊎_elim, inl}
+use Rattle.std.proofs.Common.{inr, ◌≤◌, ◌+◌}
 use mathlib.Core.Logic.{dite}
 use native.Mathlib.Decide.{ℕ_discrete}
 use Rattle.packed_link.specs.Link.{nowhere, index_of, mark_of, tag_of, with_mark}
@@ -10,7 +11,8 @@ use Rattle.packed_link.specs.declared.link.Life.{Life}
 use Rattle.packed_link.proofs.Links.{index_of-pack, index_of-bound}
 use Rattle.core_chain.specs.Chain.{Chain, Position, Head, Node, IsOn, IsChain}
 use Rattle.core_chain.specs.Met.{MeetsFrom, IsMet}
-use Rattle.core_chain.specs.Steps.{CanInsert, CanUnlink, Inserts, Joins, Unlinks, SetsMark, Untouched, CanReplace, Replaces}
+use Rattle.core_chain.specs.Steps.{CanInsert, CanUnlink, Inserts, Joins, Unlinks, SetsMark, Untouched, CanReplace}
+use Rattle.core_chain.specs.Steps.{Replaces}
 use Rattle.core_chain.specs.Table.{StandsAlone, chain_in}
 use Rattle.core_chain.specs.Walk.{StandsBelow}
 use Rattle.core_chain.proofs.Inserts.{IsChain-inserted, IsChain-replaced}
@@ -19,22 +21,28 @@ use Rattle.core_chain.proofs.Meets.{IsMet-from_Meets, IsChain-from_IsMet}
 use Rattle.core_chain.proofs.Tables.{Inserts-in, SetsMark-in, Unlinks-in, Replaces-in}
 use Rattle.core_chain.proofs.Unlinks.{IsChain-unlinked}
 use Rattle.core_journal.specs.declared.event.Kind.{Kind}
-use Rattle.core_journal.specs.declared.event.Kind.TheVariants.{PopFree, StorePrivate, LinkVertex, MarkVertex, UnlinkVertex, LinkEdge, MarkEdge, UnlinkEdge, ReplaceEdge, FreezeHead, FreezeEdge, StoreFree, PushFree}
+use Rattle.core_journal.specs.declared.event.Kind.TheVariants.{PopFree, StorePrivate, LinkVertex, MarkVertex}
+use Rattle.core_journal.specs.declared.event.Kind.TheVariants.{UnlinkVertex, LinkEdge, MarkEdge, UnlinkEdge}
+use Rattle.core_journal.specs.declared.event.Kind.TheVariants.{ReplaceEdge, FreezeHead, FreezeEdge, StoreFree, PushFree}
 use Rattle.core_journal.specs.declared.event.Event.{Event}
 use Rattle.core_journal.specs.Machine.{word_at}
-use Rattle.core_journal.specs.State.{Free, Fresh, Linked, Spent, State, put, handed, linked_in, unlinked_from, state_by, state, joined_edge}
+use Rattle.core_journal.specs.State.{Free, Fresh, Linked, Spent, State, put, handed, linked_in, unlinked_from, state_by}
+use Rattle.core_journal.specs.State.{state, joined_edge}
 use Rattle.core_journal.specs.State.{Node as Nodes}
 use Rattle.core_kept.specs.Kept.{AllowedAs, IsKept}
 use Rattle.core_kept.specs.Nodes.{node_in, IsUsed, is_listed}
 use Rattle.core_kept.specs.Edges.{IsLinkEdge, IsUnlinkEdge, IsReplaceEdge}
 use Rattle.core_kept.specs.Vertices.{IsLinkVertex}
 use Rattle.core_lists.specs.Chains.{list_word, list_places, edge_chain, EdgeLists}
-use Rattle.core_kept.proofs.ByKind.{IsAfter, Keeps, put_other, put_case, handed_case, marked_state, closed_state, holds_all, writes_at, put_same}
+use Rattle.core_kept.proofs.ByKind.{IsAfter, KeepsByKind, put_other, put_case, handed_case, marked_state, closed_state}
+use Rattle.core_kept.proofs.ByKind.{holds_all, writes_at, put_same}
 use Rattle.core_kept.proofs.LinkWords.{taken}
-use Rattle.core_kept.proofs.MetFromHead.{AreLinks, stands, meets_inserted, meets_unlinked, meets_marked, meets_untouched, joins_linked, leaves_unlinked, meets_replaced}
+use Rattle.core_kept.proofs.MetFromHead.{AreLinks, stands, meets_inserted, meets_unlinked, meets_marked}
+use Rattle.core_kept.proofs.MetFromHead.{meets_untouched, joins_linked, leaves_unlinked, meets_replaced}
 use Rattle.core_kept.proofs.NodesOnLists.{linked_none, unlinked_none, yes_no}
 use Rattle.core_lists.proofs.ListHolds.{ListingOf, open_mode}
-use Rattle.core_lists.proofs.ListHoldsKept.{listing, link_only, IsOpenIn, open_before, open_linked, has_open, replace_joins}
+use Rattle.core_lists.proofs.ListHoldsKept.{listing, link_only, IsOpenIn, open_before, open_linked, has_open}
+use Rattle.core_lists.proofs.ListHoldsKept.{replace_joins}
 
 -- the list of a vertex, by a state and the words
 abbrev pub list_chain : Sizes → State → (ℕ → ℕ) → ℕ → Chain
@@ -66,17 +74,21 @@ alone sizes x (Node n) = record { words = λ p ne h. word p ne h; keys = λ y h.
     word (Node y) ne h = ne (ap Node (omega arith))
 
 -- a list that stays
-pub stays : (sizes : Sizes) (s s' : State) (w w' : ℕ → ℕ) (x : ℕ) → s'.edges x ≡ s.edges x → Untouched (list_chain sizes s w x) (list_chain sizes s' w' x) → IsList sizes s w x → IsList sizes s' w' x
+pub stays : (sizes : Sizes) (s s' : State) (w w' : ℕ → ℕ) (x : ℕ) → s'.edges x ≡ s.edges x → Untouched
+    (list_chain sizes s w x) (list_chain sizes s' w' x) → IsList sizes s w x → IsList sizes s' w' x
 stays sizes s s' w w' x same step b = record {
   chain = IsChain-untouched (list_chain sizes s w x) (list_chain sizes s' w' x) b.chain step;
-  met = subst (λ (l : List ℕ). MeetsFrom (list_chain sizes s' w' x) Head l) (sym same) (meets_untouched (list_chain sizes s w x) (list_chain sizes s' w' x) (s.edges x) b.chain step b.met);
+  met = subst (λ (l : List ℕ). MeetsFrom (list_chain sizes s' w' x) Head l) (sym same)
+      (meets_untouched (list_chain sizes s w x) (list_chain sizes s' w' x) (s.edges x) b.chain step b.met);
 }
 
 -- a list of which a word gets its mark
-marks : (sizes : Sizes) (s s' : State) (w w' : ℕ → ℕ) (x : ℕ) (at : Position) → s'.edges x ≡ s.edges x → SetsMark (list_chain sizes s w x) (list_chain sizes s' w' x) at → IsList sizes s w x → IsList sizes s' w' x
+marks : (sizes : Sizes) (s s' : State) (w w' : ℕ → ℕ) (x : ℕ) (at : Position) → s'.edges x ≡ s.edges x → SetsMark
+    (list_chain sizes s w x) (list_chain sizes s' w' x) at → IsList sizes s w x → IsList sizes s' w' x
 marks sizes s s' w w' x at same step b = record {
   chain = IsChain-marked (list_chain sizes s w x) (list_chain sizes s' w' x) at b.chain step;
-  met = subst (λ (l : List ℕ). MeetsFrom (list_chain sizes s' w' x) Head l) (sym same) (meets_marked (list_chain sizes s w x) (list_chain sizes s' w' x) at (s.edges x) b.chain step b.met);
+  met = subst (λ (l : List ℕ). MeetsFrom (list_chain sizes s' w' x) Head l) (sym same)
+      (meets_marked (list_chain sizes s w x) (list_chain sizes s' w' x) at (s.edges x) b.chain step b.met);
 }
 
 -- the place of an event is no word and no key of a list
@@ -87,10 +99,13 @@ pub record IsOff (sizes : Sizes) (past : List Event) (e : Event) (x : ℕ) : Typ
 
 -- the edges of a list stay linked by the same events
 abbrev pub IsLinkedStill : Sizes → List Event → State → ℕ → Type 0
-IsLinkedStill sizes past s' x = (y : ℕ) → stands y ((state sizes past).edges x) ≡ true → (s'.node y).since ≡ (node_in sizes past y).since
+IsLinkedStill sizes past s' x = (y : ℕ) → stands y ((state sizes past).edges x) ≡ true → (s'.node y).since ≡
+    (node_in sizes past y).since
 
 -- an event that writes no word of a list leaves it as it is, where the list stays
-pub untouched : (sizes : Sizes) (past : List Event) (e : Event) (w : ℕ → ℕ) (s' : State) (x : ℕ) → IsAfter sizes past e w → IsOff sizes past e x → IsLinkedStill sizes past s' x → s'.edges x ≡ (state sizes past).edges x → Untouched (edge_chain sizes past x) (list_chain sizes s' w x)
+pub untouched : (sizes : Sizes) (past : List Event) (e : Event) (w : ℕ → ℕ) (s' : State) (x : ℕ)
+    → IsAfter sizes past e w → IsOff sizes past e x → IsLinkedStill sizes past s' x → s'.edges x ≡
+    (state sizes past).edges x → Untouched (edge_chain sizes past x) (list_chain sizes s' w x)
 untouched sizes past e w s' x a off still same = record {
   since = λ y on. still y on;
   nodes = λ y. ap (λ (l : List ℕ). stands y l) same;
@@ -99,7 +114,8 @@ untouched sizes past e w s' x a off still same = record {
   mark = λ p on. ap mark_of (word p on);
 }
   where
-    word : (p : Position) → IsOn (edge_chain sizes past x) p → w (list_word sizes x p) ≡ word_at sizes past (list_word sizes x p)
+    word : (p : Position) → IsOn (edge_chain sizes past x) p → w (list_word sizes x p) ≡ word_at sizes past
+        (list_word sizes x p)
     word Head on = a.else (second_at sizes x) (λ h. off.head (sym h))
     word (Node y) on = a.else (link_at sizes y) (λ h. off.links y on (sym h))
 
@@ -109,14 +125,17 @@ IsNoJoin LinkEdge = ⊥
 IsNoJoin ReplaceEdge = ⊥
 IsNoJoin _ = Unit {0}
 
-put_since : (s : State) (i : ℕ) (v : Nodes) → v.since ≡ (s.node i).since → (y : ℕ) → (put i v s.node y).since ≡ (s.node y).since
-put_since s i v h y = put_case (λ (n : Nodes). n.since ≡ (s.node y).since) i v s.node y (λ same. h ∙ ap (λ (j : ℕ). (s.node j).since) (sym same)) (λ _. refl)
+put_since : (s : State) (i : ℕ) (v : Nodes) → v.since ≡ (s.node i).since → (y : ℕ) → (put i v s.node y).since ≡
+    (s.node y).since
+put_since s i v h y = put_case (λ (n : Nodes). n.since ≡ (s.node y).since) i v s.node y
+    (λ same. h ∙ ap (λ (j : ℕ). (s.node j).since) (sym same)) (λ _. refl)
 
 handed_since : (x : ℕ) (s : State) (y : ℕ) → ((handed x s).node y).since ≡ (s.node y).since
 handed_since x s y = handed_case (λ (n : Nodes). n.since ≡ (s.node y).since) s x y refl (λ _ _ _. refl)
 
 -- such an event leaves by which event a node was linked
-pub since_still : (k : Kind) → IsNoJoin k → (sizes : Sizes) (e : Event) (s : State) (y : ℕ) → ((state_by k sizes e s).node y).since ≡ (s.node y).since
+pub since_still : (k : Kind) → IsNoJoin k → (sizes : Sizes) (e : Event) (s : State) (y : ℕ) →
+    ((state_by k sizes e s).node y).since ≡ (s.node y).since
 since_still LinkEdge n sizes e s y = absurd n
 since_still ReplaceEdge n sizes e s y = absurd n
 since_still PopFree n sizes e s y = put_since s e.life.index _ refl y
@@ -126,8 +145,10 @@ since_still UnlinkVertex n sizes e s y = put_since s e.life.index _ refl y
 since_still UnlinkEdge n sizes e s y = put_since s e.life.index _ refl y
 since_still StoreFree n sizes e s y = put_since s e.life.index _ refl y
 since_still PushFree n sizes e s y = put_since s e.life.index _ refl y
-since_still MarkEdge n sizes e s y = handed_since (s.node e.life.index).source.index (marked_state s e.life.index) y ∙ put_since s e.life.index (record (s.node e.life.index) { marked = true }) refl y
-since_still FreezeEdge n sizes e s y = handed_since (s.node e.life.index).source.index (marked_state s e.life.index) y ∙ put_since s e.life.index (record (s.node e.life.index) { marked = true }) refl y
+since_still MarkEdge n sizes e s y = handed_since (s.node e.life.index).source.index (marked_state s e.life.index) y
+    ∙ put_since s e.life.index (record (s.node e.life.index) { marked = true }) refl y
+since_still FreezeEdge n sizes e s y = handed_since (s.node e.life.index).source.index (marked_state s e.life.index) y
+    ∙ put_since s e.life.index (record (s.node e.life.index) { marked = true }) refl y
 since_still FreezeHead n sizes e s y = handed_since e.life.index (closed_state s e.life.index) y
 since_still _ n sizes e s y = refl
 
@@ -135,20 +156,49 @@ since_still _ n sizes e s y = refl
 pub record Sinces (s : State) : Type 0 where
   pub each : (x : ℕ) → (s.node x).since ≤ s.count
 
-sinces_step : (sizes : Sizes) → Keeps sizes (λ (s : State) (w : ℕ → ℕ). Sinces s)
-sinces_step sizes past e kept c LinkEdge by ok w a = record { each = λ x. put_case (λ (v : Nodes). v.since ≤ (state sizes past).count + 1) e.life.index (record (node_in sizes past e.life.index) { mode = Linked; vertex = false; key = e.key; source = e.source; target = e.target; weight = e.weight; since = (state sizes past).count + 1 }) (state sizes past).node x (λ _. omega arith) (λ _. omega (arith, c.each x)) }
+sinces_step : (sizes : Sizes) → KeepsByKind sizes (λ (s : State) (w : ℕ → ℕ). Sinces s)
+sinces_step sizes past e kept c LinkEdge by ok w a = record {
+  each = λ x. put_case
+      (λ (v : Nodes). v.since ≤ (state sizes past).count + 1) e.life.index
+      (record (node_in sizes past e.life.index) {
+        mode = Linked;
+        vertex = false;
+        key = e.key;
+        source = e.source;
+        target =
+            e.target;
+        weight = e.weight;
+        since = (state sizes past).count + 1;
+      }) (state sizes past).node x (λ _. omega arith)
+      (λ _. omega (arith, c.each x));
+}
 sinces_step sizes past e kept c ReplaceEdge by ok w a = record {
   each = λ x.
       let s : State = state sizes past in
       let j : State = joined_edge sizes e s in
       let h = handed_since (j.node e.old.index).source.index (marked_state j e.old.index) x in
       let p = put_since j e.old.index (record (j.node e.old.index) { marked = true }) refl x in
-      let q = put_case (λ (v : Nodes). v.since ≤ s.count + 1) e.life.index (record (s.node e.life.index) { mode = Linked; vertex = false; key = e.key; source = e.source; target = e.target; weight = e.weight; since = s.count + 1 }) s.node x (λ _. omega arith) (λ _. omega (arith, c.each x)) in omega (arith, h, p, q);
+      let q = put_case (λ (v : Nodes). v.since ≤ s.count + 1) e.life.index
+      (record (s.node e.life.index) {
+        mode = Linked;
+        vertex = false;
+        key = e.key;
+        source = e.source;
+        target =
+            e.target;
+        weight = e.weight;
+        since = s.count + 1;
+      }) s.node x (λ _. omega arith)
+      (λ _. omega (arith, c.each x)) in omega (arith, h, p, q);
 }
-sinces_step sizes past e kept c k by ok w a = record { each = λ x. omega (arith, since_still k tt sizes e (state sizes past) x, counted_by k sizes e (state sizes past), c.each x) }
+sinces_step sizes past e kept c k by ok w a = record {
+  each = λ x. omega
+      (arith, since_still k tt sizes e (state sizes past) x, counted_by k sizes e (state sizes past), c.each x);
+}
 
 sinces : (sizes : Sizes) (journal : List Event) → IsKept sizes journal → Sinces (state sizes journal)
-sinces sizes journal kept = holds_all sizes (λ (s : State) (w : ℕ → ℕ). Sinces s) (sinces_step sizes) (record { each = λ x. omega arith }) journal kept
+sinces sizes journal kept = holds_all sizes (λ (s : State) (w : ℕ → ℕ). Sinces s) (sinces_step sizes)
+    (record { each = λ x. omega arith }) journal kept
 
 -- the kinds that change no list of edges
 abbrev pub IsOffLists : Kind → Type 0
@@ -160,8 +210,10 @@ IsOffLists FreezeEdge = ⊥
 IsOffLists ReplaceEdge = ⊥
 IsOffLists _ = Unit {0}
 
-module _ (sizes : Sizes) (z : IsLayout sizes) (past : List Event) (e : Event) (kept : IsKept sizes past) (x : ℕ) (used : IsUsed (node_in sizes past x).mode)
-    (unfree : (node_in sizes past e.life.index).mode ≡ Free → stands e.life.index ((state sizes past).edges x) ≡ true → ⊥) where
+module _ (sizes : Sizes) (z : IsLayout sizes) (past : List Event) (e : Event) (kept : IsKept sizes past) (x : ℕ)
+    (used : IsUsed (node_in sizes past x).mode)
+    (unfree : (node_in sizes past e.life.index).mode ≡ Free → stands e.life.index ((state sizes past).edges x) ≡ true
+    → ⊥) where
   here : ListingOf sizes (state sizes past)
   here = listing sizes z past kept
 
@@ -171,17 +223,29 @@ module _ (sizes : Sizes) (z : IsLayout sizes) (past : List Event) (e : Event) (k
   idle_joins _ n = tt
 
   -- such a kind writes no word of a list
-  off_idle : (k : Kind) → (k ≡ StoreFree → stands e.life.index ((state sizes past).edges x) ≡ true → ⊥) → IsOffLists k → AllowedAs k sizes past e → IsOff sizes past e x
+  off_idle : (k : Kind) → (k ≡ StoreFree → stands e.life.index ((state sizes past).edges x) ≡ true → ⊥) → IsOffLists k
+      → AllowedAs k sizes past e → IsOff sizes past e x
   off_idle LinkEdge u n ok = absurd n
   off_idle MarkEdge u n ok = absurd n
   off_idle ReplaceEdge u n ok = absurd n
   off_idle UnlinkEdge u n ok = absurd n
   off_idle FreezeHead u n ok = absurd n
   off_idle FreezeEdge u n ok = absurd n
-  off_idle PopFree u n ok = record { head = λ h. omega (arith, ok.place, h); links = λ y _ h. omega (arith, ok.place, h); keys = λ y _ h. omega (arith, ok.place, h) }
-  off_idle PushFree u n ok = record { head = λ h. omega (arith, ok.place, h); links = λ y _ h. omega (arith, ok.place, h); keys = λ y _ h. omega (arith, ok.place, h) }
+  off_idle PopFree u n ok = record {
+    head = λ h. omega (arith, ok.place, h);
+    links = λ y _ h. omega
+        (arith, ok.place, h);
+    keys = λ y _ h. omega (arith, ok.place, h);
+  }
+  off_idle PushFree u n ok = record {
+    head = λ h. omega (arith, ok.place, h);
+    links = λ y _ h. omega
+        (arith, ok.place, h);
+    keys = λ y _ h. omega (arith, ok.place, h);
+  }
   off_idle StorePrivate u n ok =
-      let apart : (y : ℕ) → (node_in sizes past y).mode ≢ Fresh → y ≢ e.life.index = λ y f same. f (ap (λ (i : ℕ). (node_in sizes past i).mode) same ∙ ok.fresh.fresh) in
+      let apart : (y : ℕ) → (node_in sizes past y).mode ≢ Fresh → y ≢ e.life.index = λ y f same. f
+      (ap (λ (i : ℕ). (node_in sizes past i).mode) same ∙ ok.fresh.fresh) in
       let not_x : x ≢ e.life.index = apart x (λ f. subst IsUsed f used) in
       record {
         head = λ h. not_x (omega (arith, ok.place, h));
@@ -200,18 +264,27 @@ module _ (sizes : Sizes) (z : IsLayout sizes) (past : List Event) (e : Event) (k
   }
   off_idle MarkVertex u n ok = record {
     head = λ h. omega (arith, ok.place, h);
-    links = λ y t h. let same : e.life.index ≡ y = omega (arith, ok.place, h) in let v = ap (λ (i : ℕ). (node_in sizes past i).vertex) (sym same) ∙ ok.linked.vertex in let b = (here.on x y t).edge in absurd (cc);
+    links = λ y t h. let same : e.life.index ≡ y = omega (arith, ok.place, h) in let v = ap
+        (λ (i : ℕ). (node_in sizes past i).vertex) (sym same) ∙ ok.linked.vertex in let b =
+        (here.on x y t).edge in absurd (cc);
     keys = λ y _ h. omega (arith, ok.place, h);
   }
   off_idle StoreFree u n ok = record {
     head = λ h. omega (arith, ok.place, h);
-    links = λ y t h. let same : y ≡ e.life.index = omega (arith, ok.place, h) in u refl (subst (λ (i : ℕ). stands i ((state sizes past).edges x) ≡ true) same t);
+    links = λ y t h. let same : y ≡ e.life.index = omega (arith, ok.place, h) in u refl
+        (subst (λ (i : ℕ). stands i ((state sizes past).edges x) ≡ true) same t);
     keys = λ y _ h. omega (arith, ok.place, h);
   }
-  off_idle _ u n ok = record { head = λ h. omega (arith, ok.place, ok.there, h); links = λ y _ h. omega (arith, ok.place, ok.there, h); keys = λ y _ h. omega (arith, ok.place, ok.there, h) }
+  off_idle _ u n ok = record {
+    head = λ h. omega (arith, ok.place, ok.there, h);
+    links = λ y _ h. omega
+        (arith, ok.place, ok.there, h);
+    keys = λ y _ h. omega (arith, ok.place, ok.there, h);
+  }
 
   -- and changes no list
-  same_idle : (k : Kind) → IsOffLists k → AllowedAs k sizes past e → (state_by k sizes e (state sizes past)).edges x ≡ (state sizes past).edges x
+  same_idle : (k : Kind) → IsOffLists k → AllowedAs k sizes past e → (state_by k sizes e (state sizes past)).edges x ≡
+      (state sizes past).edges x
   same_idle LinkEdge n ok = absurd n
   same_idle MarkEdge n ok = absurd n
   same_idle ReplaceEdge n ok = absurd n
@@ -220,31 +293,47 @@ module _ (sizes : Sizes) (z : IsLayout sizes) (past : List Event) (e : Event) (k
   same_idle FreezeEdge n ok = absurd n
   same_idle PopFree n ok =
       let free = (taken sizes z past e kept ok).free in
-      put_other e.life.index [] (λ y. unlinked_from e.life.index ((state sizes past).edges y)) x (λ same. subst IsUsed (ap (λ (i : ℕ). (node_in sizes past i).mode) same ∙ free) used)
-      ∙ unlinked_none e.life.index ((state sizes past).edges x) (yes_no (stands e.life.index ((state sizes past).edges x) ≡ false) (stands e.life.index ((state sizes past).edges x)) (λ t. absurd (unfree free t)) (λ f. f))
+      put_other e.life.index [] (λ y. unlinked_from e.life.index ((state sizes past).edges y)) x
+      (λ same. subst IsUsed (ap (λ (i : ℕ). (node_in sizes past i).mode) same ∙ free) used)
+      ∙ unlinked_none e.life.index ((state sizes past).edges x)
+      (yes_no (stands e.life.index ((state sizes past).edges x) ≡ false)
+      (stands e.life.index ((state sizes past).edges x)) (λ t. absurd (unfree free t)) (λ f. f))
   same_idle _ n ok = refl
 
   -- so it leaves the list untouched
-  pub idle_any : (k : Kind) → (k ≡ StoreFree → stands e.life.index ((state sizes past).edges x) ≡ true → ⊥) → IsOffLists k → AllowedAs k sizes past e → (w : ℕ → ℕ) → IsAfter sizes past e w → Untouched (edge_chain sizes past x) (list_chain sizes (state_by k sizes e (state sizes past)) w x)
-  idle_any k u n ok w a = untouched sizes past e w (state_by k sizes e (state sizes past)) x a (off_idle k u n ok) (λ y on. since_still k (idle_joins k n) sizes e (state sizes past) y) (same_idle k n ok)
+  pub idle_any : (k : Kind) → (k ≡ StoreFree → stands e.life.index ((state sizes past).edges x) ≡ true → ⊥)
+      → IsOffLists k → AllowedAs k sizes past e → (w : ℕ → ℕ) → IsAfter sizes past e w → Untouched
+      (edge_chain sizes past x) (list_chain sizes (state_by k sizes e (state sizes past)) w x)
+  idle_any k u n ok w a = untouched sizes past e w (state_by k sizes e (state sizes past)) x a (off_idle k u n ok)
+      (λ y on. since_still k (idle_joins k n) sizes e (state sizes past) y) (same_idle k n ok)
 
-  pub idle_stays : (k : Kind) → (k ≡ StoreFree → stands e.life.index ((state sizes past).edges x) ≡ true → ⊥) → IsOffLists k → AllowedAs k sizes past e → (w : ℕ → ℕ) → IsAfter sizes past e w → IsList sizes (state sizes past) (word_at sizes past) x → IsList sizes (state_by k sizes e (state sizes past)) w x
-  idle_stays k u n ok w a b = stays sizes (state sizes past) (state_by k sizes e (state sizes past)) (word_at sizes past) w x (same_idle k n ok) (idle_any k u n ok w a) b
+  pub idle_stays : (k : Kind) → (k ≡ StoreFree → stands e.life.index ((state sizes past).edges x) ≡ true → ⊥)
+      → IsOffLists k → AllowedAs k sizes past e → (w : ℕ → ℕ) → IsAfter sizes past e w → IsList sizes (state sizes past)
+      (word_at sizes past) x → IsList sizes (state_by k sizes e (state sizes past)) w x
+  idle_stays k u n ok w a b = stays sizes (state sizes past) (state_by k sizes e (state sizes past))
+      (word_at sizes past) w x (same_idle k n ok) (idle_any k u n ok w a) b
 
-module _ (sizes : Sizes) (z : IsLayout sizes) (past : List Event) (e : Event) (kept : IsKept sizes past) (x : ℕ) (o : IsOpenIn sizes (state sizes past) x) where
-  open_unstored : (k : Kind) → AllowedAs k sizes past e → k ≡ StoreFree → stands e.life.index ((state sizes past).edges x) ≡ true → ⊥
+module _ (sizes : Sizes) (z : IsLayout sizes) (past : List Event) (e : Event) (kept : IsKept sizes past) (x : ℕ)
+    (o : IsOpenIn sizes (state sizes past) x) where
+  open_unstored : (k : Kind) → AllowedAs k sizes past e → k ≡ StoreFree → stands e.life.index
+      ((state sizes past).edges x) ≡ true → ⊥
   open_unstored StoreFree ok is t = let f = ok.list x o.there t in o.unfinished record { head = f.head; each = f.edges }
   open_unstored _ ok is t = absurd (cc)
 
-  open_unfree : (node_in sizes past e.life.index).mode ≡ Free → stands e.life.index ((state sizes past).edges x) ≡ true → ⊥
-  open_unfree free t = ⊎_elim (λ (m : (node_in sizes past e.life.index).mode ≡ Linked). absurd (cc)) (λ (m : (node_in sizes past e.life.index).mode ≡ Spent). absurd (cc))
-      (open_mode sizes (state sizes past).node (state sizes past).edges (state sizes past).frozen x e.life.index (listing sizes z past kept) o t)
+  open_unfree : (node_in sizes past e.life.index).mode ≡ Free → stands e.life.index ((state sizes past).edges x) ≡ true
+      → ⊥
+  open_unfree free t = ⊎_elim (λ (m : (node_in sizes past e.life.index).mode ≡ Linked). absurd (cc))
+      (λ (m : (node_in sizes past e.life.index).mode ≡ Spent). absurd (cc))
+      (open_mode sizes (state sizes past).node (state sizes past).edges (state sizes past).frozen x e.life.index
+      (listing sizes z past kept) o t)
 
   -- such a kind leaves a list that isn't frozen to its end untouched
-  pub idle_list : (k : Kind) → IsOffLists k → AllowedAs k sizes past e → (w : ℕ → ℕ) → IsAfter sizes past e w → Untouched (edge_chain sizes past x) (list_chain sizes (state_by k sizes e (state sizes past)) w x)
+  pub idle_list : (k : Kind) → IsOffLists k → AllowedAs k sizes past e → (w : ℕ → ℕ) → IsAfter sizes past e w
+      → Untouched (edge_chain sizes past x) (list_chain sizes (state_by k sizes e (state sizes past)) w x)
   idle_list k n ok w a = idle_any sizes z past e kept x o.used open_unfree k (open_unstored k ok) n ok w a
 
-  list_idle : (k : Kind) → IsOffLists k → AllowedAs k sizes past e → (w : ℕ → ℕ) → IsAfter sizes past e w → IsList sizes (state sizes past) (word_at sizes past) x → IsList sizes (state_by k sizes e (state sizes past)) w x
+  list_idle : (k : Kind) → IsOffLists k → AllowedAs k sizes past e → (w : ℕ → ℕ) → IsAfter sizes past e w → IsList sizes
+      (state sizes past) (word_at sizes past) x → IsList sizes (state_by k sizes e (state sizes past)) w x
   list_idle k n ok w a b = idle_stays sizes z past e kept x o.used open_unfree k (open_unstored k ok) n ok w a b
 
 module _ (sizes : Sizes) (z : IsLayout sizes) (past : List Event) (e : Event) (kept : IsKept sizes past) (x : ℕ) where
@@ -260,8 +349,10 @@ module _ (sizes : Sizes) (z : IsLayout sizes) (past : List Event) (e : Event) (k
     keys = λ y _ h. omega (arith, ok.place, h);
   }
 
-  pub same_link : (ok : IsLinkEdge sizes past e) → x ≢ e.source.index → linked_in sizes (second_at sizes x) e.place e.life.index ((state sizes past).edges x) ≡ (state sizes past).edges x
-  same_link ok ne = linked_none sizes (second_at sizes x) e.place e.life.index ((state sizes past).edges x) (λ at. ne (link_only sizes z past e kept (listing sizes z past kept) ok x at))
+  pub same_link : (ok : IsLinkEdge sizes past e) → x ≢ e.source.index → linked_in sizes
+      (second_at sizes x) e.place e.life.index ((state sizes past).edges x) ≡ (state sizes past).edges x
+  same_link ok ne = linked_none sizes (second_at sizes x) e.place e.life.index ((state sizes past).edges x)
+      (λ at. ne (link_only sizes z past e kept (listing sizes z past kept) ok x at))
 
   -- what is unlinked from another list
   pub off_unlink : IsUnlinkEdge sizes past e → x ≢ (node_in sizes past e.life.index).source.index → IsOff sizes past e x
@@ -271,31 +362,42 @@ module _ (sizes : Sizes) (z : IsLayout sizes) (past : List Event) (e : Event) (k
     keys = λ y _ h. omega (arith, ok.place, h);
   }
 
-  pub same_unlink : x ≢ (node_in sizes past e.life.index).source.index → unlinked_from e.life.index ((state sizes past).edges x) ≡ (state sizes past).edges x
+  pub same_unlink : x ≢ (node_in sizes past e.life.index).source.index → unlinked_from e.life.index
+      ((state sizes past).edges x) ≡ (state sizes past).edges x
   same_unlink ne = unlinked_none e.life.index ((state sizes past).edges x)
-      (yes_no (stands e.life.index ((state sizes past).edges x) ≡ false) (stands e.life.index ((state sizes past).edges x)) (λ t. absurd (ne (sym (of_source e.life.index t)))) (λ f. f))
+      (yes_no (stands e.life.index ((state sizes past).edges x) ≡ false)
+      (stands e.life.index ((state sizes past).edges x)) (λ t. absurd (ne (sym (of_source e.life.index t))))
+      (λ f. f))
 
   -- what is marked on another list
-  pub off_mark : e.place ≡ link_at sizes e.life.index → x ≢ (node_in sizes past e.life.index).source.index → IsOff sizes past e x
+  pub off_mark : e.place ≡ link_at sizes e.life.index → x ≢ (node_in sizes past e.life.index).source.index
+      → IsOff sizes past e x
   off_mark place ne = record {
     head = λ h. omega (arith, place, h);
-    links = λ y t h. let same : e.life.index ≡ y = omega (arith, place, h) in ne (sym (ap (λ (i : ℕ). (node_in sizes past i).source.index) same ∙ of_source y t));
+    links = λ y t h. let same : e.life.index ≡ y = omega (arith, place, h) in ne
+        (sym (ap (λ (i : ℕ). (node_in sizes past i).source.index) same ∙ of_source y t));
     keys = λ y _ h. omega (arith, place, h);
   }
 
   -- another list is closed
   pub off_close : e.place ≡ second_at sizes e.life.index → x ≢ e.life.index → IsOff sizes past e x
-  off_close place ne = record { head = λ h. ne (omega (arith, place, h)); links = λ y _ h. omega (arith, place, h); keys = λ y _ h. omega (arith, place, h) }
+  off_close place ne = record {
+    head = λ h. ne (omega (arith, place, h));
+    links = λ y _ h. omega
+        (arith, place, h);
+    keys = λ y _ h. omega (arith, place, h);
+  }
 
 -- an event writes a word of a list
-pub record IsSpot (sizes : Sizes) (past : List Event) (e : Event) (x : ℕ) : Type 0 where
+pub record IsListSpot (sizes : Sizes) (past : List Event) (e : Event) (x : ℕ) : Type 0 where
   pub at : Position
   pub place : list_word sizes x at ≡ e.place
   pub on : IsOn (edge_chain sizes past x) at
   pub behind : (y : ℕ) → at ≡ Node y → stands y ((state sizes past).edges x) ≡ true
 
 -- an edge is linked: it's inserted into the list of its source
-module _ (sizes : Sizes) (z : IsLayout sizes) (past : List Event) (e : Event) (kept : IsKept sizes past) (ok : IsLinkEdge sizes past e) where
+module _ (sizes : Sizes) (z : IsLayout sizes) (past : List Event) (e : Event) (kept : IsKept sizes past)
+    (ok : IsLinkEdge sizes past e) where
   abbrev link_home : ℕ
   link_home = e.source.index
 
@@ -303,74 +405,116 @@ module _ (sizes : Sizes) (z : IsLayout sizes) (past : List Event) (e : Event) (k
   link_state = state_by LinkEdge sizes e (state sizes past)
 
   -- a linked edge of a source is on its list
-  link_behind : (y : ℕ) → y < sizes.nodes → e.place ≡ link_at sizes y → stands y ((state sizes past).edges link_home) ≡ true
+  link_behind : (y : ℕ) → y < sizes.nodes → e.place ≡ link_at sizes y → stands y
+      ((state sizes past).edges link_home) ≡ true
   link_behind y t h =
       let f = ok.linked y h in
-      subst (λ (l : Life). stands y ((state sizes past).edges l.index) ≡ true) f.from ((listing sizes z past kept).source y t f.linked.linked f.linked.edge).on
+      subst (λ (l : Life). stands y ((state sizes past).edges l.index) ≡ true) f.from
+      ((listing sizes z past kept).source y t f.linked.linked f.linked.edge).on
 
-  pub link_spot : IsSpot sizes past e link_home
+  pub link_spot : IsListSpot sizes past e link_home
   link_spot = ⊎_elim
       (λ h. record { at = Head; place = sym h.0; on = tt; behind = λ y p. absurd (cc) })
       (λ h.
       let t = link_behind ok.before h.1 h.0 in
-      record { at = Node ok.before; place = sym h.0; on = t; behind = λ y p. let q : ok.before ≡ y = cc in subst (λ (v : ℕ). stands v ((state sizes past).edges link_home) ≡ true) q t })
+      record {
+        at = Node ok.before;
+        place = sym h.0;
+        on = t;
+        behind = λ y p. let q : ok.before ≡ y = cc in subst
+            (λ (v : ℕ). stands v ((state sizes past).edges link_home) ≡ true) q t;
+      })
       ok.place
 
-  pub link_can : (s : IsSpot sizes past e link_home) → CanInsert (edge_chain sizes past link_home) s.at e.life.index
+  pub link_can : (s : IsListSpot sizes past e link_home) → CanInsert (edge_chain sizes past link_home) s.at e.life.index
   link_can s =
-      let word : word_at sizes past (list_word sizes link_home s.at) ≡ word_at sizes past e.place = ap (word_at sizes past) s.place in
+      let word : word_at sizes past (list_word sizes link_home s.at) ≡ word_at sizes past e.place = ap
+      (word_at sizes past) s.place in
       record {
         passes = record {
           present = s.on;
           above = above s.at s.place;
-          below = subst (λ (i : ℕ). index_of i ≢ nowhere → word_at sizes past (key_at sizes e.life.index) < word_at sizes past (key_at sizes (index_of i))) (sym word)
+          below = subst (λ (i : ℕ). index_of i ≢ nowhere → word_at sizes past
+              (key_at sizes e.life.index) < word_at sizes past (key_at sizes (index_of i))) (sym word)
               (λ some. let k = ok.filled.key_word in let g = ok.gap.above some in omega arith);
         };
         unmarked = ap mark_of word ∙ ok.unmarked;
         named = λ none. omega (arith, ok.there, z.few_nodes, none);
         absent = λ on. ((listing sizes z past kept).on link_home e.life.index on).unfresh ok.fresh.fresh;
-        filled = ap index_of ok.filled.link_word ∙ (index_of-pack (index_of (word_at sizes past e.place)) 0 (node_in sizes past e.life.index).tag (index_of-bound (word_at sizes past e.place)) ∙ ap index_of (sym word));
+        filled = ap index_of ok.filled.link_word ∙ (index_of-pack (index_of (word_at sizes past e.place)) 0
+            (node_in sizes past e.life.index).tag (index_of-bound (word_at sizes past e.place)) ∙ ap index_of
+            (sym word));
       }
     where
-      above : (p : Position) → list_word sizes link_home p ≡ e.place → StandsBelow (edge_chain sizes past link_home) p (word_at sizes past (key_at sizes e.life.index))
+      above : (p : Position) → list_word sizes link_home p ≡ e.place → StandsBelow (edge_chain sizes past link_home) p
+          (word_at sizes past (key_at sizes e.life.index))
       above Head at = tt
       above (Node y) at = let k = ok.filled.key_word in let g = ok.gap.below y (sym at) in omega arith
 
   link_still : (x : ℕ) → IsLinkedStill sizes past link_state x
-  link_still x y on = put_case (λ (v : Nodes). v.since ≡ (node_in sizes past y).since) e.life.index (record (node_in sizes past e.life.index) { mode = Linked; vertex = false; key = e.key; source = e.source; target = e.target; weight = e.weight; since = (state sizes past).count + 1 }) (state sizes past).node y
-      (λ same. absurd (((listing sizes z past kept).on x y on).unfresh (ap (λ (i : ℕ). (node_in sizes past i).mode) same ∙ ok.fresh.fresh))) (λ _. refl)
+  link_still x y on = put_case (λ (v : Nodes). v.since ≡ (node_in sizes past y).since) e.life.index
+      (record (node_in sizes past e.life.index) {
+        mode = Linked;
+        vertex = false;
+        key = e.key;
+        source = e.source;
+        target
+            = e.target;
+        weight = e.weight;
+        since = (state sizes past).count + 1;
+      }) (state sizes past).node y
+      (λ same. absurd (((listing sizes z past kept).on x y on).unfresh
+      (ap (λ (i : ℕ). (node_in sizes past i).mode) same ∙ ok.fresh.fresh))) (λ _. refl)
 
   link_near : e.place < word_count sizes
   link_near = omega (arith, ok.place)
 
-  link_nodes : (s : IsSpot sizes past e link_home) → Joins (is_listed (state sizes past) link_home) (is_listed link_state link_home) e.life.index
-  link_nodes s = subst (λ (p : ℕ). Joins (is_listed (state sizes past) link_home) (λ y. stands y (linked_in sizes (second_at sizes link_home) p e.life.index ((state sizes past).edges link_home))) e.life.index) s.place
-      (joins_linked sizes (list_places sizes link_home) (list_links sizes link_home) s.at e.life.index ((state sizes past).edges link_home) (λ y at. s.behind y at))
+  link_nodes : (s : IsListSpot sizes past e link_home) → Joins (is_listed (state sizes past) link_home)
+      (is_listed link_state link_home) e.life.index
+  link_nodes s = subst (λ (p : ℕ). Joins (is_listed (state sizes past) link_home)
+      (λ y. stands y (linked_in sizes (second_at sizes link_home) p e.life.index ((state sizes past).edges link_home)))
+      e.life.index) s.place
+      (joins_linked sizes (list_places sizes link_home) (list_links sizes link_home) s.at e.life.index
+      ((state sizes past).edges link_home) (λ y at. s.behind y at))
 
   module _ (w : ℕ → ℕ) (a : IsAfter sizes past e w) where
-    pub link_inserts : (s : IsSpot sizes past e link_home) → Inserts (edge_chain sizes past link_home) (list_chain sizes link_state w link_home) s.at e.life.index
+    pub link_inserts : (s : IsListSpot sizes past e link_home) → Inserts (edge_chain sizes past link_home)
+        (list_chain sizes link_state w link_home) s.at e.life.index
     link_inserts s =
-        Inserts-in (word_at sizes past) w (list_places sizes link_home) (is_listed (state sizes past) link_home) (is_listed link_state link_home) (λ y. (node_in sizes past y).since) (λ y. (link_state.node y).since) (link_still link_home) s.at e.life.index (tag_of (word_at sizes past e.place))
-        (alone sizes link_home s.at) (omega (arith, ok.there, z.few_nodes)) (link_can s) (writes_at sizes past e w _ _ a s.place link_near ok.word) (link_nodes s)
+        Inserts-in (word_at sizes past) w (list_places sizes link_home) (is_listed (state sizes past) link_home)
+        (is_listed link_state link_home) (λ y. (node_in sizes past y).since) (λ y. (link_state.node y).since)
+        (link_still link_home) s.at e.life.index (tag_of (word_at sizes past e.place))
+        (alone sizes link_home s.at) (omega (arith, ok.there, z.few_nodes)) (link_can s)
+        (writes_at sizes past e w _ _ a s.place link_near ok.word) (link_nodes s)
 
-    pub link_others : (x : ℕ) → IsOpenIn sizes (state sizes past) x → x ≢ link_home → Untouched (edge_chain sizes past x) (list_chain sizes link_state w x)
-    link_others x o ne = untouched sizes past e w link_state x a (off_link sizes z past e kept x ok ne) (link_still x) (same_link sizes z past e kept x ok ne)
+    pub link_others : (x : ℕ) → IsOpenIn sizes (state sizes past) x → x ≢ link_home → Untouched
+        (edge_chain sizes past x) (list_chain sizes link_state w x)
+    link_others x o ne = untouched sizes past e w link_state x a (off_link sizes z past e kept x ok ne) (link_still x)
+        (same_link sizes z past e kept x ok ne)
 
-    link_list : (x : ℕ) → IsOpenIn sizes (state sizes past) x → IsList sizes (state sizes past) (word_at sizes past) x → IsList sizes link_state w x
+    link_list : (x : ℕ) → IsOpenIn sizes (state sizes past) x → IsList sizes (state sizes past) (word_at sizes past) x
+        → IsList sizes link_state w x
     link_list x o b = dite (ℕ_discrete x link_home)
         (λ same.
         let s = link_spot in
         let step = link_inserts s in
-        let old : IsList sizes (state sizes past) (word_at sizes past) link_home = subst (IsList sizes (state sizes past) (word_at sizes past)) same b in
+        let old : IsList sizes (state sizes past) (word_at sizes past) link_home = subst
+        (IsList sizes (state sizes past) (word_at sizes past)) same b in
         subst (IsList sizes link_state w) (sym same) record {
-          chain = IsChain-inserted (edge_chain sizes past link_home) (list_chain sizes link_state w link_home) s.at e.life.index old.chain step;
-          met = subst (λ (p : ℕ). MeetsFrom (list_chain sizes link_state w link_home) Head (linked_in sizes (second_at sizes link_home) p e.life.index ((state sizes past).edges link_home))) s.place
-              (meets_inserted sizes (list_places sizes link_home) (list_links sizes link_home) (edge_chain sizes past link_home) (list_chain sizes link_state w link_home) s.at e.life.index ((state sizes past).edges link_home) old.chain step old.met);
+          chain = IsChain-inserted (edge_chain sizes past link_home)
+              (list_chain sizes link_state w link_home) s.at e.life.index old.chain step;
+          met = subst (λ (p : ℕ). MeetsFrom (list_chain sizes link_state w link_home) Head
+              (linked_in sizes (second_at sizes link_home) p e.life.index ((state sizes past).edges link_home))) s.place
+              (meets_inserted sizes (list_places sizes link_home) (list_links sizes link_home)
+              (edge_chain sizes past link_home) (list_chain sizes link_state w link_home) s.at e.life.index
+              ((state sizes past).edges link_home) old.chain step old.met);
         })
-        (λ ne. stays sizes (state sizes past) link_state (word_at sizes past) w x (same_link sizes z past e kept x ok ne) (link_others x o ne) b)
+        (λ ne. stays sizes (state sizes past) link_state (word_at sizes past) w x
+        (same_link sizes z past e kept x ok ne) (link_others x o ne) b)
 
 -- an edge is replaced: the new one is put behind it on the list of its source
-module _ (sizes : Sizes) (z : IsLayout sizes) (past : List Event) (e : Event) (kept : IsKept sizes past) (ok : IsReplaceEdge sizes past e)
+module _ (sizes : Sizes) (z : IsLayout sizes) (past : List Event) (e : Event) (kept : IsKept sizes past)
+    (ok : IsReplaceEdge sizes past e)
   where
     abbrev new_home : ℕ
     new_home = e.source.index
@@ -385,174 +529,289 @@ module _ (sizes : Sizes) (z : IsLayout sizes) (past : List Event) (e : Event) (k
 
     new_can : CanReplace (edge_chain sizes past new_home) e.old.index e.life.index
     new_can =
-        let word : word_at sizes past (link_at sizes e.old.index) ≡ word_at sizes past e.place = ap (word_at sizes past) (sym ok.place) in
+        let word : word_at sizes past (link_at sizes e.old.index) ≡ word_at sizes past e.place = ap (word_at sizes past)
+        (sym ok.place) in
         record {
           present = new_on;
           unmarked = ap mark_of word ∙ ok.unmarked;
           named = λ none. omega (arith, ok.there, z.few_nodes, none);
           absent = λ on. ((listing sizes z past kept).on new_home e.life.index on).unfresh ok.fresh.fresh;
-          key = ok.filled.key_word ∙ (ok.key ∙ sym (((contents sizes z past kept).each e.old.index ok.old_there).edge (subst IsUsed (sym ok.linked.linked) tt) ok.linked.edge).key_word);
-          filled = ap index_of ok.filled.link_word ∙ (index_of-pack (index_of (word_at sizes past e.place)) 0 (node_in sizes past e.life.index).tag (index_of-bound (word_at sizes past e.place)) ∙ ap index_of (sym word));
+          key = ok.filled.key_word ∙ (ok.key ∙ sym (((contents sizes z past kept).each e.old.index ok.old_there).edge
+              (subst IsUsed (sym ok.linked.linked) tt) ok.linked.edge).key_word);
+          filled = ap index_of ok.filled.link_word ∙ (index_of-pack (index_of (word_at sizes past e.place)) 0
+              (node_in sizes past e.life.index).tag (index_of-bound (word_at sizes past e.place)) ∙ ap index_of
+              (sym word));
         }
 
     new_nodes : Joins (is_listed (state sizes past) new_home) (is_listed new_state new_home) e.life.index
-    new_nodes = subst (λ (p : ℕ). Joins (is_listed (state sizes past) new_home) (λ y. stands y (linked_in sizes (second_at sizes new_home) p e.life.index ((state sizes past).edges new_home))) e.life.index) (sym ok.place)
-        (joins_linked sizes (list_places sizes new_home) (list_links sizes new_home) (Node e.old.index) e.life.index ((state sizes past).edges new_home) (λ y at. let q : e.old.index ≡ y = cc in subst (λ (v : ℕ). stands v ((state sizes past).edges new_home) ≡ true) q new_on))
+    new_nodes = subst (λ (p : ℕ). Joins (is_listed (state sizes past) new_home)
+        (λ y. stands y (linked_in sizes (second_at sizes new_home) p e.life.index ((state sizes past).edges new_home)))
+        e.life.index) (sym ok.place)
+        (joins_linked sizes (list_places sizes new_home) (list_links sizes new_home) (Node e.old.index) e.life.index
+        ((state sizes past).edges new_home) (λ y at. let q : e.old.index ≡ y = cc in subst
+        (λ (v : ℕ). stands v ((state sizes past).edges new_home) ≡ true) q new_on))
 
     -- every other node stays linked by the same event
     new_else : (y : ℕ) → y ≢ e.life.index → (new_state.node y).since ≡ (node_in sizes past y).since
     new_else y ne =
         let j : State = joined_edge sizes e (state sizes past) in
         handed_since (j.node e.old.index).source.index (marked_state j e.old.index) y
-        ∙ (put_since j e.old.index (record (j.node e.old.index) { marked = true }) refl y ∙ ap (λ (v : Nodes). v.since) (put_other e.life.index (record (node_in sizes past e.life.index) { mode = Linked; vertex = false; key = e.key; source = e.source; target = e.target; weight = e.weight; since = (state sizes past).count + 1 }) (state sizes past).node y ne))
+        ∙ (put_since j e.old.index (record (j.node e.old.index) { marked = true }) refl y ∙ ap (λ (v : Nodes). v.since)
+        (put_other e.life.index (record (node_in sizes past e.life.index) {
+          mode = Linked;
+          vertex = false;
+          key = e.key;
+          source = e.source;
+          target = e.target;
+          weight = e.weight;
+          since
+              = (state sizes past).count + 1;
+        }) (state sizes past).node y ne))
 
     new_still : (x : ℕ) → IsLinkedStill sizes past new_state x
-    new_still x y on = new_else y (λ same. absurd (((listing sizes z past kept).on x y on).unfresh (ap (λ (i : ℕ). (node_in sizes past i).mode) same ∙ ok.fresh.fresh)))
+    new_still x y on = new_else y (λ same. absurd (((listing sizes z past kept).on x y on).unfresh
+        (ap (λ (i : ℕ). (node_in sizes past i).mode) same ∙ ok.fresh.fresh)))
 
     -- what is replaced on another list
     off_replace : (x : ℕ) → x ≢ new_home → IsOff sizes past e x
     off_replace x ne =
-        let home : (node_in sizes past e.old.index).source.index ≡ new_home = ap (λ (l : Life). l.index) (sym ok.source) in
+        let home : (node_in sizes past e.old.index).source.index ≡ new_home = ap (λ (l : Life). l.index)
+        (sym ok.source) in
         let on = of_source sizes z past e kept x in
         record {
           head = λ h. omega (arith, ok.place, h);
-          links = λ y t h. let same : e.old.index ≡ y = omega (arith, ok.place, h) in ne (sym (on y t) ∙ (ap (λ (i : ℕ). (node_in sizes past i).source.index) (sym same) ∙ home));
+          links = λ y t h. let same : e.old.index ≡ y = omega (arith, ok.place, h) in ne
+              (sym (on y t) ∙ (ap (λ (i : ℕ). (node_in sizes past i).source.index) (sym same) ∙ home));
           keys = λ y _ h. omega (arith, ok.place, h);
         }
 
-    same_replace : (x : ℕ) → x ≢ new_home → linked_in sizes (second_at sizes x) e.place e.life.index ((state sizes past).edges x) ≡ (state sizes past).edges x
-    same_replace x ne = linked_none sizes (second_at sizes x) e.place e.life.index ((state sizes past).edges x) (λ at. ne ((replace_joins sizes z past e kept (listing sizes z past kept) ok).only x at))
+    same_replace : (x : ℕ) → x ≢ new_home → linked_in sizes (second_at sizes x) e.place e.life.index
+        ((state sizes past).edges x) ≡ (state sizes past).edges x
+    same_replace x ne = linked_none sizes (second_at sizes x) e.place e.life.index ((state sizes past).edges x)
+        (λ at. ne ((replace_joins sizes z past e kept (listing sizes z past kept) ok).only x at))
 
     -- the new one is linked by this event, later than the old one
     new_since : (new_state.node e.life.index).since ≡ (state sizes past).count + 1
     new_since =
         let j : State = joined_edge sizes e (state sizes past) in
         handed_since (j.node e.old.index).source.index (marked_state j e.old.index) e.life.index
-        ∙ (put_since j e.old.index (record (j.node e.old.index) { marked = true }) refl e.life.index ∙ ap (λ (v : Nodes). v.since) (put_same e.life.index (record (node_in sizes past e.life.index) { mode = Linked; vertex = false; key = e.key; source = e.source; target = e.target; weight = e.weight; since = (state sizes past).count + 1 }) (state sizes past).node))
+        ∙ (put_since j e.old.index (record (j.node e.old.index) { marked = true }) refl e.life.index ∙ ap
+        (λ (v : Nodes). v.since) (put_same e.life.index (record
+        (node_in sizes past e.life.index) {
+          mode = Linked;
+          vertex = false;
+          key = e.key;
+          source = e.source;
+          target =
+              e.target;
+          weight = e.weight;
+          since = (state sizes past).count + 1;
+        }) (state sizes past).node))
 
     module _ (w : ℕ → ℕ) (a : IsAfter sizes past e w) where
-      pub new_replaces : Replaces (edge_chain sizes past new_home) (list_chain sizes new_state w new_home) e.old.index e.life.index
+      pub new_replaces : Replaces (edge_chain sizes past new_home)
+          (list_chain sizes new_state w new_home) e.old.index e.life.index
       new_replaces =
           let low = (sinces sizes past kept).each e.old.index in
-          Replaces-in (word_at sizes past) w (list_places sizes new_home) (is_listed (state sizes past) new_home) (is_listed new_state new_home) (λ y. (node_in sizes past y).since) (λ y. (new_state.node y).since) (new_still new_home) e.old.index e.life.index (tag_of (word_at sizes past e.place))
-          (alone sizes new_home (Node e.old.index)) (omega (arith, ok.there, z.few_nodes)) new_can (omega (arith, new_since, low)) (writes_at sizes past e w _ _ a (sym ok.place) (omega (arith, ok.place, ok.old_there)) ok.word) new_nodes
+          Replaces-in (word_at sizes past) w (list_places sizes new_home) (is_listed (state sizes past) new_home)
+          (is_listed new_state new_home) (λ y. (node_in sizes past y).since) (λ y. (new_state.node y).since)
+          (new_still new_home) e.old.index e.life.index (tag_of (word_at sizes past e.place))
+          (alone sizes new_home (Node e.old.index)) (omega (arith, ok.there, z.few_nodes)) new_can
+          (omega (arith, new_since, low)) (writes_at sizes past e w _ _ a (sym ok.place)
+          (omega (arith, ok.place, ok.old_there)) ok.word) new_nodes
 
       pub new_others : (x : ℕ) → x ≢ new_home → Untouched (edge_chain sizes past x) (list_chain sizes new_state w x)
       new_others x ne = untouched sizes past e w new_state x a (off_replace x ne) (new_still x) (same_replace x ne)
 
       new_list_met : IsList sizes (state sizes past) (word_at sizes past) new_home → IsList sizes new_state w new_home
       new_list_met old = record {
-        chain = IsChain-replaced (edge_chain sizes past new_home) (list_chain sizes new_state w new_home) e.old.index e.life.index old.chain new_replaces;
-        met = subst (λ (p : ℕ). MeetsFrom (list_chain sizes new_state w new_home) Head (linked_in sizes (second_at sizes new_home) p e.life.index ((state sizes past).edges new_home))) (sym ok.place)
-            (meets_replaced sizes (list_places sizes new_home) (list_links sizes new_home) (edge_chain sizes past new_home) (list_chain sizes new_state w new_home) e.old.index e.life.index ((state sizes past).edges new_home) old.chain new_replaces old.met);
+        chain = IsChain-replaced (edge_chain sizes past new_home)
+            (list_chain sizes new_state w new_home) e.old.index e.life.index old.chain new_replaces;
+        met = subst (λ (p : ℕ). MeetsFrom (list_chain sizes new_state w new_home) Head
+            (linked_in sizes (second_at sizes new_home) p e.life.index ((state sizes past).edges new_home)))
+            (sym ok.place)
+            (meets_replaced sizes (list_places sizes new_home) (list_links sizes new_home)
+            (edge_chain sizes past new_home) (list_chain sizes new_state w new_home) e.old.index e.life.index
+            ((state sizes past).edges new_home) old.chain new_replaces old.met);
       }
 
 -- a marked edge is unlinked from the list of its source
-module _ (sizes : Sizes) (z : IsLayout sizes) (past : List Event) (e : Event) (kept : IsKept sizes past) (ok : IsUnlinkEdge sizes past e) where
+module _ (sizes : Sizes) (z : IsLayout sizes) (past : List Event) (e : Event) (kept : IsKept sizes past)
+    (ok : IsUnlinkEdge sizes past e) where
   abbrev cut_home : ℕ
   cut_home = (node_in sizes past e.life.index).source.index
 
   abbrev cut_state : State
   cut_state = state_by UnlinkEdge sizes e (state sizes past)
 
-  cut_behind : (y : ℕ) → y < sizes.nodes → e.place ≡ link_at sizes y → stands y ((state sizes past).edges cut_home) ≡ true
+  cut_behind : (y : ℕ) → y < sizes.nodes → e.place ≡ link_at sizes y → stands y
+      ((state sizes past).edges cut_home) ≡ true
   cut_behind y t h =
       let f = ok.before_linked y h in
-      subst (λ (l : Life). stands y ((state sizes past).edges l.index) ≡ true) f.from ((listing sizes z past kept).source y t f.linked.linked f.linked.edge).on
+      subst (λ (l : Life). stands y ((state sizes past).edges l.index) ≡ true) f.from
+      ((listing sizes z past kept).source y t f.linked.linked f.linked.edge).on
 
-  pub cut_spot : IsSpot sizes past e cut_home
+  pub cut_spot : IsListSpot sizes past e cut_home
   cut_spot = ⊎_elim
       (λ h. record { at = Head; place = sym h.0; on = tt; behind = λ y p. absurd (cc) })
       (λ h.
       let t = cut_behind ok.before h.1 h.0 in
-      record { at = Node ok.before; place = sym h.0; on = t; behind = λ y p. let q : ok.before ≡ y = cc in subst (λ (v : ℕ). stands v ((state sizes past).edges cut_home) ≡ true) q t })
+      record {
+        at = Node ok.before;
+        place = sym h.0;
+        on = t;
+        behind = λ y p. let q : ok.before ≡ y = cc in subst
+            (λ (v : ℕ). stands v ((state sizes past).edges cut_home) ≡ true) q t;
+      })
       ok.place
 
-  cut_can : (s : IsSpot sizes past e cut_home) → CanUnlink (edge_chain sizes past cut_home) s.at e.life.index
+  cut_can : (s : IsListSpot sizes past e cut_home) → CanUnlink (edge_chain sizes past cut_home) s.at e.life.index
   cut_can s =
-      let word : word_at sizes past (list_word sizes cut_home s.at) ≡ word_at sizes past e.place = ap (word_at sizes past) s.place in
-      record { present = s.on; unmarked = ap mark_of word ∙ ok.unmarked; named = λ none. omega (arith, ok.there, z.few_nodes, none); led = ap index_of word ∙ ok.leads; marked = ok.dead }
+      let word : word_at sizes past (list_word sizes cut_home s.at) ≡ word_at sizes past e.place = ap
+      (word_at sizes past) s.place in
+      record {
+        present = s.on;
+        unmarked = ap mark_of word ∙ ok.unmarked;
+        named = λ none. omega
+            (arith, ok.there, z.few_nodes, none);
+        led = ap index_of word ∙ ok.leads;
+        marked = ok.dead;
+      }
 
   module _ (w : ℕ → ℕ) (a : IsAfter sizes past e w) where
-    pub cut_unlinks : (s : IsSpot sizes past e cut_home) → Unlinks (edge_chain sizes past cut_home) (list_chain sizes cut_state w cut_home) s.at e.life.index
+    pub cut_unlinks : (s : IsListSpot sizes past e cut_home) → Unlinks (edge_chain sizes past cut_home)
+        (list_chain sizes cut_state w cut_home) s.at e.life.index
     cut_unlinks s =
-        Unlinks-in (word_at sizes past) w (list_places sizes cut_home) (is_listed (state sizes past) cut_home) (is_listed cut_state cut_home) (λ y. (node_in sizes past y).since) (λ y. (cut_state.node y).since) (λ y on. since_still UnlinkEdge tt sizes e (state sizes past) y) s.at e.life.index (tag_of (word_at sizes past e.place))
-        (alone sizes cut_home s.at) (cut_can s) (writes_at sizes past e w _ _ a s.place (omega (arith, ok.place)) ok.word) (leaves_unlinked e.life.index ((state sizes past).edges cut_home))
+        Unlinks-in (word_at sizes past) w (list_places sizes cut_home) (is_listed (state sizes past) cut_home)
+        (is_listed cut_state cut_home) (λ y. (node_in sizes past y).since) (λ y. (cut_state.node y).since)
+        (λ y on. since_still UnlinkEdge tt sizes e (state sizes past) y) s.at e.life.index
+        (tag_of (word_at sizes past e.place))
+        (alone sizes cut_home s.at) (cut_can s) (writes_at sizes past e w _ _ a s.place
+        (omega (arith, ok.place)) ok.word) (leaves_unlinked e.life.index ((state sizes past).edges cut_home))
 
-    pub cut_others : (x : ℕ) → IsOpenIn sizes (state sizes past) x → x ≢ cut_home → Untouched (edge_chain sizes past x) (list_chain sizes cut_state w x)
-    cut_others x o ne = untouched sizes past e w cut_state x a (off_unlink sizes z past e kept x ok ne) (λ y on. since_still UnlinkEdge tt sizes e (state sizes past) y) (same_unlink sizes z past e kept x ne)
+    pub cut_others : (x : ℕ) → IsOpenIn sizes (state sizes past) x → x ≢ cut_home → Untouched (edge_chain sizes past x)
+        (list_chain sizes cut_state w x)
+    cut_others x o ne = untouched sizes past e w cut_state x a (off_unlink sizes z past e kept x ok ne)
+        (λ y on. since_still UnlinkEdge tt sizes e (state sizes past) y) (same_unlink sizes z past e kept x ne)
 
-    cut_list : (x : ℕ) → IsOpenIn sizes (state sizes past) x → IsList sizes (state sizes past) (word_at sizes past) x → IsList sizes cut_state w x
+    cut_list : (x : ℕ) → IsOpenIn sizes (state sizes past) x → IsList sizes (state sizes past) (word_at sizes past) x
+        → IsList sizes cut_state w x
     cut_list x o b = dite (ℕ_discrete x cut_home)
         (λ same.
         let s = cut_spot in
         let step = cut_unlinks s in
-        let old : IsList sizes (state sizes past) (word_at sizes past) cut_home = subst (IsList sizes (state sizes past) (word_at sizes past)) same b in
+        let old : IsList sizes (state sizes past) (word_at sizes past) cut_home = subst
+        (IsList sizes (state sizes past) (word_at sizes past)) same b in
         subst (IsList sizes cut_state w) (sym same) record {
-          chain = IsChain-unlinked (edge_chain sizes past cut_home) (list_chain sizes cut_state w cut_home) s.at e.life.index old.chain step;
-          met = meets_unlinked (edge_chain sizes past cut_home) (list_chain sizes cut_state w cut_home) s.at e.life.index ((state sizes past).edges cut_home) old.chain step old.met;
+          chain = IsChain-unlinked (edge_chain sizes past cut_home)
+              (list_chain sizes cut_state w cut_home) s.at e.life.index old.chain step;
+          met = meets_unlinked (edge_chain sizes past cut_home)
+              (list_chain sizes cut_state w cut_home) s.at e.life.index
+              ((state sizes past).edges cut_home) old.chain step old.met;
         })
-        (λ ne. stays sizes (state sizes past) cut_state (word_at sizes past) w x (same_unlink sizes z past e kept x ne) (cut_others x o ne) b)
+        (λ ne. stays sizes (state sizes past) cut_state (word_at sizes past) w x (same_unlink sizes z past e kept x ne)
+        (cut_others x o ne) b)
 
 -- a word of a list gets its mark, and the list stays
-module _ (sizes : Sizes) (past : List Event) (e : Event) (s' : State) (same : (x : ℕ) → s'.edges x ≡ (state sizes past).edges x) (still : (y : ℕ) → (s'.node y).since ≡ (node_in sizes past y).since) (home : ℕ) (at : Position) (place : list_word sizes home at ≡ e.place) (near : e.place < word_count sizes)
+module _ (sizes : Sizes) (past : List Event) (e : Event) (s' : State)
+    (same : (x : ℕ) → s'.edges x ≡ (state sizes past).edges x)
+    (still : (y : ℕ) → (s'.node y).since ≡ (node_in sizes past y).since) (home : ℕ) (at : Position)
+    (place : list_word sizes home at ≡ e.place) (near : e.place < word_count sizes)
     (word : e.word ≡ with_mark (word_at sizes past e.place)) (w : ℕ → ℕ) (a : IsAfter sizes past e w) where
   pub mark_sets : SetsMark (edge_chain sizes past home) (list_chain sizes s' w home) at
-  mark_sets = SetsMark-in (word_at sizes past) w (list_places sizes home) (is_listed (state sizes past) home) (is_listed s' home) (λ y. (node_in sizes past y).since) (λ y. (s'.node y).since) (λ y on. still y) at (alone sizes home at)
+  mark_sets = SetsMark-in (word_at sizes past) w (list_places sizes home) (is_listed (state sizes past) home)
+      (is_listed s' home) (λ y. (node_in sizes past y).since) (λ y. (s'.node y).since) (λ y on. still y) at
+      (alone sizes home at)
       (writes_at sizes past e w _ _ a place near (word ∙ ap (λ (i : ℕ). with_mark (word_at sizes past i)) (sym place)))
       (λ y. ap (λ (l : List ℕ). stands y l) (same home))
 
-  mark_list : (x : ℕ) → (x ≢ home → IsOff sizes past e x) → IsList sizes (state sizes past) (word_at sizes past) x → IsList sizes s' w x
+  mark_list : (x : ℕ) → (x ≢ home → IsOff sizes past e x) → IsList sizes (state sizes past) (word_at sizes past) x
+      → IsList sizes s' w x
   mark_list x off b = dite (ℕ_discrete x home)
-      (λ is. subst (IsList sizes s' w) (sym is) (marks sizes (state sizes past) s' (word_at sizes past) w home at (same home) mark_sets (subst (IsList sizes (state sizes past) (word_at sizes past)) is b)))
-      (λ ne. stays sizes (state sizes past) s' (word_at sizes past) w x (same x) (untouched sizes past e w s' x a (off ne) (λ y on. still y) (same x)) b)
+      (λ is. subst (IsList sizes s' w) (sym is) (marks sizes (state sizes past) s' (word_at sizes past) w home at
+      (same home) mark_sets (subst (IsList sizes (state sizes past) (word_at sizes past)) is b)))
+      (λ ne. stays sizes (state sizes past) s' (word_at sizes past) w x (same x)
+      (untouched sizes past e w s' x a (off ne) (λ y on. still y) (same x)) b)
 
 -- a vertex that is linked has an empty list
-new_list : (sizes : Sizes) → IsLayout sizes → (past : List Event) (e : Event) → IsKept sizes past → IsLinkVertex sizes past e → (w : ℕ → ℕ) → IsAfter sizes past e w → IsList sizes (state_by LinkVertex sizes e (state sizes past)) w e.life.index
+new_list : (sizes : Sizes) → IsLayout sizes → (past : List Event) (e : Event) → IsKept sizes past
+    → IsLinkVertex sizes past e → (w : ℕ → ℕ) → IsAfter sizes past e w → IsList sizes
+    (state_by LinkVertex sizes e (state sizes past)) w e.life.index
 new_list sizes z past e kept ok w a =
     let i : ℕ = e.life.index in
     let s' : State = state_by LinkVertex sizes e (state sizes past) in
     let empty : (state sizes past).edges i ≡ [] = (listing sizes z past kept).empty i ok.fresh.fresh in
-    let none : index_of (w (second_at sizes i)) ≡ nowhere = ap index_of (a.else (second_at sizes i) (λ h. omega (arith, ok.place, h)) ∙ ok.filled.second_word) ∙ index_of-pack nowhere 0 _ (omega arith) in
+    let none : index_of (w (second_at sizes i)) ≡ nowhere = ap index_of
+    (a.else (second_at sizes i) (λ h. omega (arith, ok.place, h)) ∙ ok.filled.second_word)
+    ∙ index_of-pack nowhere 0 _ (omega arith) in
     record {
       chain = IsChain-from_IsMet (list_chain sizes s' w i) [] record {
         met = none;
         rising = tt;
         unmarked = tt;
         once = λ j k d low high. absurd (omega arith);
-        exactly = λ y. ((λ on. absurd (let f : false ≡ true = subst (λ (l : List ℕ). stands y l ≡ true) empty on in cc)), (λ c. absurd (omega (arith, c.1))));
+        exactly = λ y. (
+          (λ on. absurd (let f : false ≡ true = subst
+              (λ (l : List ℕ). stands y l ≡ true) empty on in cc)),
+          (λ c. absurd (omega (arith, c.1))),
+        );
       };
       met = subst (λ (l : List ℕ). MeetsFrom (list_chain sizes s' w i) Head l) (sym empty) none;
     }
 
 -- a list that isn't frozen to its end, after each kind of event
-pub list_after : (sizes : Sizes) → IsLayout sizes → (past : List Event) (e : Event) → IsKept sizes past → (k : Kind) → AllowedAs k sizes past e → (w : ℕ → ℕ) → IsAfter sizes past e w → (x : ℕ) → IsOpenIn sizes (state sizes past) x → IsList sizes (state sizes past) (word_at sizes past) x → IsList sizes (state_by k sizes e (state sizes past)) w x
+pub list_after : (sizes : Sizes) → IsLayout sizes → (past : List Event) (e : Event) → IsKept sizes past → (k : Kind)
+    → AllowedAs k sizes past e → (w : ℕ → ℕ) → IsAfter sizes past e w → (x : ℕ) → IsOpenIn sizes (state sizes past) x
+    → IsList sizes (state sizes past) (word_at sizes past) x → IsList sizes (state_by k sizes e (state sizes past)) w x
 list_after sizes z past e kept LinkEdge ok w a x o b = link_list sizes z past e kept ok w a x o b
 list_after sizes z past e kept ReplaceEdge ok w a x o b = dite (ℕ_discrete x e.source.index)
-    (λ same. subst (IsList sizes (state_by ReplaceEdge sizes e (state sizes past)) w) (sym same) (new_list_met sizes z past e kept ok w a (subst (IsList sizes (state sizes past) (word_at sizes past)) same b)))
-    (λ ne. stays sizes (state sizes past) (state_by ReplaceEdge sizes e (state sizes past)) (word_at sizes past) w x (same_replace sizes z past e kept ok x ne) (new_others sizes z past e kept ok w a x ne) b)
+    (λ same. subst (IsList sizes (state_by ReplaceEdge sizes e (state sizes past)) w) (sym same)
+    (new_list_met sizes z past e kept ok w a (subst (IsList sizes (state sizes past) (word_at sizes past)) same b)))
+    (λ ne. stays sizes (state sizes past) (state_by ReplaceEdge sizes e (state sizes past)) (word_at sizes past) w x
+    (same_replace sizes z past e kept ok x ne) (new_others sizes z past e kept ok w a x ne) b)
 list_after sizes z past e kept UnlinkEdge ok w a x o b = cut_list sizes z past e kept ok w a x o b
-list_after sizes z past e kept MarkEdge ok w a x o b = mark_list sizes past e (state_by MarkEdge sizes e (state sizes past)) (λ _. refl) (λ y. since_still MarkEdge tt sizes e (state sizes past) y) (node_in sizes past e.life.index).source.index (Node e.life.index) (sym ok.place) (omega (arith, ok.place, ok.there)) ok.word w a x (off_mark sizes z past e kept x ok.place) b
-list_after sizes z past e kept FreezeEdge ok w a x o b = mark_list sizes past e (state_by FreezeEdge sizes e (state sizes past)) (λ _. refl) (λ y. since_still FreezeEdge tt sizes e (state sizes past) y) (node_in sizes past e.life.index).source.index (Node e.life.index) (sym ok.place) (omega (arith, ok.place, ok.there)) ok.word w a x (off_mark sizes z past e kept x ok.place) b
-list_after sizes z past e kept FreezeHead ok w a x o b = mark_list sizes past e (state_by FreezeHead sizes e (state sizes past)) (λ _. refl) (λ y. since_still FreezeHead tt sizes e (state sizes past) y) e.life.index Head (sym ok.place) (omega (arith, ok.place, ok.there)) ok.word w a x (off_close sizes z past e kept x ok.place) b
+list_after sizes z past e kept MarkEdge ok w a x o b = mark_list sizes past e
+    (state_by MarkEdge sizes e (state sizes past)) (λ _. refl)
+    (λ y. since_still MarkEdge tt sizes e (state sizes past) y) (node_in sizes past e.life.index).source.index
+    (Node e.life.index) (sym ok.place) (omega (arith, ok.place, ok.there)) ok.word w a x
+    (off_mark sizes z past e kept x ok.place) b
+list_after sizes z past e kept FreezeEdge ok w a x o b = mark_list sizes past e
+    (state_by FreezeEdge sizes e (state sizes past)) (λ _. refl)
+    (λ y. since_still FreezeEdge tt sizes e (state sizes past) y) (node_in sizes past e.life.index).source.index
+    (Node e.life.index) (sym ok.place) (omega (arith, ok.place, ok.there)) ok.word w a x
+    (off_mark sizes z past e kept x ok.place) b
+list_after sizes z past e kept FreezeHead ok w a x o b = mark_list sizes past e
+    (state_by FreezeHead sizes e (state sizes past)) (λ _. refl)
+    (λ y. since_still FreezeHead tt sizes e (state sizes past) y) e.life.index Head (sym ok.place)
+    (omega (arith, ok.place, ok.there)) ok.word w a x (off_close sizes z past e kept x ok.place) b
 list_after sizes z past e kept k ok w a x o b = list_idle sizes z past e kept x o k tt ok w a b
 
-lists_step : (sizes : Sizes) → IsLayout sizes → Keeps sizes (Lists sizes)
+lists_step : (sizes : Sizes) → IsLayout sizes → KeepsByKind sizes (Lists sizes)
 lists_step sizes z past e kept c LinkVertex by ok w a = record {
   each = λ x o. ⊎_elim
-      (λ (old : IsOpenIn sizes (state sizes past) x). list_after sizes z past e kept LinkVertex ok w a x old (c.each x old))
-      (λ (same : x ≡ e.life.index). subst (IsList sizes (state_by LinkVertex sizes e (state sizes past)) w) (sym same) (new_list sizes z past e kept ok w a))
+      (λ (old : IsOpenIn sizes (state sizes past) x). list_after sizes z past e kept LinkVertex ok w a x old
+      (c.each x old))
+      (λ (same : x ≡ e.life.index). subst (IsList sizes (state_by LinkVertex sizes e (state sizes past)) w) (sym same)
+      (new_list sizes z past e kept ok w a))
       (open_linked sizes z past e kept ok x o);
 }
-lists_step sizes z past e kept c k by ok w a = record { each = λ x o. let old = open_before sizes z past e kept k tt ok x o in list_after sizes z past e kept k ok w a x old (c.each x old) }
+lists_step sizes z past e kept c k by ok w a = record {
+  each = λ x o. let old = open_before sizes z past e kept k tt ok
+      x o in list_after sizes z past e kept k ok w a x old (c.each x old);
+}
 
 -- the lists after each kept journal
-pub lists : (sizes : Sizes) → IsLayout sizes → (journal : List Event) → IsKept sizes journal → Lists sizes (state sizes journal) (word_at sizes journal)
-lists sizes z journal kept = holds_all sizes (Lists sizes) (lists_step sizes z) (record { each = λ x o. absurd (o.used) }) journal kept
+pub lists : (sizes : Sizes) → IsLayout sizes → (journal : List Event) → IsKept sizes journal → Lists sizes
+    (state sizes journal) (word_at sizes journal)
+lists sizes z journal kept = holds_all sizes (Lists sizes) (lists_step sizes z)
+    (record { each = λ x o. absurd (o.used) }) journal kept
 
-pub list_met : (sizes : Sizes) → IsLayout sizes → (journal : List Event) → IsKept sizes journal → (x : ℕ) → IsOpenIn sizes (state sizes journal) x → IsMet (edge_chain sizes journal x) ((state sizes journal).edges x)
-list_met sizes z journal kept x o = let b = (lists sizes z journal kept).each x o in IsMet-from_Meets (edge_chain sizes journal x) ((state sizes journal).edges x) b.chain b.met
+pub list_met : (sizes : Sizes) → IsLayout sizes → (journal : List Event) → IsKept sizes journal → (x : ℕ)
+    → IsOpenIn sizes (state sizes journal) x → IsMet (edge_chain sizes journal x) ((state sizes journal).edges x)
+list_met sizes z journal kept x o = let b = (lists sizes z journal kept).each x o in IsMet-from_Meets
+    (edge_chain sizes journal x) ((state sizes journal).edges x) b.chain b.met
 
 -- one meets exactly the edges of each list
-pub edge_lists : (sizes : Sizes) → IsLayout sizes → (journal : List Event) → IsKept sizes journal → EdgeLists sizes journal
+pub edge_lists : (sizes : Sizes) → IsLayout sizes → (journal : List Event) → IsKept sizes journal
+    → EdgeLists sizes journal
 edge_lists sizes z journal kept = record { each = λ x h. list_met sizes z journal kept x (has_open sizes journal x h) }

@@ -1,372 +1,38 @@
 -- What the lists of edges hold after each kept journal.
-use Rattle.std.proofs.Common.{◌≡◌, ◌≢◌, ◌⊎◌, ℕ, ◌+◌, ◌<◌, List, [], Bool, true, false, cond, refl, sym, ap, ◌∙◌, subst, inl, inr, arith, ⊎_elim}
-use Rattle.std.specs.Prelude.{take_while}
+use Rattle.std.proofs.Common.{◌≡◌, ◌≢◌, ◌⊎◌, ℕ, ◌+◌, ◌<◌, List, Bool, true, false, refl, sym, ap, ◌∙◌, subst, inl, inr}
+use Rattle.std.proofs.Common.{arith, ⊎_elim}
 use mathlib.Core.Logic.{dite}
 use native.Mathlib.Decide.{ℕ_discrete}
 use Rattle.packed_link.specs.Link.{mark_of}
 use Rattle.packed_link.specs.Layout.{Sizes, IsLayout, link_at, second_at}
 use Rattle.packed_link.specs.declared.link.Life.{Life}
 use Rattle.core_journal.specs.declared.event.Kind.{Kind}
-use Rattle.core_journal.specs.declared.event.Kind.TheVariants.{PopFree, LinkVertex, MarkVertex, UnlinkVertex, LinkEdge, MarkEdge, UnlinkEdge, ReplaceEdge, FreezeHead, FreezeEdge, StoreFree, PushFree}
+use Rattle.core_journal.specs.declared.event.Kind.TheVariants.{PopFree, LinkVertex, MarkVertex, UnlinkVertex, LinkEdge}
+use Rattle.core_journal.specs.declared.event.Kind.TheVariants.{MarkEdge, UnlinkEdge, ReplaceEdge, FreezeHead}
+use Rattle.core_journal.specs.declared.event.Kind.TheVariants.{FreezeEdge, StoreFree, PushFree}
 use Rattle.core_journal.specs.declared.event.Event.{Event}
 use Rattle.core_journal.specs.Machine.{word_at}
-use Rattle.core_journal.specs.State.{Free, Fresh, Linked, Spent, Node, State, put, linked_in, unlinked_from, state_by, state, joined_edge}
+use Rattle.core_journal.specs.State.{Free, Fresh, Linked, Spent, Node, State, state_by, state, joined_edge}
 use Rattle.core_kept.specs.Kept.{AllowedAs, IsKept}
 use Rattle.core_kept.specs.Edges.{IsLinkEdge, IsUnlinkEdge, IsReplaceEdge}
 use Rattle.core_kept.specs.Vertices.{IsLinkVertex, IsMarkVertex, IsUnlinkVertex}
 use Rattle.core_kept.specs.FreeNodes.{IsStoreFree, IsPushFree}
 use Rattle.core_kept.specs.Nodes.{node_in, IsUsed}
 use Rattle.core_lists.specs.Chains.{HasList, Sources}
-use Rattle.core_kept.proofs.ByKind.{Keeps, put_case, put_same, put_other, marked_state, closed_state, holds_all}
+use Rattle.core_kept.proofs.ByKind.{KeepsByKind, put_case, put_other, marked_state, closed_state, holds_all}
 use Rattle.core_kept.proofs.LinkWords.{link_words, taken, mark_is, mark_isnt}
 use Rattle.core_kept.proofs.Contents.{contents}
 use Rattle.core_kept.proofs.MetFromHead.{stands}
-use Rattle.core_kept.proofs.NodesOnLists.{unlinked_was, unlinked_keeps, unlinked_none, IsWordOf, linked_was, linked_keeps, linked_joins, linked_none, part_unlinked, part_linked, part_same, yes_no}
-use Rattle.core_lists.proofs.ListHolds.{part_of, IsEdgeOn, IsFinished, IsOpenList, IsOnSource, Listing, ListingOf, part_listed, open_mode, IsMoved, moved_open, moved_back, moved_finish, moved, IsGrown, then_finished, then_open, handed_over}
-
--- a node is taken: it leaves the lists, and has an empty one
-module _ (sizes : Sizes) (node : ℕ → Node) (edges : ℕ → List ℕ) (frozen : ℕ → Bool) (c : Listing sizes node edges frozen) (i : ℕ) (v : Node) (free : (node i).mode ≡ Free) (fresh : v.mode ≡ Fresh) where
-  abbrev popped : ℕ → List ℕ
-  popped x = put i [] (λ y. unlinked_from i (edges y)) x
-
-  abbrev opened : ℕ → Bool
-  opened x = put i false frozen x
-
-  pub popped_was : (x y : ℕ) → stands y (popped x) ≡ true → (x ≢ i) × (stands y (edges x) ≡ true) × (y ≢ i)
-  popped_was x y h = put_case (λ (l : List ℕ). stands y l ≡ true → (x ≢ i) × (stands y (edges x) ≡ true) × (y ≢ i)) i [] (λ y. unlinked_from i (edges y)) x
-      (λ _ t. absurd (cc)) (λ ne t. let r = unlinked_was i y (edges x) t in (ne, r.0, r.1)) h
-
-  popped_node : (x : ℕ) → x ≢ i → put i v node x ≡ node x
-  popped_node x ne = put_other i v node x ne
-
-  not_free : (x : ℕ) → IsUsed (node x).mode → x ≢ i
-  not_free x u same = subst IsUsed (ap (λ (y : ℕ). (node y).mode) same ∙ free) u
-
-  not_fresh : (x : ℕ) → IsUsed (put i v node x).mode → x ≢ i
-  not_fresh x u same = subst IsUsed (ap (λ (y : ℕ). (put i v node y).mode) same ∙ (ap (λ (n : Node). n.mode) (put_same i v node) ∙ fresh)) u
-
-  -- a list that isn't frozen to its end doesn't have the node
-  pub popped_not : (x : ℕ) → IsOpenList sizes node edges frozen x → stands i (edges x) ≡ false
-  popped_not x o = yes_no (stands i (edges x) ≡ false) (stands i (edges x)) (λ t. ⊎_elim (λ (l : (node i).mode ≡ Linked). absurd (cc)) (λ (l : (node i).mode ≡ Spent). absurd (cc)) (open_mode sizes node edges frozen x i c o t)) (λ f. f)
-
-  pub popped_list : (x : ℕ) → IsOpenList sizes node edges frozen x → popped x ≡ edges x
-  popped_list x o = put_other i [] (λ y. unlinked_from i (edges y)) x (not_free x o.used) ∙ unlinked_none i (edges x) (popped_not x o)
-
-  pub popped_finished : (x : ℕ) → x ≢ i → IsFinished node edges frozen x → IsFinished (put i v node) popped opened x
-  popped_finished x ne f = record {
-    head = put_other i false frozen x ne ∙ f.head;
-    each = λ y h. let r = popped_was x y h in ap (λ (n : Node). n.marked) (popped_node y r.2) ∙ f.each y r.1;
-  }
-
-  pub popped_open : (x : ℕ) → IsOpenList sizes (put i v node) popped opened x → IsOpenList sizes node edges frozen x
-  popped_open x o =
-      let ne = not_fresh x o.used in
-      record { there = o.there; used = subst (λ (n : Node). IsUsed n.mode) (popped_node x ne) o.used; vertex = ap (λ (n : Node). n.vertex) (sym (popped_node x ne)) ∙ o.vertex; unfinished = λ f. o.unfinished (popped_finished x ne f) }
-
-  popped_still : (x : ℕ) → IsOpenList sizes node edges frozen x → IsOpenList sizes (put i v node) popped opened x
-  popped_still x o =
-      let ne = not_free x o.used in
-      record {
-        there = o.there;
-        used = subst (λ (n : Node). IsUsed n.mode) (sym (popped_node x ne)) o.used;
-        vertex = ap (λ (n : Node). n.vertex) (popped_node x ne) ∙ o.vertex;
-        unfinished = λ f. o.unfinished (record {
-          head = sym (put_other i false frozen x ne) ∙ f.head;
-          each = λ y h.
-              let other : y ≢ i = λ same. let t : stands i (edges x) ≡ true = subst (λ (z : ℕ). stands z (edges x) ≡ true) same h in let n = popped_not x o in absurd (cc) in
-              ap (λ (n : Node). n.marked) (sym (popped_node y other)) ∙ f.each y (subst (λ (l : List ℕ). stands y l ≡ true) (sym (popped_list x o)) h);
-        });
-      }
-
-  popped_part : (x : ℕ) → IsOpenList sizes node edges frozen x → part_of (put i v node) popped opened x ≡ part_of node edges frozen x
-  popped_part x o =
-      ap (λ (b : Bool). cond b (take_while (λ y. (put i v node y).marked) (popped x)) []) (put_other i false frozen x (not_free x o.used))
-      ∙ (ap (λ (l : List ℕ). cond (frozen x) (take_while (λ y. (put i v node y).marked) l) []) (popped_list x o)
-      ∙ ap (λ (l : List ℕ). cond (frozen x) l []) (part_same (λ y. (put i v node y).marked) (λ y. (node y).marked) (edges x)
-      (λ y h. ap (λ (n : Node). n.marked) (popped_node y (λ same. let t : stands i (edges x) ≡ true = subst (λ (z : ℕ). stands z (edges x) ≡ true) same h in let n = popped_not x o in absurd (cc))))))
-
-  popped_source : (y : ℕ) → y < sizes.nodes → (put i v node y).mode ≡ Linked → (put i v node y).vertex ≡ false → IsOnSource sizes (put i v node) popped opened y
-  popped_source y t l e =
-      let ne : y ≢ i = not_fresh y (subst IsUsed (sym l) tt) in
-      let same : put i v node y ≡ node y = popped_node y ne in
-      let d = c.source y t (ap (λ (n : Node). n.mode) (sym same) ∙ l) (ap (λ (n : Node). n.vertex) (sym same) ∙ e) in
-      let apart : (node y).source.index ≢ i = not_free (node y).source.index d.list.used in
-      subst (λ (n : Node). IsOpenList sizes (put i v node) popped opened n.source.index × (n.source.tag ≡ (put i v node n.source.index).tag) × (stands y (popped n.source.index) ≡ true) → IsOnSource sizes (put i v node) popped opened y) same
-      (λ q. record { list = q.0; life = q.1; on = q.2 })
-      (popped_still (node y).source.index d.list, d.life ∙ ap (λ (n : Node). n.tag) (sym (popped_node (node y).source.index apart)), subst (λ (l : List ℕ). stands y l ≡ true) (sym (popped_list (node y).source.index d.list)) d.on)
-
-  pub popped_listing : Listing sizes (put i v node) popped opened
-  popped_listing = record {
-    on = λ x y h.
-        let r = popped_was x y h in
-        let d = c.on x y r.1 in
-        let same : put i v node y ≡ node y = popped_node y r.2 in record {
-          there = d.there;
-          edge = ap (λ (n : Node). n.vertex) same ∙ d.edge;
-          unfresh = λ f. d.unfresh (ap (λ (n : Node). n.mode) (sym same) ∙ f);
-          index = ap (λ (n : Node). n.source.index) same ∙ d.index;
-          life = ap (λ (n : Node). n.source.tag) same ∙ (d.life ∙ ap (λ (n : Node). n.tag) (sym (popped_node x r.0)));
-        };
-    empty = λ x. put_case (λ (l : List ℕ). (put i v node x).mode ≡ Fresh → l ≡ []) i [] (λ y. unlinked_from i (edges y)) x (λ _ _. refl)
-        (λ ne f. ap (unlinked_from i) (c.empty x (ap (λ (n : Node). n.mode) (sym (popped_node x ne)) ∙ f)));
-    handed = λ x y o h.
-        let b = popped_open x o in
-        let p : stands y (part_of node edges frozen x) ≡ true = subst (λ (l : List ℕ). stands y l ≡ true) (popped_part x b) h in
-        let r = popped_was x y (part_listed (put i v node) popped opened x y h) in
-        ap (λ (n : Node). n.mode) (popped_node y r.2) ∙ c.handed x y b p;
-    linked = λ x y o h f.
-        let b = popped_open x o in
-        let r = popped_was x y h in
-        ap (λ (n : Node). n.mode) (popped_node y r.2) ∙ c.linked x y b r.1 (subst (λ (l : List ℕ). stands y l ≡ false) (popped_part x b) f);
-    unstored = λ x o. ap (λ (n : Node). n.stored) (popped_node x (not_fresh x o.used)) ∙ c.unstored x (popped_open x o);
-    held = λ x y o h. let r = popped_was x y h in ap (λ (n : Node). n.stored) (popped_node y r.2) ∙ c.held x y (popped_open x o) r.1;
-    source = popped_source;
-  }
-
--- a marked edge that is linked leaves its list
-module _ (sizes : Sizes) (node : ℕ → Node) (edges : ℕ → List ℕ) (frozen : ℕ → Bool) (c : Listing sizes node edges frozen) (i : ℕ) (v : Node)
-    (linked : (node i).mode ≡ Linked) (edge : (node i).vertex ≡ false) (marked : (node i).marked ≡ true)
-    (spent : v.mode ≡ Spent) (tag : v.tag ≡ (node i).tag) (vertex : v.vertex ≡ false) (mark : v.marked ≡ true) where
-  abbrev cut : ℕ → List ℕ
-  cut x = unlinked_from i (edges x)
-
-  cut_node : (y : ℕ) → y ≢ i → put i v node y ≡ node y
-  cut_node y ne = put_other i v node y ne
-
-  cut_tag : (x : ℕ) → (put i v node x).tag ≡ (node x).tag
-  cut_tag x = put_case (λ (u : Node). u.tag ≡ (node x).tag) i v node x (λ same. tag ∙ ap (λ (y : ℕ). (node y).tag) (sym same)) (λ _. refl)
-
-  cut_mark : (x : ℕ) → (put i v node x).marked ≡ (node x).marked
-  cut_mark x = put_case (λ (u : Node). u.marked ≡ (node x).marked) i v node x (λ same. mark ∙ (sym marked ∙ ap (λ (y : ℕ). (node y).marked) (sym same))) (λ _. refl)
-
-  not_vertex : (x : ℕ) → (node x).vertex ≡ true → x ≢ i
-  not_vertex x t same = let u : (node x).vertex ≡ false = ap (λ (y : ℕ). (node y).vertex) same ∙ edge in absurd (cc)
-
-  now_vertex : (x : ℕ) → (put i v node x).vertex ≡ true → x ≢ i
-  now_vertex x t same = let u : (put i v node x).vertex ≡ false = ap (λ (y : ℕ). (put i v node y).vertex) same ∙ (ap (λ (n : Node). n.vertex) (put_same i v node) ∙ vertex) in absurd (cc)
-
-  pub cut_finished : (x : ℕ) → IsFinished node edges frozen x → IsFinished (put i v node) cut frozen x
-  cut_finished x f = record { head = f.head; each = λ y h. cut_mark y ∙ f.each y (unlinked_was i y (edges x) h).0 }
-
-  finished_cut : (x : ℕ) → IsFinished (put i v node) cut frozen x → IsFinished node edges frozen x
-  finished_cut x f = record {
-    head = f.head;
-    each = λ y h. dite (ℕ_discrete y i) (λ same. ap (λ (z : ℕ). (node z).marked) same ∙ marked) (λ ne. sym (cut_mark y) ∙ f.each y (unlinked_keeps i y (edges x) h ne));
-  }
-
-  pub cut_open : (x : ℕ) → IsOpenList sizes (put i v node) cut frozen x → IsOpenList sizes node edges frozen x
-  cut_open x o =
-      let same = cut_node x (now_vertex x o.vertex) in
-      record { there = o.there; used = subst (λ (n : Node). IsUsed n.mode) same o.used; vertex = ap (λ (n : Node). n.vertex) (sym same) ∙ o.vertex; unfinished = λ f. o.unfinished (cut_finished x f) }
-
-  cut_still : (x : ℕ) → IsOpenList sizes node edges frozen x → IsOpenList sizes (put i v node) cut frozen x
-  cut_still x o =
-      let same = cut_node x (not_vertex x o.vertex) in
-      record { there = o.there; used = subst (λ (n : Node). IsUsed n.mode) (sym same) o.used; vertex = ap (λ (n : Node). n.vertex) same ∙ o.vertex; unfinished = λ f. o.unfinished (finished_cut x f) }
-
-  cut_part : (x : ℕ) → IsOpenList sizes node edges frozen x → part_of (put i v node) cut frozen x ≡ part_of node edges frozen x
-  cut_part x o = ap (λ (l : List ℕ). cond (frozen x) l []) (part_same (λ y. (put i v node y).marked) (λ y. (node y).marked) (cut x) (λ y _. cut_mark y)) ∙ by (frozen x) (c.handed x i o)
-    where
-      by : (b : Bool) → (stands i (cond b (take_while (λ y. (node y).marked) (edges x)) []) ≡ true → (node i).mode ≡ Spent) → cond b (take_while (λ y. (node y).marked) (cut x)) [] ≡ cond b (take_while (λ y. (node y).marked) (edges x)) []
-      by true h = part_unlinked (λ y. (node y).marked) i (edges x) marked
-          (yes_no (stands i (take_while (λ y. (node y).marked) (edges x)) ≡ false) (stands i (take_while (λ y. (node y).marked) (edges x))) (λ t. let s = h t in absurd (cc)) (λ f. f))
-      by false h = refl
-
-  cut_source : (y : ℕ) → y < sizes.nodes → (put i v node y).mode ≡ Linked → (put i v node y).vertex ≡ false → IsOnSource sizes (put i v node) cut frozen y
-  cut_source y t l e =
-      let ne : y ≢ i = λ same. let u : (put i v node y).mode ≡ Spent = ap (λ (z : ℕ). (put i v node z).mode) same ∙ (ap (λ (n : Node). n.mode) (put_same i v node) ∙ spent) in absurd (cc) in
-      let same : put i v node y ≡ node y = cut_node y ne in
-      let d = c.source y t (ap (λ (n : Node). n.mode) (sym same) ∙ l) (ap (λ (n : Node). n.vertex) (sym same) ∙ e) in
-      subst (λ (n : Node). IsOpenList sizes (put i v node) cut frozen n.source.index × (n.source.tag ≡ (put i v node n.source.index).tag) × (stands y (cut n.source.index) ≡ true) → IsOnSource sizes (put i v node) cut frozen y) same
-      (λ q. record { list = q.0; life = q.1; on = q.2 })
-      (cut_still (node y).source.index d.list, d.life ∙ sym (cut_tag (node y).source.index), unlinked_keeps i y (edges (node y).source.index) d.on ne)
-
-  pub cut_listing : Listing sizes (put i v node) cut frozen
-  cut_listing = record {
-    on = λ x y h.
-        let r = unlinked_was i y (edges x) h in
-        let d = c.on x y r.0 in
-        let same : put i v node y ≡ node y = cut_node y r.1 in record {
-          there = d.there;
-          edge = ap (λ (n : Node). n.vertex) same ∙ d.edge;
-          unfresh = λ f. d.unfresh (ap (λ (n : Node). n.mode) (sym same) ∙ f);
-          index = ap (λ (n : Node). n.source.index) same ∙ d.index;
-          life = ap (λ (n : Node). n.source.tag) same ∙ (d.life ∙ sym (cut_tag x));
-        };
-    empty = λ x. put_case (λ (u : Node). u.mode ≡ Fresh → cut x ≡ []) i v node x (λ _ f. absurd (cc)) (λ _ f. ap (unlinked_from i) (c.empty x f));
-    handed = λ x y o h.
-        let p : stands y (part_of node edges frozen x) ≡ true = subst (λ (l : List ℕ). stands y l ≡ true) (cut_part x (cut_open x o)) h in
-        put_case (λ (u : Node). u.mode ≡ Spent) i v node y (λ _. spent) (λ _. c.handed x y (cut_open x o) p);
-    linked = λ x y o h f.
-        let r = unlinked_was i y (edges x) h in
-        ap (λ (n : Node). n.mode) (cut_node y r.1) ∙ c.linked x y (cut_open x o) r.0 (subst (λ (l : List ℕ). stands y l ≡ false) (cut_part x (cut_open x o)) f);
-    unstored = λ x o. ap (λ (n : Node). n.stored) (cut_node x (now_vertex x o.vertex)) ∙ c.unstored x (cut_open x o);
-    held = λ x y o h. let r = unlinked_was i y (edges x) h in ap (λ (n : Node). n.stored) (cut_node y r.1) ∙ c.held x y (cut_open x o) r.0;
-    source = cut_source;
-  }
-
--- a fresh edge joins the list of its source
-module _ (sizes : Sizes) (node : ℕ → Node) (edges : ℕ → List ℕ) (frozen : ℕ → Bool) (c : Listing sizes node edges frozen) (i place : ℕ) (v : Node)
-    (there : i < sizes.nodes) (fresh : (node i).mode ≡ Fresh) (linked : v.mode ≡ Linked) (edge : v.vertex ≡ false) (tag : v.tag ≡ (node i).tag) (mark : v.marked ≡ (node i).marked) (stored : v.stored ≡ false)
-    (used : IsUsed (node v.source.index).mode) (vertex : (node v.source.index).vertex ≡ true) (inside : v.source.index < sizes.nodes) (life : v.source.tag ≡ (node v.source.index).tag)
-    (word : IsWordOf sizes (second_at sizes v.source.index) place (edges v.source.index)) (only : (x : ℕ) → IsWordOf sizes (second_at sizes x) place (edges x) → x ≡ v.source.index)
-    (head : place ≡ second_at sizes v.source.index → frozen v.source.index ≡ false) (unmarked : (z : ℕ) → place ≡ link_at sizes z → (node z).marked ≡ false) where
-  abbrev joined : ℕ → List ℕ
-  joined x = linked_in sizes (second_at sizes x) place i (edges x)
-
-  join_node : (y : ℕ) → y ≢ i → put i v node y ≡ node y
-  join_node y ne = put_other i v node y ne
-
-  join_tag : (x : ℕ) → (put i v node x).tag ≡ (node x).tag
-  join_tag x = put_case (λ (u : Node). u.tag ≡ (node x).tag) i v node x (λ same. tag ∙ ap (λ (y : ℕ). (node y).tag) (sym same)) (λ _. refl)
-
-  join_mark : (x : ℕ) → (put i v node x).marked ≡ (node x).marked
-  join_mark x = put_case (λ (u : Node). u.marked ≡ (node x).marked) i v node x (λ same. mark ∙ ap (λ (y : ℕ). (node y).marked) (sym same)) (λ _. refl)
-
-  not_new : (x y : ℕ) → stands y (edges x) ≡ true → y ≢ i
-  not_new x y h same = (c.on x y h).unfresh (ap (λ (z : ℕ). (node z).mode) same ∙ fresh)
-
-  is_used : (x : ℕ) → IsUsed (node x).mode → x ≢ i
-  is_used x u same = subst IsUsed (ap (λ (z : ℕ). (node z).mode) same ∙ fresh) u
-
-  now_vertex' : (x : ℕ) → (put i v node x).vertex ≡ true → x ≢ i
-  now_vertex' x t same = let u : (put i v node x).vertex ≡ false = ap (λ (y : ℕ). (put i v node y).vertex) same ∙ (ap (λ (n : Node). n.vertex) (put_same i v node) ∙ edge) in absurd (cc)
-
-  pub joined_else : (x : ℕ) → x ≢ v.source.index → joined x ≡ edges x
-  joined_else x ne = linked_none sizes (second_at sizes x) place i (edges x) (λ at. ne (only x at))
-
-  pub joined_was : (x y : ℕ) → stands y (joined x) ≡ true → ((stands y (edges x) ≡ true) × (y ≢ i)) ⊎ ((y ≡ i) × (x ≡ v.source.index))
-  joined_was x y h = ⊎_elim (λ (t : stands y (edges x) ≡ true). inl (t, not_new x y t)) (λ (t : (y ≡ i) × IsWordOf sizes (second_at sizes x) place (edges x)). inr (t.0, only x t.1)) (linked_was sizes (second_at sizes x) place i y (edges x) h)
-
-  -- the list of the source isn't frozen to its end
-  pub source_unfinished : IsFinished node edges frozen v.source.index → ⊥
-  source_unfinished f = ⊎_elim
-      (λ (at : place ≡ second_at sizes v.source.index). let t = head at in let u = f.head in absurd (cc))
-      (λ (at : (z : ℕ) × (stands z (edges v.source.index) ≡ true) × (place ≡ link_at sizes z)). let t = unmarked at.0 at.2 in let u = f.each at.0 at.1 in absurd (cc)) word
-
-  pub join_finished : (x : ℕ) → IsFinished node edges frozen x → IsFinished (put i v node) joined frozen x
-  join_finished x f = record {
-    head = f.head;
-    each = λ y h. join_mark y ∙ ⊎_elim (λ (t : (stands y (edges x) ≡ true) × (y ≢ i)). f.each y t.0) (λ (t : (y ≡ i) × (x ≡ v.source.index)). absurd (source_unfinished (subst (IsFinished node edges frozen) t.1 f))) (joined_was x y h);
-  }
-
-  finished_join : (x : ℕ) → IsFinished (put i v node) joined frozen x → IsFinished node edges frozen x
-  finished_join x f = record { head = f.head; each = λ y h. sym (join_mark y) ∙ f.each y (linked_keeps sizes (second_at sizes x) place i y (edges x) h) }
-
-  pub join_open : (x : ℕ) → IsOpenList sizes (put i v node) joined frozen x → IsOpenList sizes node edges frozen x
-  join_open x o =
-      let same = join_node x (now_vertex' x o.vertex) in
-      record { there = o.there; used = subst (λ (n : Node). IsUsed n.mode) same o.used; vertex = ap (λ (n : Node). n.vertex) (sym same) ∙ o.vertex; unfinished = λ f. o.unfinished (join_finished x f) }
-
-  join_still : (x : ℕ) → IsOpenList sizes node edges frozen x → IsOpenList sizes (put i v node) joined frozen x
-  join_still x o =
-      let same = join_node x (is_used x o.used) in
-      record { there = o.there; used = subst (λ (n : Node). IsUsed n.mode) (sym same) o.used; vertex = ap (λ (n : Node). n.vertex) same ∙ o.vertex; unfinished = λ f. o.unfinished (finished_join x f) }
-
-  join_part : (x : ℕ) → part_of (put i v node) joined frozen x ≡ part_of node edges frozen x
-  join_part x = ap (λ (l : List ℕ). cond (frozen x) l []) (part_same (λ y. (put i v node y).marked) (λ y. (node y).marked) (joined x) (λ y _. join_mark y))
-      ∙ dite (ℕ_discrete x v.source.index)
-      (λ same. by (frozen x) (λ at. ap frozen same ∙ head (at ∙ ap (second_at sizes) same)))
-      (λ ne. ap (λ (l : List ℕ). cond (frozen x) (take_while (λ y. (node y).marked) l) []) (joined_else x ne))
-    where
-      by : (b : Bool) → (place ≡ second_at sizes x → b ≡ false) → cond b (take_while (λ y. (node y).marked) (joined x)) [] ≡ cond b (take_while (λ y. (node y).marked) (edges x)) []
-      by true h = part_linked (λ y. (node y).marked) sizes (second_at sizes x) place i (edges x) (λ at. let t = h at in absurd (cc)) (λ z _ at. unmarked z at)
-      by false h = refl
-
-  join_source : (y : ℕ) → y < sizes.nodes → (put i v node y).mode ≡ Linked → (put i v node y).vertex ≡ false → IsOnSource sizes (put i v node) joined frozen y
-  join_source y t l e = dite (ℕ_discrete y i)
-      (λ same. build v (ap (put i v node) same ∙ put_same i v node) (
-        join_still v.source.index (record { there = inside; used = used; vertex = vertex; unfinished = source_unfinished }),
-        life ∙ sym (join_tag v.source.index),
-        subst (λ (z : ℕ). stands z (joined v.source.index) ≡ true) (sym same) (linked_joins sizes (second_at sizes v.source.index) place i (edges v.source.index) word),
-      ))
-      (λ ne.
-      let same : put i v node y ≡ node y = join_node y ne in
-      let d = c.source y t (ap (λ (n : Node). n.mode) (sym same) ∙ l) (ap (λ (n : Node). n.vertex) (sym same) ∙ e) in
-      build (node y) same (join_still (node y).source.index d.list, d.life ∙ sym (join_tag (node y).source.index), linked_keeps sizes (second_at sizes (node y).source.index) place i y (edges (node y).source.index) d.on))
-    where
-      build : (n : Node) → put i v node y ≡ n → IsOpenList sizes (put i v node) joined frozen n.source.index × (n.source.tag ≡ (put i v node n.source.index).tag) × (stands y (joined n.source.index) ≡ true) → IsOnSource sizes (put i v node) joined frozen y
-      build n same q = subst (λ (n : Node). IsOpenList sizes (put i v node) joined frozen n.source.index × (n.source.tag ≡ (put i v node n.source.index).tag) × (stands y (joined n.source.index) ≡ true) → IsOnSource sizes (put i v node) joined frozen y) same
-          (λ q. record { list = q.0; life = q.1; on = q.2 }) q
-
-  join_on : (x y : ℕ) → stands y (joined x) ≡ true → IsEdgeOn sizes (put i v node) x y
-  join_on x y h = ⊎_elim
-      (λ (t : (stands y (edges x) ≡ true) × (y ≢ i)).
-      let d = c.on x y t.0 in
-      let same : put i v node y ≡ node y = join_node y t.1 in record {
-        there = d.there;
-        edge = ap (λ (n : Node). n.vertex) same ∙ d.edge;
-        unfresh = λ f. d.unfresh (ap (λ (n : Node). n.mode) (sym same) ∙ f);
-        index = ap (λ (n : Node). n.source.index) same ∙ d.index;
-        life = ap (λ (n : Node). n.source.tag) same ∙ (d.life ∙ sym (join_tag x));
-      })
-      (λ (t : (y ≡ i) × (x ≡ v.source.index)).
-      let same : put i v node y ≡ v = ap (put i v node) t.0 ∙ put_same i v node in record {
-        there = subst (λ (z : ℕ). z < sizes.nodes) (sym t.0) there;
-        edge = ap (λ (n : Node). n.vertex) same ∙ edge;
-        unfresh = λ f. let m : (put i v node y).mode ≡ Linked = ap (λ (n : Node). n.mode) same ∙ linked in absurd (cc);
-        index = ap (λ (n : Node). n.source.index) same ∙ sym t.1;
-        life = ap (λ (n : Node). n.source.tag) same ∙ (life ∙ (ap (λ (z : ℕ). (node z).tag) (sym t.1) ∙ sym (join_tag x)));
-      })
-      (joined_was x y h)
-
-  pub join_listing : Listing sizes (put i v node) joined frozen
-  join_listing = record {
-    on = join_on;
-    empty = λ x. put_case (λ (u : Node). u.mode ≡ Fresh → joined x ≡ []) i v node x (λ _ f. absurd (cc))
-        (λ _ f. joined_else x (λ same. subst IsUsed (ap (λ (z : ℕ). (node z).mode) (sym same) ∙ f) used) ∙ c.empty x f);
-    handed = λ x y o h.
-        let p : stands y (part_of node edges frozen x) ≡ true = subst (λ (l : List ℕ). stands y l ≡ true) (join_part x) h in
-        ap (λ (n : Node). n.mode) (join_node y (not_new x y (part_listed node edges frozen x y p))) ∙ c.handed x y (join_open x o) p;
-    linked = λ x y o h f. ⊎_elim
-        (λ (t : (stands y (edges x) ≡ true) × (y ≢ i)). ap (λ (n : Node). n.mode) (join_node y t.1) ∙ c.linked x y (join_open x o) t.0 (subst (λ (l : List ℕ). stands y l ≡ false) (join_part x) f))
-        (λ (t : (y ≡ i) × (x ≡ v.source.index)). ap (λ (z : ℕ). (put i v node z).mode) t.0 ∙ (ap (λ (n : Node). n.mode) (put_same i v node) ∙ linked))
-        (joined_was x y h);
-    unstored = λ x o. ap (λ (n : Node). n.stored) (join_node x (now_vertex' x o.vertex)) ∙ c.unstored x (join_open x o);
-    held = λ x y o h. ⊎_elim
-        (λ (t : (stands y (edges x) ≡ true) × (y ≢ i)). ap (λ (n : Node). n.stored) (join_node y t.1) ∙ c.held x y (join_open x o) t.0)
-        (λ (t : (y ≡ i) × (x ≡ v.source.index)). ap (λ (z : ℕ). (put i v node z).stored) t.0 ∙ (ap (λ (n : Node). n.stored) (put_same i v node) ∙ stored))
-        (joined_was x y h);
-    source = join_source;
-  }
-
--- what an edge has that joins the list of its source
-pub record IsJoining (sizes : Sizes) (node : ℕ → Node) (edges : ℕ → List ℕ) (frozen : ℕ → Bool) (i place : ℕ) (v : Node) : Type 0 where
-  pub there : i < sizes.nodes
-  pub fresh : (node i).mode ≡ Fresh
-  pub linked : v.mode ≡ Linked
-  pub edge : v.vertex ≡ false
-  pub tag : v.tag ≡ (node i).tag
-  pub mark : v.marked ≡ (node i).marked
-  pub stored : v.stored ≡ false
-  pub used : IsUsed (node v.source.index).mode
-  pub vertex : (node v.source.index).vertex ≡ true
-  pub inside : v.source.index < sizes.nodes
-  pub life : v.source.tag ≡ (node v.source.index).tag
-  pub word : IsWordOf sizes (second_at sizes v.source.index) place (edges v.source.index)
-  pub only : (x : ℕ) → IsWordOf sizes (second_at sizes x) place (edges x) → x ≡ v.source.index
-  pub head : place ≡ second_at sizes v.source.index → frozen v.source.index ≡ false
-  pub unmarked : (z : ℕ) → place ≡ link_at sizes z → (node z).marked ≡ false
-
-module _ (sizes : Sizes) (node : ℕ → Node) (edges : ℕ → List ℕ) (frozen : ℕ → Bool) (c : Listing sizes node edges frozen) (i place : ℕ) (v : Node) (j : IsJoining sizes node edges frozen i place v) where
-  pub joins : Listing sizes (put i v node) (λ x. linked_in sizes (second_at sizes x) place i (edges x)) frozen
-  joins = join_listing sizes node edges frozen c i place v j.there j.fresh j.linked j.edge j.tag j.mark j.stored j.used j.vertex j.inside j.life j.word j.only j.head j.unmarked
-
-  pub joins_open : (x : ℕ) → IsOpenList sizes (put i v node) (λ x. linked_in sizes (second_at sizes x) place i (edges x)) frozen x → IsOpenList sizes node edges frozen x
-  joins_open = join_open sizes node edges frozen c i place v j.there j.fresh j.linked j.edge j.tag j.mark j.stored j.used j.vertex j.inside j.life j.word j.only j.head j.unmarked
-
-  pub joins_finished : (x : ℕ) → IsFinished node edges frozen x → IsFinished (put i v node) (λ x. linked_in sizes (second_at sizes x) place i (edges x)) frozen x
-  joins_finished = join_finished sizes node edges frozen c i place v j.there j.fresh j.linked j.edge j.tag j.mark j.stored j.used j.vertex j.inside j.life j.word j.only j.head j.unmarked
-
-  -- the list of the source isn't frozen to its end
-  pub joins_unfinished : IsFinished node edges frozen v.source.index → ⊥
-  joins_unfinished = source_unfinished sizes node edges frozen c i place v j.there j.fresh j.linked j.edge j.tag j.mark j.stored j.used j.vertex j.inside j.life j.word j.only j.head j.unmarked
-
-marked_same : {A : Type 0} (f : Node → A) (node : ℕ → Node) (i y : ℕ) → f (record (node i) { marked = true }) ≡ f (node i) → f (put i (record (node i) { marked = true }) node y) ≡ f (node y)
-marked_same f node i y h = put_case (λ (u : Node). f u ≡ f (node y)) i (record (node i) { marked = true }) node y (λ same. h ∙ ap (λ (z : ℕ). f (node z)) (sym same)) (λ _. refl)
+use Rattle.core_kept.proofs.NodesOnLists.{IsWordOf}
+use Rattle.core_lists.proofs.ListHolds.{IsFinished, IsOpenList, ListingOf, IsMoved, moved_open, moved_back}
+use Rattle.core_lists.proofs.ListHolds.{moved_finish, moved, IsGrown, then_finished, then_open, handed_over}
+use Rattle.core_lists.proofs.ListingsBehindSteps.{popped_finished, popped_open, popped_listing, cut_finished, cut_open}
+use Rattle.core_lists.proofs.ListingsBehindSteps.{cut_listing, IsJoining, joins, joins_open, joins_finished}
+use Rattle.core_lists.proofs.ListingsBehindSteps.{marked_same}
 
 -- an edge is marked
-mark_grows : (sizes : Sizes) (s : State) (i : ℕ) → ListingOf sizes s → IsGrown s.node (marked_state s i).node s.edges s.frozen s.frozen (s.node i).source.index
+mark_grows : (sizes : Sizes) (s : State) (i : ℕ) → ListingOf sizes s → IsGrown s.node
+    (marked_state s i).node s.edges s.frozen s.frozen (s.node i).source.index
 mark_grows sizes s i c = record {
   mode = λ y. marked_same (λ v. v.mode) s.node i y refl;
   vertex = λ y. marked_same (λ v. v.vertex) s.node i y refl;
@@ -375,7 +41,8 @@ mark_grows sizes s i c = record {
   stored = λ y. marked_same (λ v. v.stored) s.node i y refl;
   marked = λ y h. put_case (λ (u : Node). u.marked ≡ true) i _ s.node y (λ _. refl) (λ _. h);
   head = λ x h. h;
-  marked_else = λ x y ne h. put_case (λ (u : Node). u.marked ≡ (s.node y).marked) i _ s.node y (λ same. absurd (ne (sym (c.on x y h).index ∙ ap (λ (z : ℕ). (s.node z).source.index) same))) (λ _. refl);
+  marked_else = λ x y ne h. put_case (λ (u : Node). u.marked ≡ (s.node y).marked) i _ s.node y
+      (λ same. absurd (ne (sym (c.on x y h).index ∙ ap (λ (z : ℕ). (s.node z).source.index) same))) (λ _. refl);
   head_else = λ x ne. refl;
 }
 
@@ -393,7 +60,8 @@ close_grows s i = record {
   head_else = λ x ne. put_other i true s.frozen x ne;
 }
 
-module _ (sizes : Sizes) (z : IsLayout sizes) (past : List Event) (e : Event) (kept : IsKept sizes past) (c : ListingOf sizes (state sizes past)) where
+module _ (sizes : Sizes) (z : IsLayout sizes) (past : List Event) (e : Event) (kept : IsKept sizes past)
+    (c : ListingOf sizes (state sizes past)) where
   -- a vertex isn't on a list
   vertex_off : (x i : ℕ) → (node_in sizes past i).vertex ≡ true → stands i ((state sizes past).edges x) ≡ true → ⊥
   vertex_off x i v h = let t = (c.on x i h).edge in absurd (cc)
@@ -402,37 +70,63 @@ module _ (sizes : Sizes) (z : IsLayout sizes) (past : List Event) (e : Event) (k
   fresh_off x i f h = (c.on x i h).unfresh f
 
   -- the source of the edges that are linked there
-  pub link_only : (ok : IsLinkEdge sizes past e) → (x : ℕ) → IsWordOf sizes (second_at sizes x) e.place ((state sizes past).edges x) → x ≡ e.source.index
+  pub link_only : (ok : IsLinkEdge sizes past e) → (x : ℕ) → IsWordOf sizes (second_at sizes x) e.place
+      ((state sizes past).edges x) → x ≡ e.source.index
   link_only ok x at = ⊎_elim
       (λ (h : e.place ≡ second_at sizes x). omega (arith, h, ok.place))
-      (λ (h : (y : ℕ) × (stands y ((state sizes past).edges x) ≡ true) × (e.place ≡ link_at sizes y)). sym (c.on x h.0 h.1).index ∙ ap (λ (l : Life). l.index) (ok.linked h.0 h.2).from) at
+      (λ (h : (y : ℕ) × (stands y ((state sizes past).edges x) ≡ true) × (e.place ≡ link_at sizes y)). sym
+      (c.on x h.0 h.1).index ∙ ap (λ (l : Life). l.index) (ok.linked h.0 h.2).from) at
 
   -- the word at which an edge is linked is one of the list of its source
-  link_word : (ok : IsLinkEdge sizes past e) → IsWordOf sizes (second_at sizes e.source.index) e.place ((state sizes past).edges e.source.index)
+  link_word : (ok : IsLinkEdge sizes past e) → IsWordOf sizes (second_at sizes e.source.index) e.place
+      ((state sizes past).edges e.source.index)
   link_word ok = ⊎_elim
       (λ h. inl h.0)
       (λ h.
       let f = ok.linked ok.before h.0 in
-      inr (ok.before, subst (λ (l : Life). stands ok.before ((state sizes past).edges l.index) ≡ true) f.from (c.source ok.before h.1 f.linked.linked f.linked.edge).on, h.0))
+      inr (
+        ok.before,
+        subst (λ (l : Life). stands ok.before ((state sizes past).edges l.index) ≡ true) f.from
+            (c.source ok.before h.1 f.linked.linked f.linked.edge).on,
+        h.0,
+      ))
       ok.place
 
   -- an unmarked link of a linked node
-  not_marked : (y : ℕ) → y < sizes.nodes → (node_in sizes past y).mode ≡ Linked → mark_of (word_at sizes past (link_at sizes y)) ≡ 0 → (node_in sizes past y).marked ≡ false
-  not_marked y t l m = mark_isnt (node_in sizes past y).marked (sym (((link_words sizes z past kept).each y t).linked l).mark ∙ m)
+  not_marked : (y : ℕ) → y < sizes.nodes → (node_in sizes past y).mode ≡ Linked → mark_of
+      (word_at sizes past (link_at sizes y)) ≡ 0 → (node_in sizes past y).marked ≡ false
+  not_marked y t l m = mark_isnt (node_in sizes past y).marked
+      (sym (((link_words sizes z past kept).each y t).linked l).mark ∙ m)
 
-  is_marked : (y : ℕ) → y < sizes.nodes → (node_in sizes past y).mode ≡ Linked → mark_of (word_at sizes past (link_at sizes y)) ≡ 1 → (node_in sizes past y).marked ≡ true
-  is_marked y t l m = mark_is (node_in sizes past y).marked (sym (((link_words sizes z past kept).each y t).linked l).mark ∙ m)
+  is_marked : (y : ℕ) → y < sizes.nodes → (node_in sizes past y).mode ≡ Linked → mark_of
+      (word_at sizes past (link_at sizes y)) ≡ 1 → (node_in sizes past y).marked ≡ true
+  is_marked y t l m = mark_is (node_in sizes past y).marked (sym
+      (((link_words sizes z past kept).each y t).linked l).mark ∙ m)
 
   -- an unmarked second word of a vertex
-  pub not_closed : (x : ℕ) → x < sizes.nodes → IsUsed (node_in sizes past x).mode → (node_in sizes past x).vertex ≡ true → mark_of (word_at sizes past (second_at sizes x)) ≡ 0 → (state sizes past).frozen x ≡ false
-  not_closed x t u v m = mark_isnt ((state sizes past).frozen x) (sym (((contents sizes z past kept).each x t).vertex u v).second_mark ∙ m)
+  pub not_closed : (x : ℕ) → x < sizes.nodes → IsUsed (node_in sizes past x).mode → (node_in sizes past x).vertex ≡ true
+      → mark_of (word_at sizes past (second_at sizes x)) ≡ 0 → (state sizes past).frozen x ≡ false
+  not_closed x t u v m = mark_isnt ((state sizes past).frozen x)
+      (sym (((contents sizes z past kept).each x t).vertex u v).second_mark ∙ m)
 
   -- so is one that replaces another
-  pub replace_joins : IsReplaceEdge sizes past e → IsJoining sizes (state sizes past).node (state sizes past).edges (state sizes past).frozen e.life.index e.place (record (node_in sizes past e.life.index) { mode = Linked; vertex = false; key = e.key; source = e.source; target = e.target; weight = e.weight; since = (state sizes past).count + 1 })
+  pub replace_joins : IsReplaceEdge sizes past e → IsJoining sizes (state sizes past).node (state sizes past).edges
+      (state sizes past).frozen e.life.index e.place (record (node_in sizes past e.life.index) {
+        mode = Linked;
+        vertex = false;
+        key = e.key;
+        source = e.source;
+        target = e.target;
+        weight = e.weight;
+        since =
+            (state sizes past).count + 1;
+      })
   replace_joins ok =
       let d = c.source e.old.index ok.old_there ok.linked.linked ok.linked.edge in
-      let home : (node_in sizes past e.old.index).source.index ≡ e.source.index = ap (λ (l : Life). l.index) (sym ok.source) in
-      let open_home = subst (λ (x : ℕ). IsOpenList sizes (state sizes past).node (state sizes past).edges (state sizes past).frozen x) home d.list in
+      let home : (node_in sizes past e.old.index).source.index ≡ e.source.index = ap (λ (l : Life). l.index)
+      (sym ok.source) in
+      let open_home = subst (λ (x : ℕ). IsOpenList sizes (state sizes past).node (state sizes past).edges
+      (state sizes past).frozen x) home d.list in
       record {
         there = ok.there;
         fresh = ok.fresh.fresh;
@@ -445,7 +139,11 @@ module _ (sizes : Sizes) (z : IsLayout sizes) (past : List Event) (e : Event) (k
         vertex = open_home.vertex;
         inside = open_home.there;
         life = subst (λ (l : Life). l.tag ≡ (node_in sizes past l.index).tag) (sym ok.source) d.life;
-        word = inr (e.old.index, subst (λ (x : ℕ). stands e.old.index ((state sizes past).edges x) ≡ true) home d.on, ok.place);
+        word = inr (
+          e.old.index,
+          subst (λ (x : ℕ). stands e.old.index ((state sizes past).edges x) ≡ true) home d.on,
+          ok.place,
+        );
         only = λ x at. ⊎_elim
             (λ (h : e.place ≡ second_at sizes x). omega (arith, h, ok.place))
             (λ (h : (y : ℕ) × (stands y ((state sizes past).edges x) ≡ true) × (e.place ≡ link_at sizes y)).
@@ -454,10 +152,21 @@ module _ (sizes : Sizes) (z : IsLayout sizes) (past : List Event) (e : Event) (k
         head = λ h. absurd (omega (arith, h, ok.place));
         unmarked = λ y h.
             let same : y ≡ e.old.index = omega (arith, h, ok.place) in
-            not_marked y (omega (arith, same, ok.old_there)) (ap (λ (i : ℕ). (node_in sizes past i).mode) same ∙ ok.linked.linked) (subst (λ (p : ℕ). mark_of (word_at sizes past p) ≡ 0) h ok.unmarked);
+            not_marked y (omega (arith, same, ok.old_there)) (ap (λ (i : ℕ). (node_in sizes past i).mode) same
+            ∙ ok.linked.linked) (subst (λ (p : ℕ). mark_of (word_at sizes past p) ≡ 0) h ok.unmarked);
       }
 
-  pub link_joins : IsLinkEdge sizes past e → IsJoining sizes (state sizes past).node (state sizes past).edges (state sizes past).frozen e.life.index e.place (record (node_in sizes past e.life.index) { mode = Linked; vertex = false; key = e.key; source = e.source; target = e.target; weight = e.weight; since = (state sizes past).count + 1 })
+  pub link_joins : IsLinkEdge sizes past e → IsJoining sizes (state sizes past).node (state sizes past).edges
+      (state sizes past).frozen e.life.index e.place (record (node_in sizes past e.life.index) {
+        mode = Linked;
+        vertex = false;
+        key = e.key;
+        source = e.source;
+        target = e.target;
+        weight = e.weight;
+        since =
+            (state sizes past).count + 1;
+      })
   link_joins ok = record {
     there = ok.there;
     fresh = ok.fresh.fresh;
@@ -472,15 +181,20 @@ module _ (sizes : Sizes) (z : IsLayout sizes) (past : List Event) (e : Event) (k
     life = ok.source.life;
     word = link_word ok;
     only = link_only ok;
-    head = λ h. not_closed e.source.index ok.source.there ok.source.used ok.source.vertex (subst (λ (p : ℕ). mark_of (word_at sizes past p) ≡ 0) h ok.unmarked);
-    unmarked = λ y h. let l = (ok.linked y h).linked.linked in not_marked y (omega (arith, ok.place, h, ok.source.there)) l (subst (λ (p : ℕ). mark_of (word_at sizes past p) ≡ 0) h ok.unmarked);
+    head = λ h. not_closed e.source.index ok.source.there ok.source.used ok.source.vertex
+        (subst (λ (p : ℕ). mark_of (word_at sizes past p) ≡ 0) h ok.unmarked);
+    unmarked = λ y h. let l = (ok.linked y h).linked.linked in not_marked y
+        (omega (arith, ok.place, h, ok.source.there)) l (subst
+        (λ (p : ℕ). mark_of (word_at sizes past p) ≡ 0) h ok.unmarked);
   }
 
   pub cut_marked : IsUnlinkEdge sizes past e → (node_in sizes past e.life.index).marked ≡ true
   cut_marked ok = is_marked e.life.index ok.there ok.linked.linked ok.dead
 
   -- the changes of one node that keep the lists
-  pub link_moves : IsLinkVertex sizes past e → IsMoved sizes (state sizes past).node (state sizes past).edges (state sizes past).frozen e.life.index (record (node_in sizes past e.life.index) { mode = Linked; vertex = true; key = e.key })
+  pub link_moves : IsLinkVertex sizes past e → IsMoved sizes (state sizes past).node (state sizes past).edges
+      (state sizes past).frozen e.life.index (record (node_in sizes past e.life.index)
+      { mode = Linked; vertex = true; key = e.key })
   link_moves ok = record {
     tag = refl;
     fresh = λ f. absurd (cc);
@@ -492,7 +206,8 @@ module _ (sizes : Sizes) (z : IsLayout sizes) (past : List Event) (e : Event) (k
     still = λ o. absurd (subst IsUsed ok.fresh.fresh o.used);
   }
 
-  pub mark_moves : IsMarkVertex sizes past e → IsMoved sizes (state sizes past).node (state sizes past).edges (state sizes past).frozen e.life.index (record (node_in sizes past e.life.index) { marked = true })
+  pub mark_moves : IsMarkVertex sizes past e → IsMoved sizes (state sizes past).node (state sizes past).edges
+      (state sizes past).frozen e.life.index (record (node_in sizes past e.life.index) { marked = true })
   mark_moves ok = record {
     tag = refl;
     fresh = λ f. f;
@@ -504,19 +219,28 @@ module _ (sizes : Sizes) (z : IsLayout sizes) (past : List Event) (e : Event) (k
     still = λ o. (o.used, o.vertex);
   }
 
-  pub unlink_moves : IsUnlinkVertex sizes past e → IsMoved sizes (state sizes past).node (state sizes past).edges (state sizes past).frozen e.life.index (record (node_in sizes past e.life.index) { mode = Spent; who = e.caller; ended = (state sizes past).count + 1; epoch = (state sizes past).epoch })
+  pub unlink_moves : IsUnlinkVertex sizes past e → IsMoved sizes (state sizes past).node (state sizes past).edges
+      (state sizes past).frozen e.life.index (record (node_in sizes past e.life.index)
+      { mode = Spent; who = e.caller; ended = (state sizes past).count + 1; epoch = (state sizes past).epoch })
   unlink_moves ok = record {
     tag = refl;
     fresh = λ f. absurd (cc);
     edge = λ x h. absurd (vertex_off x e.life.index ok.linked.vertex h);
     member = λ x o h. absurd (vertex_off x e.life.index ok.linked.vertex h);
     used = λ _ v. inl (subst IsUsed (sym ok.linked.linked) tt, v);
-    unstored = λ _ v f. c.unstored e.life.index record { there = ok.there; used = subst IsUsed (sym ok.linked.linked) tt; vertex = v; unfinished = f };
+    unstored = λ _ v f. c.unstored e.life.index record {
+      there = ok.there;
+      used = subst IsUsed
+          (sym ok.linked.linked) tt;
+      vertex = v;
+      unfinished = f;
+    };
     linked = λ m _. absurd (cc);
     still = λ o. (tt, o.vertex);
   }
 
-  pub store_moves : IsStoreFree sizes past e → IsMoved sizes (state sizes past).node (state sizes past).edges (state sizes past).frozen e.life.index (record (node_in sizes past e.life.index) { stored = true })
+  pub store_moves : IsStoreFree sizes past e → IsMoved sizes (state sizes past).node (state sizes past).edges
+      (state sizes past).frozen e.life.index (record (node_in sizes past e.life.index) { stored = true })
   store_moves ok = record {
     tag = refl;
     fresh = λ f. f;
@@ -528,7 +252,8 @@ module _ (sizes : Sizes) (z : IsLayout sizes) (past : List Event) (e : Event) (k
     still = λ o. (o.used, o.vertex);
   }
 
-  pub push_moves : IsPushFree sizes past e → IsMoved sizes (state sizes past).node (state sizes past).edges (state sizes past).frozen e.life.index (record (node_in sizes past e.life.index) { mode = Free })
+  pub push_moves : IsPushFree sizes past e → IsMoved sizes (state sizes past).node (state sizes past).edges
+      (state sizes past).frozen e.life.index (record (node_in sizes past e.life.index) { mode = Free })
   push_moves ok = record {
     tag = refl;
     fresh = λ f. absurd (cc);
@@ -540,36 +265,57 @@ module _ (sizes : Sizes) (z : IsLayout sizes) (past : List Event) (e : Event) (k
     still = λ o. let t = c.unstored e.life.index o in let u = ok.stored in absurd (cc);
   }
 
-listing_step : (sizes : Sizes) → IsLayout sizes → Keeps sizes (λ (s : State) (w : ℕ → ℕ). ListingOf sizes s)
-listing_step sizes z past e kept c PopFree by ok w a = popped_listing sizes (state sizes past).node (state sizes past).edges (state sizes past).frozen c e.life.index _ (taken sizes z past e kept ok).free refl
-listing_step sizes z past e kept c LinkVertex by ok w a = moved sizes (state sizes past).node (state sizes past).edges (state sizes past).frozen c e.life.index _ (link_moves sizes z past e kept c ok)
-listing_step sizes z past e kept c MarkVertex by ok w a = moved sizes (state sizes past).node (state sizes past).edges (state sizes past).frozen c e.life.index _ (mark_moves sizes z past e kept c ok)
-listing_step sizes z past e kept c UnlinkVertex by ok w a = moved sizes (state sizes past).node (state sizes past).edges (state sizes past).frozen c e.life.index _ (unlink_moves sizes z past e kept c ok)
-listing_step sizes z past e kept c StoreFree by ok w a = moved sizes (state sizes past).node (state sizes past).edges (state sizes past).frozen c e.life.index _ (store_moves sizes z past e kept c ok)
-listing_step sizes z past e kept c PushFree by ok w a = moved sizes (state sizes past).node (state sizes past).edges (state sizes past).frozen c e.life.index _ (push_moves sizes z past e kept c ok)
-listing_step sizes z past e kept c LinkEdge by ok w a = joins sizes (state sizes past).node (state sizes past).edges (state sizes past).frozen c e.life.index e.place _ (link_joins sizes z past e kept c ok)
+listing_step : (sizes : Sizes) → IsLayout sizes → KeepsByKind sizes (λ (s : State) (w : ℕ → ℕ). ListingOf sizes s)
+listing_step sizes z past e kept c PopFree by ok w a = popped_listing sizes (state sizes past).node
+    (state sizes past).edges (state sizes past).frozen c e.life.index _ (taken sizes z past e kept ok).free refl
+listing_step sizes z past e kept c LinkVertex by ok w a = moved sizes (state sizes past).node (state sizes past).edges
+    (state sizes past).frozen c e.life.index _ (link_moves sizes z past e kept c ok)
+listing_step sizes z past e kept c MarkVertex by ok w a = moved sizes (state sizes past).node (state sizes past).edges
+    (state sizes past).frozen c e.life.index _ (mark_moves sizes z past e kept c ok)
+listing_step sizes z past e kept c UnlinkVertex by ok w a = moved sizes (state sizes past).node (state sizes past).edges
+    (state sizes past).frozen c e.life.index _ (unlink_moves sizes z past e kept c ok)
+listing_step sizes z past e kept c StoreFree by ok w a = moved sizes (state sizes past).node (state sizes past).edges
+    (state sizes past).frozen c e.life.index _ (store_moves sizes z past e kept c ok)
+listing_step sizes z past e kept c PushFree by ok w a = moved sizes (state sizes past).node (state sizes past).edges
+    (state sizes past).frozen c e.life.index _ (push_moves sizes z past e kept c ok)
+listing_step sizes z past e kept c LinkEdge by ok w a = joins sizes (state sizes past).node (state sizes past).edges
+    (state sizes past).frozen c e.life.index e.place _ (link_joins sizes z past e kept c ok)
 listing_step sizes z past e kept c UnlinkEdge by ok w a =
     let m = cut_marked sizes z past e kept c ok in
-    cut_listing sizes (state sizes past).node (state sizes past).edges (state sizes past).frozen c e.life.index _ ok.linked.linked ok.linked.edge m refl refl ok.linked.edge m
-listing_step sizes z past e kept c MarkEdge by ok w a = handed_over sizes (state sizes past).node (state sizes past).frozen (marked_state (state sizes past) e.life.index) (node_in sizes past e.life.index).source.index c (mark_grows sizes (state sizes past) e.life.index c)
+    cut_listing sizes (state sizes past).node (state sizes past).edges
+    (state sizes past).frozen c e.life.index _ ok.linked.linked ok.linked.edge m refl refl ok.linked.edge m
+listing_step sizes z past e kept c MarkEdge by ok w a = handed_over sizes (state sizes past).node
+    (state sizes past).frozen (marked_state (state sizes past) e.life.index)
+    (node_in sizes past e.life.index).source.index c (mark_grows sizes (state sizes past) e.life.index c)
 listing_step sizes z past e kept c ReplaceEdge by ok w a =
-    let d : ListingOf sizes (joined_edge sizes e (state sizes past)) = joins sizes (state sizes past).node (state sizes past).edges (state sizes past).frozen c e.life.index e.place _ (replace_joins sizes z past e kept c ok) in
-    handed_over sizes (joined_edge sizes e (state sizes past)).node (joined_edge sizes e (state sizes past)).frozen (marked_state (joined_edge sizes e (state sizes past)) e.old.index) ((joined_edge sizes e (state sizes past)).node e.old.index).source.index d (mark_grows sizes (joined_edge sizes e (state sizes past)) e.old.index d)
-listing_step sizes z past e kept c FreezeEdge by ok w a = handed_over sizes (state sizes past).node (state sizes past).frozen (marked_state (state sizes past) e.life.index) (node_in sizes past e.life.index).source.index c (mark_grows sizes (state sizes past) e.life.index c)
-listing_step sizes z past e kept c FreezeHead by ok w a = handed_over sizes (state sizes past).node (state sizes past).frozen (closed_state (state sizes past) e.life.index) e.life.index c (close_grows (state sizes past) e.life.index)
+    let d : ListingOf sizes (joined_edge sizes e (state sizes past)) = joins sizes (state sizes past).node
+    (state sizes past).edges (state sizes past).frozen c e.life.index e.place _
+    (replace_joins sizes z past e kept c ok) in
+    handed_over sizes (joined_edge sizes e (state sizes past)).node (joined_edge sizes e (state sizes past)).frozen
+    (marked_state (joined_edge sizes e (state sizes past)) e.old.index)
+    ((joined_edge sizes e (state sizes past)).node e.old.index).source.index d
+    (mark_grows sizes (joined_edge sizes e (state sizes past)) e.old.index d)
+listing_step sizes z past e kept c FreezeEdge by ok w a = handed_over sizes (state sizes past).node
+    (state sizes past).frozen (marked_state (state sizes past) e.life.index)
+    (node_in sizes past e.life.index).source.index c (mark_grows sizes (state sizes past) e.life.index c)
+listing_step sizes z past e kept c FreezeHead by ok w a = handed_over sizes (state sizes past).node
+    (state sizes past).frozen (closed_state (state sizes past) e.life.index) e.life.index c
+    (close_grows (state sizes past) e.life.index)
 listing_step sizes z past e kept c _ by ok w a = c
 
 -- what the lists hold after each kept journal
-pub listing : (sizes : Sizes) → IsLayout sizes → (journal : List Event) → IsKept sizes journal → ListingOf sizes (state sizes journal)
-listing sizes z journal kept = holds_all sizes (λ (s : State) (w : ℕ → ℕ). ListingOf sizes s) (listing_step sizes z) record {
-  on = λ x y h. absurd (cc);
-  empty = λ x f. absurd (cc);
-  handed = λ x y o h. absurd (o.used);
-  linked = λ x y o h f. absurd (o.used);
-  unstored = λ x o. absurd (o.used);
-  held = λ x y o h. absurd (o.used);
-  source = λ y t l e. absurd (cc);
-} journal kept
+pub listing : (sizes : Sizes) → IsLayout sizes → (journal : List Event) → IsKept sizes journal → ListingOf sizes
+    (state sizes journal)
+listing sizes z journal kept = holds_all sizes (λ (s : State) (w : ℕ → ℕ). ListingOf sizes s)
+    (listing_step sizes z) record {
+      on = λ x y h. absurd (cc);
+      empty = λ x f. absurd (cc);
+      handed = λ x y o h. absurd (o.used);
+      linked = λ x y o h f. absurd (o.used);
+      unstored = λ x o. absurd (o.used);
+      held = λ x y o h. absurd (o.used);
+      source = λ y t l e. absurd (cc);
+    } journal kept
 
 -- the kinds that link no vertex
 abbrev pub IsNoVertex : Kind → Type 0
@@ -581,68 +327,149 @@ abbrev pub IsOpenIn : Sizes → State → ℕ → Type 0
 IsOpenIn sizes s x = IsOpenList sizes s.node s.edges s.frozen x
 
 -- it had one before, where no vertex is linked
-pub open_before : (sizes : Sizes) → IsLayout sizes → (past : List Event) (e : Event) → IsKept sizes past → (k : Kind) → IsNoVertex k → AllowedAs k sizes past e → (x : ℕ) → IsOpenIn sizes (state_by k sizes e (state sizes past)) x → IsOpenIn sizes (state sizes past) x
+pub open_before : (sizes : Sizes) → IsLayout sizes → (past : List Event) (e : Event) → IsKept sizes past → (k : Kind)
+    → IsNoVertex k → AllowedAs k sizes past e → (x : ℕ) → IsOpenIn sizes (state_by k sizes e (state sizes past)) x
+    → IsOpenIn sizes (state sizes past) x
 open_before sizes z past e kept LinkVertex n ok x o = absurd n
-open_before sizes z past e kept PopFree n ok x o = popped_open sizes (state sizes past).node (state sizes past).edges (state sizes past).frozen (listing sizes z past kept) e.life.index _ (taken sizes z past e kept ok).free refl x o
-open_before sizes z past e kept MarkVertex n ok x o = moved_back sizes (state sizes past).node (state sizes past).edges (state sizes past).frozen (listing sizes z past kept) e.life.index _ (mark_moves sizes z past e kept (listing sizes z past kept) ok) (λ u v. (u, v)) x o
-open_before sizes z past e kept UnlinkVertex n ok x o = moved_back sizes (state sizes past).node (state sizes past).edges (state sizes past).frozen (listing sizes z past kept) e.life.index _ (unlink_moves sizes z past e kept (listing sizes z past kept) ok) (λ u v. (subst IsUsed (sym ok.linked.linked) tt, v)) x o
-open_before sizes z past e kept StoreFree n ok x o = moved_back sizes (state sizes past).node (state sizes past).edges (state sizes past).frozen (listing sizes z past kept) e.life.index _ (store_moves sizes z past e kept (listing sizes z past kept) ok) (λ u v. (u, v)) x o
-open_before sizes z past e kept PushFree n ok x o = moved_back sizes (state sizes past).node (state sizes past).edges (state sizes past).frozen (listing sizes z past kept) e.life.index _ (push_moves sizes z past e kept (listing sizes z past kept) ok) (λ u v. absurd u) x o
-open_before sizes z past e kept LinkEdge n ok x o = joins_open sizes (state sizes past).node (state sizes past).edges (state sizes past).frozen (listing sizes z past kept) e.life.index e.place _ (link_joins sizes z past e kept (listing sizes z past kept) ok) x o
+open_before sizes z past e kept PopFree n ok x o = popped_open sizes (state sizes past).node (state sizes past).edges
+    (state sizes past).frozen (listing sizes z past kept) e.life.index _ (taken sizes z past e kept ok).free refl x o
+open_before sizes z past e kept MarkVertex n ok x o = moved_back sizes (state sizes past).node (state sizes past).edges
+    (state sizes past).frozen (listing sizes z past kept) e.life.index _
+    (mark_moves sizes z past e kept (listing sizes z past kept) ok) (λ u v. (u, v)) x o
+open_before sizes z past e kept UnlinkVertex n ok x o = moved_back sizes (state sizes past).node
+    (state sizes past).edges (state sizes past).frozen (listing sizes z past kept) e.life.index _
+    (unlink_moves sizes z past e kept (listing sizes z past kept) ok)
+    (λ u v. (subst IsUsed (sym ok.linked.linked) tt, v)) x o
+open_before sizes z past e kept StoreFree n ok x o = moved_back sizes (state sizes past).node (state sizes past).edges
+    (state sizes past).frozen (listing sizes z past kept) e.life.index _
+    (store_moves sizes z past e kept (listing sizes z past kept) ok) (λ u v. (u, v)) x o
+open_before sizes z past e kept PushFree n ok x o = moved_back sizes (state sizes past).node (state sizes past).edges
+    (state sizes past).frozen (listing sizes z past kept) e.life.index _
+    (push_moves sizes z past e kept (listing sizes z past kept) ok) (λ u v. absurd u) x o
+open_before sizes z past e kept LinkEdge n ok x o = joins_open sizes (state sizes past).node (state sizes past).edges
+    (state sizes past).frozen (listing sizes z past kept) e.life.index e.place _
+    (link_joins sizes z past e kept (listing sizes z past kept) ok) x o
 open_before sizes z past e kept UnlinkEdge n ok x o =
     let m = cut_marked sizes z past e kept (listing sizes z past kept) ok in
-    cut_open sizes (state sizes past).node (state sizes past).edges (state sizes past).frozen (listing sizes z past kept) e.life.index _ ok.linked.linked ok.linked.edge m refl refl ok.linked.edge m x o
-open_before sizes z past e kept MarkEdge n ok x o = then_open sizes (state sizes past).node (state sizes past).frozen (marked_state (state sizes past) e.life.index) (node_in sizes past e.life.index).source.index (listing sizes z past kept) (mark_grows sizes (state sizes past) e.life.index (listing sizes z past kept)) x o
+    cut_open sizes (state sizes past).node (state sizes past).edges (state sizes past).frozen
+    (listing sizes z past kept) e.life.index _ ok.linked.linked ok.linked.edge m refl refl ok.linked.edge m x o
+open_before sizes z past e kept MarkEdge n ok x o = then_open sizes (state sizes past).node (state sizes past).frozen
+    (marked_state (state sizes past) e.life.index) (node_in sizes past e.life.index).source.index
+    (listing sizes z past kept) (mark_grows sizes (state sizes past) e.life.index (listing sizes z past kept)) x o
 open_before sizes z past e kept ReplaceEdge n ok x o =
     let c = listing sizes z past kept in
     let j = replace_joins sizes z past e kept c ok in
-    let d : ListingOf sizes (joined_edge sizes e (state sizes past)) = joins sizes (state sizes past).node (state sizes past).edges (state sizes past).frozen c e.life.index e.place _ j in
-    joins_open sizes (state sizes past).node (state sizes past).edges (state sizes past).frozen c e.life.index e.place _ j x (then_open sizes (joined_edge sizes e (state sizes past)).node (joined_edge sizes e (state sizes past)).frozen (marked_state (joined_edge sizes e (state sizes past)) e.old.index) ((joined_edge sizes e (state sizes past)).node e.old.index).source.index d (mark_grows sizes (joined_edge sizes e (state sizes past)) e.old.index d) x o)
-open_before sizes z past e kept FreezeEdge n ok x o = then_open sizes (state sizes past).node (state sizes past).frozen (marked_state (state sizes past) e.life.index) (node_in sizes past e.life.index).source.index (listing sizes z past kept) (mark_grows sizes (state sizes past) e.life.index (listing sizes z past kept)) x o
-open_before sizes z past e kept FreezeHead n ok x o = then_open sizes (state sizes past).node (state sizes past).frozen (closed_state (state sizes past) e.life.index) e.life.index (listing sizes z past kept) (close_grows (state sizes past) e.life.index) x o
+    let d : ListingOf sizes (joined_edge sizes e (state sizes past)) = joins sizes (state sizes past).node
+    (state sizes past).edges (state sizes past).frozen c e.life.index e.place _ j in
+    joins_open sizes (state sizes past).node (state sizes past).edges
+    (state sizes past).frozen c e.life.index e.place _ j x
+    (then_open sizes (joined_edge sizes e (state sizes past)).node (joined_edge sizes e (state sizes past)).frozen
+    (marked_state (joined_edge sizes e (state sizes past)) e.old.index)
+    ((joined_edge sizes e (state sizes past)).node e.old.index).source.index d
+    (mark_grows sizes (joined_edge sizes e (state sizes past)) e.old.index d) x o)
+open_before sizes z past e kept FreezeEdge n ok x o = then_open sizes (state sizes past).node (state sizes past).frozen
+    (marked_state (state sizes past) e.life.index) (node_in sizes past e.life.index).source.index
+    (listing sizes z past kept) (mark_grows sizes (state sizes past) e.life.index (listing sizes z past kept)) x o
+open_before sizes z past e kept FreezeHead n ok x o = then_open sizes (state sizes past).node (state sizes past).frozen
+    (closed_state (state sizes past) e.life.index) e.life.index (listing sizes z past kept)
+    (close_grows (state sizes past) e.life.index) x o
 open_before sizes z past e kept _ n ok x o = o
 
 -- a list that is frozen to its end is so after the event, where its vertex isn't taken
-pub finished_after : (sizes : Sizes) → IsLayout sizes → (past : List Event) (e : Event) → IsKept sizes past → (k : Kind) → AllowedAs k sizes past e → (x : ℕ) → (k ≡ PopFree → x ≢ e.life.index)
-    → IsFinished (state sizes past).node (state sizes past).edges (state sizes past).frozen x → IsFinished (state_by k sizes e (state sizes past)).node (state_by k sizes e (state sizes past)).edges (state_by k sizes e (state sizes past)).frozen x
-finished_after sizes z past e kept PopFree ok x ne f = popped_finished sizes (state sizes past).node (state sizes past).edges (state sizes past).frozen (listing sizes z past kept) e.life.index _ (taken sizes z past e kept ok).free refl x (ne refl) f
-finished_after sizes z past e kept LinkVertex ok x ne f = moved_finish sizes (state sizes past).node (state sizes past).edges (state sizes past).frozen (listing sizes z past kept) e.life.index _ (link_moves sizes z past e kept (listing sizes z past kept) ok) x f
-finished_after sizes z past e kept MarkVertex ok x ne f = moved_finish sizes (state sizes past).node (state sizes past).edges (state sizes past).frozen (listing sizes z past kept) e.life.index _ (mark_moves sizes z past e kept (listing sizes z past kept) ok) x f
-finished_after sizes z past e kept UnlinkVertex ok x ne f = moved_finish sizes (state sizes past).node (state sizes past).edges (state sizes past).frozen (listing sizes z past kept) e.life.index _ (unlink_moves sizes z past e kept (listing sizes z past kept) ok) x f
-finished_after sizes z past e kept StoreFree ok x ne f = moved_finish sizes (state sizes past).node (state sizes past).edges (state sizes past).frozen (listing sizes z past kept) e.life.index _ (store_moves sizes z past e kept (listing sizes z past kept) ok) x f
-finished_after sizes z past e kept PushFree ok x ne f = moved_finish sizes (state sizes past).node (state sizes past).edges (state sizes past).frozen (listing sizes z past kept) e.life.index _ (push_moves sizes z past e kept (listing sizes z past kept) ok) x f
-finished_after sizes z past e kept LinkEdge ok x ne f = joins_finished sizes (state sizes past).node (state sizes past).edges (state sizes past).frozen (listing sizes z past kept) e.life.index e.place _ (link_joins sizes z past e kept (listing sizes z past kept) ok) x f
+pub finished_after : (sizes : Sizes) → IsLayout sizes → (past : List Event) (e : Event) → IsKept sizes past → (k : Kind)
+    → AllowedAs k sizes past e → (x : ℕ) → (k ≡ PopFree → x ≢ e.life.index)
+    → IsFinished (state sizes past).node (state sizes past).edges (state sizes past).frozen x → IsFinished
+    (state_by k sizes e (state sizes past)).node (state_by k sizes e (state sizes past)).edges
+    (state_by k sizes e (state sizes past)).frozen x
+finished_after sizes z past e kept PopFree ok x ne f = popped_finished sizes (state sizes past).node
+    (state sizes past).edges (state sizes past).frozen (listing sizes z past kept) e.life.index _
+    (taken sizes z past e kept ok).free refl x (ne refl) f
+finished_after sizes z past e kept LinkVertex ok x ne f = moved_finish sizes (state sizes past).node
+    (state sizes past).edges (state sizes past).frozen (listing sizes z past kept) e.life.index _
+    (link_moves sizes z past e kept (listing sizes z past kept) ok) x f
+finished_after sizes z past e kept MarkVertex ok x ne f = moved_finish sizes (state sizes past).node
+    (state sizes past).edges (state sizes past).frozen (listing sizes z past kept) e.life.index _
+    (mark_moves sizes z past e kept (listing sizes z past kept) ok) x f
+finished_after sizes z past e kept UnlinkVertex ok x ne f = moved_finish sizes (state sizes past).node
+    (state sizes past).edges (state sizes past).frozen (listing sizes z past kept) e.life.index _
+    (unlink_moves sizes z past e kept (listing sizes z past kept) ok) x f
+finished_after sizes z past e kept StoreFree ok x ne f = moved_finish sizes (state sizes past).node
+    (state sizes past).edges (state sizes past).frozen (listing sizes z past kept) e.life.index _
+    (store_moves sizes z past e kept (listing sizes z past kept) ok) x f
+finished_after sizes z past e kept PushFree ok x ne f = moved_finish sizes (state sizes past).node
+    (state sizes past).edges (state sizes past).frozen (listing sizes z past kept) e.life.index _
+    (push_moves sizes z past e kept (listing sizes z past kept) ok) x f
+finished_after sizes z past e kept LinkEdge ok x ne f = joins_finished sizes (state sizes past).node
+    (state sizes past).edges (state sizes past).frozen (listing sizes z past kept) e.life.index e.place _
+    (link_joins sizes z past e kept (listing sizes z past kept) ok) x f
 finished_after sizes z past e kept UnlinkEdge ok x ne f =
     let m = cut_marked sizes z past e kept (listing sizes z past kept) ok in
-    cut_finished sizes (state sizes past).node (state sizes past).edges (state sizes past).frozen (listing sizes z past kept) e.life.index _ ok.linked.linked ok.linked.edge m refl refl ok.linked.edge m x f
-finished_after sizes z past e kept MarkEdge ok x ne f = then_finished sizes (state sizes past).node (state sizes past).frozen (marked_state (state sizes past) e.life.index) (node_in sizes past e.life.index).source.index (listing sizes z past kept) (mark_grows sizes (state sizes past) e.life.index (listing sizes z past kept)) x f
+    cut_finished sizes (state sizes past).node (state sizes past).edges (state sizes past).frozen
+    (listing sizes z past kept) e.life.index _ ok.linked.linked ok.linked.edge m refl refl ok.linked.edge m x f
+finished_after sizes z past e kept MarkEdge ok x ne f = then_finished sizes (state sizes past).node
+    (state sizes past).frozen (marked_state (state sizes past) e.life.index)
+    (node_in sizes past e.life.index).source.index (listing sizes z past kept)
+    (mark_grows sizes (state sizes past) e.life.index (listing sizes z past kept)) x f
 finished_after sizes z past e kept ReplaceEdge ok x ne f =
     let c = listing sizes z past kept in
     let j = replace_joins sizes z past e kept c ok in
-    let d : ListingOf sizes (joined_edge sizes e (state sizes past)) = joins sizes (state sizes past).node (state sizes past).edges (state sizes past).frozen c e.life.index e.place _ j in
-    then_finished sizes (joined_edge sizes e (state sizes past)).node (joined_edge sizes e (state sizes past)).frozen (marked_state (joined_edge sizes e (state sizes past)) e.old.index) ((joined_edge sizes e (state sizes past)).node e.old.index).source.index d (mark_grows sizes (joined_edge sizes e (state sizes past)) e.old.index d) x (joins_finished sizes (state sizes past).node (state sizes past).edges (state sizes past).frozen c e.life.index e.place _ j x f)
-finished_after sizes z past e kept FreezeEdge ok x ne f = then_finished sizes (state sizes past).node (state sizes past).frozen (marked_state (state sizes past) e.life.index) (node_in sizes past e.life.index).source.index (listing sizes z past kept) (mark_grows sizes (state sizes past) e.life.index (listing sizes z past kept)) x f
-finished_after sizes z past e kept FreezeHead ok x ne f = then_finished sizes (state sizes past).node (state sizes past).frozen (closed_state (state sizes past) e.life.index) e.life.index (listing sizes z past kept) (close_grows (state sizes past) e.life.index) x f
+    let d : ListingOf sizes (joined_edge sizes e (state sizes past)) = joins sizes (state sizes past).node
+    (state sizes past).edges (state sizes past).frozen c e.life.index e.place _ j in
+    then_finished sizes (joined_edge sizes e (state sizes past)).node (joined_edge sizes e (state sizes past)).frozen
+    (marked_state (joined_edge sizes e (state sizes past)) e.old.index)
+    ((joined_edge sizes e (state sizes past)).node e.old.index).source.index d
+    (mark_grows sizes (joined_edge sizes e (state sizes past)) e.old.index d) x
+    (joins_finished sizes (state sizes past).node (state sizes past).edges
+    (state sizes past).frozen c e.life.index e.place _ j x f)
+finished_after sizes z past e kept FreezeEdge ok x ne f = then_finished sizes (state sizes past).node
+    (state sizes past).frozen (marked_state (state sizes past) e.life.index)
+    (node_in sizes past e.life.index).source.index (listing sizes z past kept)
+    (mark_grows sizes (state sizes past) e.life.index (listing sizes z past kept)) x f
+finished_after sizes z past e kept FreezeHead ok x ne f = then_finished sizes (state sizes past).node
+    (state sizes past).frozen (closed_state (state sizes past) e.life.index) e.life.index (listing sizes z past kept)
+    (close_grows (state sizes past) e.life.index) x f
 finished_after sizes z past e kept _ ok x ne f = f
 
 -- where a vertex is linked, it had one before, or is that vertex, which was fresh
-pub open_linked : (sizes : Sizes) → IsLayout sizes → (past : List Event) (e : Event) → IsKept sizes past → IsLinkVertex sizes past e → (x : ℕ) → IsOpenIn sizes (state_by LinkVertex sizes e (state sizes past)) x → IsOpenIn sizes (state sizes past) x ⊎ (x ≡ e.life.index)
+pub open_linked : (sizes : Sizes) → IsLayout sizes → (past : List Event) (e : Event) → IsKept sizes past
+    → IsLinkVertex sizes past e → (x : ℕ) → IsOpenIn sizes (state_by LinkVertex sizes e (state sizes past)) x
+    → IsOpenIn sizes (state sizes past) x ⊎ (x ≡ e.life.index)
 open_linked sizes z past e kept ok x o = dite (ℕ_discrete x e.life.index) (λ same. inr same) (λ ne.
     inl (⊎_elim (λ (h : IsOpenIn sizes (state sizes past) x). h)
-    (λ (f : (node_in sizes past x).mode ≡ Fresh). absurd (subst IsUsed (ap (λ (n : Node). n.mode) (put_other e.life.index (record (node_in sizes past e.life.index) { mode = Linked; vertex = true; key = e.key }) (state sizes past).node x ne) ∙ f) o.used))
-    (moved_open sizes (state sizes past).node (state sizes past).edges (state sizes past).frozen (listing sizes z past kept) e.life.index _ (link_moves sizes z past e kept (listing sizes z past kept) ok) x o)))
+    (λ (f : (node_in sizes past x).mode ≡ Fresh). absurd (subst IsUsed
+    (ap (λ (n : Node). n.mode) (put_other e.life.index (record
+    (node_in sizes past e.life.index) { mode = Linked; vertex = true; key = e.key }) (state sizes past).node x ne)
+    ∙ f) o.used))
+    (moved_open sizes (state sizes past).node (state sizes past).edges (state sizes past).frozen
+    (listing sizes z past kept) e.life.index _ (link_moves sizes z past e kept (listing sizes z past kept) ok) x
+    o)))
 
 -- the same of a list that isn't frozen to its end, in the words of the journal
-pub has_open : (sizes : Sizes) (journal : List Event) (x : ℕ) → HasList sizes journal x → IsOpenList sizes (state sizes journal).node (state sizes journal).edges (state sizes journal).frozen x
-has_open sizes journal x h = record { there = h.there; used = h.used; vertex = h.vertex; unfinished = λ f. h.unfinished record { head = f.head; edges = f.each } }
+pub has_open : (sizes : Sizes) (journal : List Event) (x : ℕ) → HasList sizes journal x → IsOpenList sizes
+    (state sizes journal).node (state sizes journal).edges (state sizes journal).frozen x
+has_open sizes journal x h = record {
+  there = h.there;
+  used = h.used;
+  vertex = h.vertex;
+  unfinished = λ f. h.unfinished
+      record { head = f.head; edges = f.each };
+}
 
-pub open_has : (sizes : Sizes) (journal : List Event) (x : ℕ) → IsOpenList sizes (state sizes journal).node (state sizes journal).edges (state sizes journal).frozen x → HasList sizes journal x
-open_has sizes journal x o = record { there = o.there; used = o.used; vertex = o.vertex; unfinished = λ f. o.unfinished record { head = f.head; each = f.edges } }
+pub open_has : (sizes : Sizes) (journal : List Event) (x : ℕ) → IsOpenList sizes (state sizes journal).node
+    (state sizes journal).edges (state sizes journal).frozen x → HasList sizes journal x
+open_has sizes journal x o = record {
+  there = o.there;
+  used = o.used;
+  vertex = o.vertex;
+  unfinished = λ f. o.unfinished
+      record { head = f.head; each = f.edges };
+}
 
 -- linked edges are at their sources
 pub sources : (sizes : Sizes) → IsLayout sizes → (journal : List Event) → IsKept sizes journal → Sources sizes journal
 sources sizes z journal kept =
     let c = listing sizes z journal kept in record {
-      each = λ y t l. let d = c.source y t l.linked l.edge in record { list = open_has sizes journal (node_in sizes journal y).source.index d.list; life = d.life; on = d.on };
+      each = λ y t l. let d = c.source y t l.linked l.edge in record
+          { list = open_has sizes journal (node_in sizes journal y).source.index d.list; life = d.life; on = d.on };
       unstored = λ x h. c.unstored x (has_open sizes journal x h);
     }

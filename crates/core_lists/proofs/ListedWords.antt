@@ -19,7 +19,8 @@ use Rattle.core_lists.proofs.SpentWordsLead.{unclosed}
 
 module _ (sizes : Sizes) (z : IsLayout sizes) (journal : List Event) (kept : IsKept sizes journal) where
   -- the key word of an edge of a list is the key with which the edge was linked
-  pub listed_key : (x y : ℕ) → KeepsList sizes journal x → is_listed (state sizes journal) x y ≡ true → (link : Event) → link_of journal (life_in sizes journal y) ≡ Some link → word_at sizes journal (key_at sizes y) ≡ link.key
+  pub listed_key : (x y : ℕ) → KeepsList sizes journal x → is_listed (state sizes journal) x y ≡ true → (link : Event)
+      → link_of journal (life_in sizes journal y) ≡ Some link → word_at sizes journal (key_at sizes y) ≡ link.key
   listed_key x y k on link is =
       let d = (listing sizes z journal kept).on x y on in
       let used = (k.edges (life_in sizes journal y) (edge_on sizes z journal kept x y on)).used in
@@ -32,8 +33,16 @@ module _ (sizes : Sizes) (z : IsLayout sizes) (journal : List Event) (kept : IsK
   no_part s x y h = ap (λ (b : Bool). stands y (cond b (take_while (λ (z : ℕ). (s.node z).marked) (s.edges x)) [])) h
 
   -- an edge on the list of a linked vertex is linked
-  pub listed_linked : (x y : ℕ) → x < sizes.nodes → (node_in sizes journal x).mode ≡ Linked → (node_in sizes journal x).vertex ≡ true → is_listed (state sizes journal) x y ≡ true → (node_in sizes journal y).mode ≡ Linked
+  pub listed_linked : (x y : ℕ) → x < sizes.nodes → (node_in sizes journal x).mode ≡ Linked →
+      (node_in sizes journal x).vertex ≡ true → is_listed (state sizes journal) x y ≡ true →
+      (node_in sizes journal y).mode ≡ Linked
   listed_linked x y there linked vertex on =
       let open_ = unclosed sizes z journal kept x linked in
-      let has : HasList sizes journal x = record { there = there; used = subst IsUsed (sym linked) tt; vertex = vertex; unfinished = λ f. let head = f.head in absurd (cc) } in
+      let has : HasList sizes journal x = record {
+        there = there;
+        used = subst IsUsed
+            (sym linked) tt;
+        vertex = vertex;
+        unfinished = λ f. let head = f.head in absurd (cc);
+      } in
       (frozen_parts sizes z journal kept).linked x y has on (no_part (state sizes journal) x y open_)

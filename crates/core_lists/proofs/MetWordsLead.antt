@@ -1,5 +1,6 @@
 -- From a node that an open pass has met, linked or spent, a word leads to what the pass has met.
-use Rattle.std.proofs.Common.{◌≡◌, ◌≢◌, ◌⊎◌, ℕ, ◌%◌, ◌<◌, true, false, List, [], ◌∷◌, ◌++◌, refl, sym, ap, ◌∙◌, subst, arith, ⊎_elim, inl, inr}
+use Rattle.std.proofs.Common.{◌≡◌, ◌≢◌, ◌⊎◌, ℕ, ◌%◌, ◌<◌, true, false, List, [], ◌∷◌, ◌++◌, refl, sym, ap, ◌∙◌, subst}
+use Rattle.std.proofs.Common.{arith, ⊎_elim, inl, inr}
 use Rattle.packed_link.specs.Link.{index_of, mark_of, mark_bit}
 use Rattle.packed_link.specs.Layout.{Sizes, IsLayout, bucket_at, link_at, second_at}
 use Rattle.core_journal.specs.declared.event.Event.{Event}
@@ -13,11 +14,13 @@ use Rattle.core_kept.specs.Kept.{Allowed, IsKept}
 use Rattle.core_kept.specs.Nodes.{node_in, IsUsed, IsRipe}
 use Rattle.core_lists.specs.Walks.{LeadsTo, IsMetBehind, IsMetIn, IsMetFirst}
 use Rattle.core_kept.proofs.Induction.{kept_all, kept_front, kept_snoc}
-use Rattle.core_lists.proofs.LinkedWordsLead.{IsLinkedBehind, IsLinkedIn, IsLinkedFirst, leads_same, bucket_leads, head_leads}
+use Rattle.core_lists.proofs.LinkedWordsLead.{IsLinkedBehind, IsLinkedIn, IsLinkedFirst, leads_same, bucket_leads}
+use Rattle.core_lists.proofs.LinkedWordsLead.{head_leads}
 use Rattle.core_kept.proofs.LinkWords.{link_words, used_link}
 use Rattle.core_kept.proofs.MarkedWords.{marked_link_stays, marked_head_stays}
 use Rattle.core_kept.proofs.MetWords.{met_used, ripe_not_met, still_met, key_stays}
-use Rattle.core_kept.proofs.ModeSteps.{Turn, stays, spends, swaps, links, takes, frees, IsGoingOn, IsBeginning, turn, closing, stored_was, pass_was}
+use Rattle.core_kept.proofs.ModeSteps.{ModeStep, stays, spends, swaps, links, takes, frees, IsGoingOn, IsBeginning}
+use Rattle.core_kept.proofs.ModeSteps.{turn, closing, stored_was, pass_was}
 use Rattle.core_kept.proofs.Contents.{contents}
 use Rattle.core_kept.proofs.ReplaceCases.{leads_new, marks_old, new_after}
 use Rattle.core_kept.proofs.Ripe.{ended}
@@ -27,10 +30,25 @@ use Rattle.core_kept.proofs.NodesOnLists.{yes_no}
 module _ (sizes : Sizes) (journal : List Event) (i : ℕ) (open_ : (pass_in sizes journal i).is_open ≡ true) where
   -- an open pass has met each linked node
   pub linked_met : (x : ℕ) → (node_in sizes journal x).mode ≡ Linked → HasMet sizes journal i x
-  linked_met x linked = record { pass = open_; free = λ h. absurd (cc); fresh = λ h. absurd (cc); spent = λ h. absurd (cc) }
+  linked_met x linked = record {
+    pass = open_;
+    free = λ h. absurd (cc);
+    fresh = λ h. absurd (cc);
+    spent = λ h. absurd
+        (cc);
+  }
 
   met_behind : (x y : ℕ) → IsLinkedBehind sizes journal x y → IsMetBehind sizes journal i x y
-  met_behind x y d = record { there = d.there; met = linked_met y d.linked; kind = d.kind; rising = d.rising; strictly = d.strictly; bucket = d.bucket; source = d.source }
+  met_behind x y d = record {
+    there = d.there;
+    met = linked_met y d.linked;
+    kind = d.kind;
+    rising = d.rising;
+    strictly =
+        d.strictly;
+    bucket = d.bucket;
+    source = d.source;
+  }
 
   met_inside : (x y : ℕ) → IsLinkedIn sizes journal x y → IsMetIn sizes journal i x y
   met_inside x y d = record { there = d.there; met = linked_met y d.linked; edge = d.edge; source = d.source }
@@ -43,19 +61,35 @@ pub record IsMetBefore (sizes : Sizes) (past journal : List Event) (i x : ℕ) :
   pub same : IsSamePass sizes past journal i
   pub met : HasMet sizes past i x
 
-pub met_before : (sizes : Sizes) (z : IsLayout sizes) (past : List Event) (e : Event) (kept : IsKept sizes past) → Allowed sizes past e → (i x : ℕ) → HasMet sizes (past ++ e ∷ []) i x → (node_in sizes (past ++ e ∷ []) x).mode ≡ Spent → IsMetBefore sizes past (past ++ e ∷ []) i x
+pub met_before : (sizes : Sizes) (z : IsLayout sizes) (past : List Event) (e : Event) (kept : IsKept sizes past)
+    → Allowed sizes past e → (i x : ℕ) → HasMet sizes (past ++ e ∷ []) i x →
+    (node_in sizes (past ++ e ∷ []) x).mode ≡ Spent → IsMetBefore sizes past (past ++ e ∷ []) i x
 met_before sizes z past e kept ok i x m spent = ⊎_elim
     (λ (g : IsGoingOn sizes past (state sizes (past ++ e ∷ [])) i). record {
       same = record { before = prefix_snoc past e; open_still = m.pass; since = g.since };
       met = by g (turn sizes z past e kept ok x);
     })
-    (λ (b : IsBeginning sizes past (state sizes (past ++ e ∷ [])) i). absurd (omega (arith, b.since, ap (λ (v : Node). v.ended) (b.nodes x), m.spent spent, (ended sizes past kept).ended x)))
+    (λ (b : IsBeginning sizes past (state sizes (past ++ e ∷ [])) i). absurd
+    (omega (
+      arith,
+      b.since,
+      ap (λ (v : Node). v.ended) (b.nodes x),
+      m.spent spent,
+      (ended sizes past kept).ended x,
+    )))
     (pass_was sizes z past e kept ok i m.pass)
   where
-    by : IsGoingOn sizes past (state sizes (past ++ e ∷ [])) i → Turn sizes past e (word_at sizes (past ++ e ∷ [])) x (node_in sizes (past ++ e ∷ []) x) → HasMet sizes past i x
+    by : IsGoingOn sizes past (state sizes (past ++ e ∷ [])) i → ModeStep sizes past e
+        (word_at sizes (past ++ e ∷ [])) x (node_in sizes (past ++ e ∷ []) x) → HasMet sizes past i x
     by g (stays h q _ _) =
         let was : (node_in sizes past x).mode ≡ Spent = sym h ∙ spent in
-        record { pass = g.open_before; free = λ f. absurd (cc); fresh = λ f. absurd (cc); spent = λ _. omega (arith, m.spent spent, q, g.since) }
+        record {
+          pass = g.open_before;
+          free = λ f. absurd (cc);
+          fresh = λ f. absurd (cc);
+          spent = λ _. omega
+              (arith, m.spent spent, q, g.since);
+        }
     by g (spends h _ _ _) = linked_met sizes past i g.open_before x h
     by g (swaps _ _ _ h _ _ _) = linked_met sizes past i g.open_before x h
     by g (links _ h) = absurd (cc)
@@ -63,11 +97,14 @@ met_before sizes z past e kept ok i x m spent = ⊎_elim
     by g (frees _ h) = absurd (cc)
 
 -- no node that an open pass has met is stored for the free list
-abbrev IsUnstored : Sizes → List Event → Type 0
-IsUnstored sizes journal = (i x : ℕ) → x < sizes.nodes → HasMet sizes journal i x → (node_in sizes journal x).mode ≡ Spent → (node_in sizes journal x).stored ≡ false
+abbrev NoneMetIsStored : Sizes → List Event → Type 0
+NoneMetIsStored sizes journal = (i x : ℕ) → x < sizes.nodes → HasMet sizes journal i x →
+    (node_in sizes journal x).mode ≡ Spent → (node_in sizes journal x).stored ≡ false
 
-unstored_step : (sizes : Sizes) → IsLayout sizes → (past : List Event) (e : Event) → IsKept sizes past → IsUnstored sizes past → Allowed sizes past e → IsUnstored sizes (past ++ e ∷ [])
-unstored_step sizes z past e kept c ok i x within m spent = yes_no ((node_in sizes (past ++ e ∷ []) x).stored ≡ false) (node_in sizes (past ++ e ∷ []) x).stored
+unstored_step : (sizes : Sizes) → IsLayout sizes → (past : List Event) (e : Event) → IsKept sizes past
+    → NoneMetIsStored sizes past → Allowed sizes past e → NoneMetIsStored sizes (past ++ e ∷ [])
+unstored_step sizes z past e kept c ok i x within m spent = yes_no ((node_in sizes (past ++ e ∷ []) x).stored ≡ false)
+    (node_in sizes (past ++ e ∷ []) x).stored
     (λ h.
     let b = met_before sizes z past e kept ok i x m spent in
     ⊎_elim
@@ -76,7 +113,8 @@ unstored_step sizes z past e kept c ok i x within m spent = yes_no ((node_in siz
     (stored_was sizes z past e kept ok x h))
     (λ h. h)
   where
-    by : IsMetBefore sizes past (past ++ e ∷ []) i x → (node_in sizes past x).stored ≡ true → Turn sizes past e (word_at sizes (past ++ e ∷ [])) x (node_in sizes (past ++ e ∷ []) x) → ⊥
+    by : IsMetBefore sizes past (past ++ e ∷ []) i x → (node_in sizes past x).stored ≡ true → ModeStep sizes past e
+        (word_at sizes (past ++ e ∷ [])) x (node_in sizes (past ++ e ∷ []) x) → ⊥
     by b old (stays h _ _ _) = let f = c i x within b.met (sym h ∙ spent) in absurd (cc)
     by b old (spends h _ _ _) = let f = ((link_words sizes z past kept).each x within).unstored h in absurd (cc)
     by b old (swaps _ _ _ h _ _ _) = let f = ((link_words sizes z past kept).each x within).unstored h in absurd (cc)
@@ -86,13 +124,18 @@ unstored_step sizes z past e kept c ok i x within m spent = yes_no ((node_in siz
 
 -- at opening no node is spent
 unspent : (sizes : Sizes) {P : Type 0} (x : ℕ) → (node_in sizes [] x).mode ≡ Spent → P
-unspent sizes x m = let free : (node_in sizes [] x).mode ≡ Free = ap (λ (s : State). (s.node x).mode) (state-nil sizes) in absurd (cc)
+unspent sizes x m = let free : (node_in sizes [] x).mode ≡ Free = ap (λ (s : State). (s.node x).mode)
+    (state-nil sizes) in absurd (cc)
 
-pub met_unstored : (sizes : Sizes) → IsLayout sizes → (journal : List Event) → IsKept sizes journal → (i x : ℕ) → x < sizes.nodes → HasMet sizes journal i x → (node_in sizes journal x).mode ≡ Spent → (node_in sizes journal x).stored ≡ false
-met_unstored sizes z journal kept = kept_all sizes (IsUnstored sizes) (unstored_step sizes z) (λ i x _ _ m. unspent sizes x m) journal kept
+pub met_unstored : (sizes : Sizes) → IsLayout sizes → (journal : List Event) → IsKept sizes journal → (i x : ℕ)
+    → x < sizes.nodes → HasMet sizes journal i x → (node_in sizes journal x).mode ≡ Spent →
+    (node_in sizes journal x).stored ≡ false
+met_unstored sizes z journal kept = kept_all sizes (NoneMetIsStored sizes) (unstored_step sizes z)
+    (λ i x _ _ m. unspent sizes x m) journal kept
 
 -- what is met is linked or spent
-pub met_modes : (sizes : Sizes) (journal : List Event) (i x : ℕ) → HasMet sizes journal i x → ((node_in sizes journal x).mode ≡ Linked) ⊎ ((node_in sizes journal x).mode ≡ Spent)
+pub met_modes : (sizes : Sizes) (journal : List Event) (i x : ℕ) → HasMet sizes journal i x →
+    ((node_in sizes journal x).mode ≡ Linked) ⊎ ((node_in sizes journal x).mode ≡ Spent)
 met_modes sizes journal i x m = by (node_in sizes journal x).mode m.free m.fresh
   where
     by : (k : Mode) → k ≢ Free → k ≢ Fresh → (k ≡ Linked) ⊎ (k ≡ Spent)
@@ -102,21 +145,27 @@ met_modes sizes journal i x m = by (node_in sizes journal x).mode m.free m.fresh
     by Spent f g = inr refl
 
 -- so it's not stored, linked or spent
-pub met_not_stored : (sizes : Sizes) → IsLayout sizes → (journal : List Event) → IsKept sizes journal → (i x : ℕ) → x < sizes.nodes → HasMet sizes journal i x → (node_in sizes journal x).stored ≡ false
+pub met_not_stored : (sizes : Sizes) → IsLayout sizes → (journal : List Event) → IsKept sizes journal → (i x : ℕ)
+    → x < sizes.nodes → HasMet sizes journal i x → (node_in sizes journal x).stored ≡ false
 met_not_stored sizes z journal kept i x within m = ⊎_elim
     (λ (h : (node_in sizes journal x).mode ≡ Linked). ((link_words sizes z journal kept).each x within).unstored h)
-    (λ (h : (node_in sizes journal x).mode ≡ Spent). met_unstored sizes z journal kept i x within m h) (met_modes sizes journal i x m)
+    (λ (h : (node_in sizes journal x).mode ≡ Spent). met_unstored sizes z journal kept i x within m h)
+    (met_modes sizes journal i x m)
 
 -- what was met behind a node, and inside it, is so while the pass is open
-module _ (sizes : Sizes) (z : IsLayout sizes) (front journal : List Event) (kept : IsKept sizes journal) (i x : ℕ) (p : IsSamePass sizes front journal i) (m : HasMet sizes front i x) where
+module _ (sizes : Sizes) (z : IsLayout sizes) (front journal : List Event) (kept : IsKept sizes journal) (i x : ℕ)
+    (p : IsSamePass sizes front journal i) (m : HasMet sizes front i x) where
   -- a link that is unmarked was unmarked
-  live_before : x < sizes.nodes → mark_of (word_at sizes journal (link_at sizes x)) ≡ 0 → mark_of (word_at sizes front (link_at sizes x)) ≡ 0
+  live_before : x < sizes.nodes → mark_of (word_at sizes journal (link_at sizes x)) ≡ 0 → mark_of
+      (word_at sizes front (link_at sizes x)) ≡ 0
   live_before within live =
       let s = still_met sizes z front journal kept i x p m in
-      let old = (used_link sizes z front (kept_front sizes front journal p.before kept) x within (met_used sizes front i x m)).1 in
+      let old = (used_link sizes z front (kept_front sizes front journal p.before kept) x within
+      (met_used sizes front i x m)).1 in
       yes_no (mark_of (word_at sizes front (link_at sizes x)) ≡ 0) (node_in sizes front x).marked
       (λ t. let marked : mark_of (word_at sizes front (link_at sizes x)) ≡ 1 = old ∙ ap mark_bit t in
-      let same = marked_link_stays sizes z x front journal p.before kept m.fresh marked s.1.tag (met_not_stored sizes z journal kept i x within s.0) in
+      let same = marked_link_stays sizes z x front journal p.before kept m.fresh marked s.1.tag
+      (met_not_stored sizes z journal kept i x within s.0) in
       absurd (omega (arith, marked, live, ap mark_of same)))
       (λ f. old ∙ ap mark_bit f)
 
@@ -131,8 +180,11 @@ module _ (sizes : Sizes) (z : IsLayout sizes) (front journal : List Event) (kept
         met = t.0;
         kind = t.1.vertex ∙ (d.kind ∙ sym s.1.vertex);
         rising = omega (arith, d.rising, key_x, key_y);
-        strictly = λ c. let low = d.strictly (⊎_elim (λ (t : (node_in sizes journal x).vertex ≡ true). inl (sym s.1.vertex ∙ t)) (λ (live : mark_of (word_at sizes journal (link_at sizes x)) ≡ 0). inr (live_before within live)) c) in omega (arith, low, key_x, key_y);
-        bucket = λ v. ap (λ (k : ℕ). k % sizes.buckets) key_y ∙ (d.bucket (sym s.1.vertex ∙ v) ∙ ap (λ (k : ℕ). k % sizes.buckets) (sym key_x));
+        strictly = λ c. let low = d.strictly (⊎_elim (λ (t : (node_in sizes journal x).vertex ≡ true). inl
+            (sym s.1.vertex ∙ t)) (λ (live : mark_of (word_at sizes journal (link_at sizes x)) ≡ 0). inr
+            (live_before within live)) c) in omega (arith, low, key_x, key_y);
+        bucket = λ v. ap (λ (k : ℕ). k % sizes.buckets) key_y ∙
+            (d.bucket (sym s.1.vertex ∙ v) ∙ ap (λ (k : ℕ). k % sizes.buckets) (sym key_x));
         source = λ f. t.1.source ∙ (d.source (sym s.1.vertex ∙ f) ∙ sym s.1.source);
       }
 
@@ -140,75 +192,112 @@ module _ (sizes : Sizes) (z : IsLayout sizes) (front journal : List Event) (kept
   inside_stays y d =
       let s = still_met sizes z front journal kept i x p m in
       let t = still_met sizes z front journal kept i y p d.met in
-      record { there = d.there; met = t.0; edge = t.1.vertex ∙ d.edge; source = t.1.source ∙ (d.source ∙ λ k. record { index = x; tag = sym s.1.tag k }) }
+      record {
+        there = d.there;
+        met = t.0;
+        edge = t.1.vertex ∙ d.edge;
+        source = t.1.source ∙
+            (d.source ∙ λ k. record { index = x; tag = sym s.1.tag k });
+      }
 
 -- the words of a spent node that an open pass has met lead to what the pass has met
 record MetLinks (sizes : Sizes) (journal : List Event) : Type 0 where
   pub link : (i x : ℕ) → x < sizes.nodes → HasMet sizes journal i x → (node_in sizes journal x).mode ≡ Spent
       → LeadsTo (word_at sizes journal (link_at sizes x)) (IsMetBehind sizes journal i x)
-  pub list : (i x : ℕ) → x < sizes.nodes → HasMet sizes journal i x → (node_in sizes journal x).mode ≡ Spent → (node_in sizes journal x).vertex ≡ true
+  pub list : (i x : ℕ) → x < sizes.nodes → HasMet sizes journal i x → (node_in sizes journal x).mode ≡ Spent →
+      (node_in sizes journal x).vertex ≡ true
       → LeadsTo (word_at sizes journal (second_at sizes x)) (IsMetIn sizes journal i x)
 
-module _ (sizes : Sizes) (z : IsLayout sizes) (past : List Event) (e : Event) (kept : IsKept sizes past) (ok : Allowed sizes past e) (c : MetLinks sizes past) where
+module _ (sizes : Sizes) (z : IsLayout sizes) (past : List Event) (e : Event) (kept : IsKept sizes past)
+    (ok : Allowed sizes past e) (c : MetLinks sizes past) where
   abbrev after : List Event
   after = past ++ e ∷ []
 
   kept_after : IsKept sizes after
   kept_after = kept_snoc sizes past e kept ok
 
-  met_link : (i x : ℕ) → x < sizes.nodes → HasMet sizes after i x → (node_in sizes after x).mode ≡ Spent → LeadsTo (word_at sizes after (link_at sizes x)) (IsMetBehind sizes after i x)
+  met_link : (i x : ℕ) → x < sizes.nodes → HasMet sizes after i x → (node_in sizes after x).mode ≡ Spent → LeadsTo
+      (word_at sizes after (link_at sizes x)) (IsMetBehind sizes after i x)
   met_link i x within m spent = by (met_before sizes z past e kept ok i x m spent) (turn sizes z past e kept ok x)
     where
-      by : IsMetBefore sizes past after i x → Turn sizes past e (word_at sizes after) x (node_in sizes after x) → LeadsTo (word_at sizes after (link_at sizes x)) (IsMetBehind sizes after i x)
+      by : IsMetBefore sizes past after i x → ModeStep sizes past e (word_at sizes after) x (node_in sizes after x)
+          → LeadsTo (word_at sizes after (link_at sizes x)) (IsMetBehind sizes after i x)
       by b (stays h _ t _) =
           let was : (node_in sizes past x).mode ≡ Spent = sym h ∙ spent in
-          let same = marked_link_stays sizes z x past after (prefix_snoc past e) kept_after (λ f. absurd (cc)) (((link_words sizes z past kept).each x within).spent was).marked t (met_unstored sizes z after kept_after i x within m spent) in
-          leads_same (word_at sizes past (link_at sizes x)) (word_at sizes after (link_at sizes x)) (IsMetBehind sizes past i x) (IsMetBehind sizes after i x) (ap index_of same)
+          let same = marked_link_stays sizes z x past after (prefix_snoc past e) kept_after (λ f. absurd (cc))
+          (((link_words sizes z past kept).each x within).spent was).marked t
+          (met_unstored sizes z after kept_after i x within m spent) in
+          leads_same (word_at sizes past (link_at sizes x)) (word_at sizes after (link_at sizes x))
+          (IsMetBehind sizes past i x) (IsMetBehind sizes after i x) (ap index_of same)
           (λ y d. behind_stays sizes z past after kept_after i x b.same b.met within y d) (c.link i x within b.met was)
-      by b (spends h _ _ same) = leads_same (word_at sizes past (link_at sizes x)) (word_at sizes after (link_at sizes x)) (IsLinkedBehind sizes past x) (IsMetBehind sizes after i x) same
-          (λ y d. behind_stays sizes z past after kept_after i x b.same b.met within y (met_behind sizes past i b.met.pass x y d)) (linked_leads sizes z past kept x within h)
-      by b (swaps is r same h _ _ here) = inr (subst (IsMetBehind sizes after i x) (sym (ap index_of here ∙ leads_new sizes z past e kept r))
+      by b (spends h _ _ same) = leads_same (word_at sizes past (link_at sizes x))
+          (word_at sizes after (link_at sizes x)) (IsLinkedBehind sizes past x) (IsMetBehind sizes after i x) same
+          (λ y d. behind_stays sizes z past after kept_after i x b.same b.met within y
+          (met_behind sizes past i b.met.pass x y d)) (linked_leads sizes z past kept x within h)
+      by b (swaps is r same h _ _ here) = inr (subst (IsMetBehind sizes after i x)
+          (sym (ap index_of here ∙ leads_new sizes z past e kept r))
           (let y : ℕ = e.life.index in
           let new = new_after sizes z past e kept r is in
           let linked : (node_in sizes after y).mode ≡ Linked = ap (λ (v : Node). v.mode) new in
           let edge : (node_in sizes after y).vertex ≡ false = ap (λ (v : Node). v.vertex) new in
           let s = still_met sizes z past after kept_after i x b.same b.met in
-          let was : (node_in sizes past x).vertex ≡ false = ap (λ (j : ℕ). (node_in sizes past j).vertex) same ∙ r.linked.edge in
+          let was : (node_in sizes past x).vertex ≡ false = ap (λ (j : ℕ). (node_in sizes past j).vertex) same
+          ∙ r.linked.edge in
           let no_vertex : (node_in sizes after x).vertex ≡ true → ⊥ = λ t. let f = s.1.vertex ∙ was in absurd (cc) in
-          let key_x = key_stays sizes z past after kept_after i x b.same b.met within ∙ (((contents sizes z past kept).each x within).edge (subst IsUsed (sym h) tt) was).key_word in
-          let key_y = (((contents sizes z after kept_after).each y r.there).edge (subst IsUsed (sym linked) tt) edge).key_word ∙ (ap (λ (v : Node). v.key) new ∙ (r.key ∙ ap (λ (j : ℕ). (node_in sizes past j).key) (sym same))) in
+          let key_x = key_stays sizes z past after kept_after i x b.same b.met within ∙
+          (((contents sizes z past kept).each x within).edge (subst IsUsed (sym h) tt) was).key_word in
+          let key_y = (((contents sizes z after kept_after).each y r.there).edge
+          (subst IsUsed (sym linked) tt) edge).key_word ∙
+          (ap (λ (v : Node). v.key) new ∙ (r.key ∙ ap (λ (j : ℕ). (node_in sizes past j).key) (sym same))) in
           record {
             there = r.there;
             met = linked_met sizes after i m.pass y linked;
             kind = edge ∙ sym (s.1.vertex ∙ was);
             rising = omega (arith, key_x, key_y);
-            strictly = λ c. absurd (⊎_elim no_vertex (λ (live : mark_of (word_at sizes after (link_at sizes x)) ≡ 0). let one = ap mark_of here ∙ marks_old sizes z past e kept r in omega (arith, live, one)) c);
+            strictly = λ c. absurd (⊎_elim no_vertex (λ (live : mark_of (word_at sizes after (link_at sizes x)) ≡ 0).
+                let one = ap mark_of here ∙ marks_old sizes z past e kept r in omega (arith, live, one)) c);
             bucket = λ t. absurd (no_vertex t);
-            source = λ _. ap (λ (v : Node). v.source) new ∙ (r.source ∙ (ap (λ (j : ℕ). (node_in sizes past j).source) (sym same) ∙ sym s.1.source));
+            source = λ _. ap (λ (v : Node). v.source) new ∙ (r.source ∙
+                (ap (λ (j : ℕ). (node_in sizes past j).source) (sym same) ∙ sym s.1.source));
           }))
       by b (links _ h) = absurd (cc)
       by b (takes _ h) = absurd (cc)
       by b (frees _ h) = absurd (cc)
 
-  met_list : (i x : ℕ) → x < sizes.nodes → HasMet sizes after i x → (node_in sizes after x).mode ≡ Spent → (node_in sizes after x).vertex ≡ true → LeadsTo (word_at sizes after (second_at sizes x)) (IsMetIn sizes after i x)
-  met_list i x within m spent vertex = yes_no (LeadsTo (word_at sizes after (second_at sizes x)) (IsMetIn sizes after i x)) ((state sizes after).frozen x)
+  met_list : (i x : ℕ) → x < sizes.nodes → HasMet sizes after i x → (node_in sizes after x).mode ≡ Spent →
+      (node_in sizes after x).vertex ≡ true → LeadsTo (word_at sizes after (second_at sizes x))
+      (IsMetIn sizes after i x)
+  met_list i x within m spent vertex = yes_no (LeadsTo (word_at sizes after (second_at sizes x))
+      (IsMetIn sizes after i x)) ((state sizes after).frozen x)
       (λ h. by h (met_before sizes z past e kept ok i x m spent) (turn sizes z past e kept ok x))
-      (λ open_. leads_same (word_at sizes after (second_at sizes x)) (word_at sizes after (second_at sizes x)) (IsLinkedIn sizes after x) (IsMetIn sizes after i x) refl (met_inside sizes after i m.pass x) (head_leads sizes z after kept_after x within (subst IsUsed (sym spent) tt) vertex open_))
+      (λ open_. leads_same (word_at sizes after (second_at sizes x)) (word_at sizes after (second_at sizes x))
+      (IsLinkedIn sizes after x) (IsMetIn sizes after i x) refl (met_inside sizes after i m.pass x)
+      (head_leads sizes z after kept_after x within (subst IsUsed (sym spent) tt) vertex open_))
     where
-      by : (state sizes after).frozen x ≡ true → IsMetBefore sizes past after i x → Turn sizes past e (word_at sizes after) x (node_in sizes after x) → LeadsTo (word_at sizes after (second_at sizes x)) (IsMetIn sizes after i x)
+      by : (state sizes after).frozen x ≡ true → IsMetBefore sizes past after i x → ModeStep sizes past e
+          (word_at sizes after) x (node_in sizes after x) → LeadsTo (word_at sizes after (second_at sizes x))
+          (IsMetIn sizes after i x)
       by h b (stays k _ t v) =
           let was : (node_in sizes past x).mode ≡ Spent = sym k ∙ spent in
           let kind : (node_in sizes past x).vertex ≡ true = sym v ∙ vertex in
-          yes_no (LeadsTo (word_at sizes after (second_at sizes x)) (IsMetIn sizes after i x)) ((state sizes past).frozen x)
+          yes_no (LeadsTo (word_at sizes after (second_at sizes x)) (IsMetIn sizes after i x))
+          ((state sizes past).frozen x)
           (λ closed.
-          let same = marked_head_stays sizes z x past after (prefix_snoc past e) kept_after (λ f. absurd (cc)) (head_marked sizes z past kept x within was kind closed) t in
-          leads_same (word_at sizes past (second_at sizes x)) (word_at sizes after (second_at sizes x)) (IsMetIn sizes past i x) (IsMetIn sizes after i x) (ap index_of same)
+          let same = marked_head_stays sizes z x past after (prefix_snoc past e) kept_after (λ f. absurd (cc))
+          (head_marked sizes z past kept x within was kind closed) t in
+          leads_same (word_at sizes past (second_at sizes x)) (word_at sizes after (second_at sizes x))
+          (IsMetIn sizes past i x) (IsMetIn sizes after i x) (ap index_of same)
           (λ y d. inside_stays sizes z past after kept_after i x b.same b.met y d) (c.list i x within b.met was kind))
           (λ open_.
-          leads_same (word_at sizes past (second_at sizes x)) (word_at sizes after (second_at sizes x)) (IsLinkedIn sizes past x) (IsMetIn sizes after i x) (closing sizes z past e kept ok x open_ h).leads
-          (λ y d. inside_stays sizes z past after kept_after i x b.same b.met y (met_inside sizes past i b.met.pass x y d)) (head_leads sizes z past kept x within (subst IsUsed (sym was) tt) kind open_))
-      by h b (spends k _ _ _) = let d = (closing sizes z past e kept ok x (unclosed sizes z past kept x k) h).spent in absurd (cc)
-      by h b (swaps _ _ _ k _ _ _) = let d = (closing sizes z past e kept ok x (unclosed sizes z past kept x k) h).spent in absurd (cc)
+          leads_same (word_at sizes past (second_at sizes x)) (word_at sizes after (second_at sizes x))
+          (IsLinkedIn sizes past x) (IsMetIn sizes after i x) (closing sizes z past e kept ok x open_ h).leads
+          (λ y d. inside_stays sizes z past after kept_after i x b.same b.met y
+          (met_inside sizes past i b.met.pass x y d)) (head_leads sizes z past kept x within
+          (subst IsUsed (sym was) tt) kind open_))
+      by h b (spends k _ _ _) = let d = (closing sizes z past e kept ok x (unclosed sizes z past kept x k) h).spent in
+          absurd (cc)
+      by h b (swaps _ _ _ k _ _ _) = let d = (closing sizes z past e kept ok x (unclosed sizes z past kept x k) h).spent
+          in absurd (cc)
       by h b (links _ k) = absurd (cc)
       by h b (takes _ k) = absurd (cc)
       by h b (frees _ k) = absurd (cc)
@@ -222,19 +311,31 @@ met_links sizes z journal kept = kept_all sizes (MetLinks sizes) (λ past e k c 
 
 module _ (sizes : Sizes) (z : IsLayout sizes) (journal : List Event) (kept : IsKept sizes journal) (i : ℕ) where
   -- from the word of a bucket
-  pub walk_head : (pass_in sizes journal i).is_open ≡ true → (j : ℕ) → j < sizes.buckets → LeadsTo (word_at sizes journal (bucket_at sizes j)) (IsMetFirst sizes journal i j)
-  walk_head open_ j low = leads_same (word_at sizes journal (bucket_at sizes j)) (word_at sizes journal (bucket_at sizes j)) (IsLinkedFirst sizes journal j) (IsMetFirst sizes journal i j) refl (met_first sizes journal i open_ j) (bucket_leads sizes z journal kept j low)
+  pub walk_head : (pass_in sizes journal i).is_open ≡ true → (j : ℕ) → j < sizes.buckets → LeadsTo
+      (word_at sizes journal (bucket_at sizes j)) (IsMetFirst sizes journal i j)
+  walk_head open_ j low = leads_same (word_at sizes journal (bucket_at sizes j))
+      (word_at sizes journal (bucket_at sizes j)) (IsLinkedFirst sizes journal j) (IsMetFirst sizes journal i j) refl
+      (met_first sizes journal i open_ j) (bucket_leads sizes z journal kept j low)
 
   -- from the link of a node that was met
-  pub walk_link : (x : ℕ) → x < sizes.nodes → HasMet sizes journal i x → LeadsTo (word_at sizes journal (link_at sizes x)) (IsMetBehind sizes journal i x)
+  pub walk_link : (x : ℕ) → x < sizes.nodes → HasMet sizes journal i x → LeadsTo
+      (word_at sizes journal (link_at sizes x)) (IsMetBehind sizes journal i x)
   walk_link x within m = ⊎_elim
-      (λ (linked : (node_in sizes journal x).mode ≡ Linked). leads_same (word_at sizes journal (link_at sizes x)) (word_at sizes journal (link_at sizes x)) (IsLinkedBehind sizes journal x) (IsMetBehind sizes journal i x) refl (met_behind sizes journal i m.pass x) (linked_leads sizes z journal kept x within linked))
+      (λ (linked : (node_in sizes journal x).mode ≡ Linked). leads_same (word_at sizes journal (link_at sizes x))
+      (word_at sizes journal (link_at sizes x)) (IsLinkedBehind sizes journal x)
+      (IsMetBehind sizes journal i x) refl (met_behind sizes journal i m.pass x)
+      (linked_leads sizes z journal kept x within linked))
       (λ (spent : (node_in sizes journal x).mode ≡ Spent). (met_links sizes z journal kept).link i x within m spent)
       (met_modes sizes journal i x m)
 
   -- from the second word of a vertex that was met
-  pub walk_list : (x : ℕ) → x < sizes.nodes → HasMet sizes journal i x → (node_in sizes journal x).vertex ≡ true → LeadsTo (word_at sizes journal (second_at sizes x)) (IsMetIn sizes journal i x)
+  pub walk_list : (x : ℕ) → x < sizes.nodes → HasMet sizes journal i x → (node_in sizes journal x).vertex ≡ true
+      → LeadsTo (word_at sizes journal (second_at sizes x)) (IsMetIn sizes journal i x)
   walk_list x within m vertex = ⊎_elim
-      (λ (linked : (node_in sizes journal x).mode ≡ Linked). leads_same (word_at sizes journal (second_at sizes x)) (word_at sizes journal (second_at sizes x)) (IsLinkedIn sizes journal x) (IsMetIn sizes journal i x) refl (met_inside sizes journal i m.pass x) (head_leads sizes z journal kept x within (subst IsUsed (sym linked) tt) vertex (unclosed sizes z journal kept x linked)))
-      (λ (spent : (node_in sizes journal x).mode ≡ Spent). (met_links sizes z journal kept).list i x within m spent vertex)
+      (λ (linked : (node_in sizes journal x).mode ≡ Linked). leads_same (word_at sizes journal (second_at sizes x))
+      (word_at sizes journal (second_at sizes x)) (IsLinkedIn sizes journal x) (IsMetIn sizes journal i x) refl
+      (met_inside sizes journal i m.pass x) (head_leads sizes z journal kept x within
+      (subst IsUsed (sym linked) tt) vertex (unclosed sizes z journal kept x linked)))
+      (λ (spent : (node_in sizes journal x).mode ≡ Spent). (met_links sizes z journal kept).list i x within m spent
+      vertex)
       (met_modes sizes journal i x m)

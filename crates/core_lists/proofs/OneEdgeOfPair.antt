@@ -49,11 +49,13 @@ module _ (sizes : Sizes) (z : IsLayout sizes) (journal : List Event) (kept : IsK
       let there = used_there sizes journal x.index kept (λ f. let m = live.linked in absurd (cc)) in
       let used : IsUsed v.mode = subst IsUsed (sym live.linked) tt in
       let d = ((named sizes z journal kept).each x.index there).edge_link used live.edge in
-      let same : d.link ≡ j.link = value d.link j.link (sym d.is ∙ (ap (link_of journal) (sym (life_is x x.index v.tag refl live.life)) ∙ j.is)) in
+      let same : d.link ≡ j.link = value d.link j.link (sym d.is ∙
+      (ap (link_of journal) (sym (life_is x x.index v.tag refl live.life)) ∙ j.is)) in
       let from : v.source ≡ j.link.source = sym d.from ∙ ap (λ (y : Event). y.source) same in
       let at = (sources sizes z journal kept).each x.index there record { linked = live.linked; edge = live.edge } in
       let word = (((contents sizes z journal kept).each x.index there).edge used live.edge).key_word in
-      let to : j.link.key ≡ b = value j.link.key b (sym ((ends_linked sizes z journal kept).target x j.link j.is) ∙ (present_is journal j.link.target b j.target).1) in
+      let to : j.link.key ≡ b = value j.link.key b (sym ((ends_linked sizes z journal kept).target x j.link j.is) ∙
+      (present_is journal j.link.target b j.target).1) in
       record {
         life = live.life;
         source = v.source;
@@ -61,27 +63,33 @@ module _ (sizes : Sizes) (z : IsLayout sizes) (journal : List Event) (kept : IsK
         list = at.list;
         on = at.on;
         key = word ∙ (sym d.of_key ∙ (ap (λ (y : Event). y.key) same ∙ to));
-        live = (used_link sizes z journal kept x.index there used).1 ∙ ap mark_bit (unmarked_node sizes z journal kept x live j.uncut);
+        live = (used_link sizes z journal kept x.index there used).1 ∙ ap mark_bit
+            (unmarked_node sizes z journal kept x live j.uncut);
       }
 
   -- two present edges of one pair are one
-  pub one_pair : (x y : Life) (a b v w : ℕ) → present_pair journal x ≡ Some ((a, b), v) → present_pair journal y ≡ Some ((a, b), w) → x ≡ y
+  pub one_pair : (x y : Life) (a b v w : ℕ) → present_pair journal x ≡ Some ((a, b), v) → present_pair journal y ≡ Some
+      ((a, b), w) → x ≡ y
   one_pair x y a b v w h g =
       let p = of_pair x a b v h in
       let q = of_pair y a b w g in
       let one : q.source ≡ p.source = one_present sizes z journal kept q.source p.source a q.present p.present in
       let on = subst (λ (s : Life). is_listed (state sizes journal) s.index y.index ≡ true) one q.on in
-      let chain = ((lists sizes z journal kept).each p.source.index (has_open sizes journal p.source.index p.list)).chain in
-      let same : x.index ≡ y.index = one_of_key (edge_chain sizes journal p.source.index) x.index y.index chain p.on on p.live q.live (p.key ∙ sym q.key) in
+      let chain = ((lists sizes z journal kept).each p.source.index
+      (has_open sizes journal p.source.index p.list)).chain in
+      let same : x.index ≡ y.index = one_of_key (edge_chain sizes journal p.source.index) x.index y.index chain p.on on
+      p.live q.live (p.key ∙ sym q.key) in
       let tags : x.tag ≡ y.tag = p.life ∙ (ap (λ (i : ℕ). (node_in sizes journal i).tag) same ∙ sym q.life) in
       λ i. record { index = same i; tag = tags i }
 
   -- a present edge that is marked next is the only one of its pair
-  pub removed_pair : (e : Event) (a b w : ℕ) → e.kind ≡ MarkEdge → present_pair journal e.life ≡ Some ((a, b), w) → IsRemovedEdge journal e a b
+  pub removed_pair : (e : Event) (a b w : ℕ) → e.kind ≡ MarkEdge → present_pair journal e.life ≡ Some ((a, b), w)
+      → IsRemovedEdge journal e a b
   removed_pair e a b w is h = record { kind = is; weight = w; there = h; only = λ x v g. one_pair x e.life a b v w g h }
 
   -- the pair of an edge that is linked next between present vertices isn't there
-  pub new_pair : (e : Event) (a b : ℕ) → IsLinkEdge sizes journal e → present_key journal e.source ≡ Some a → present_key journal e.target ≡ Some b → weight_of (graph_of journal) a b ≡ None
+  pub new_pair : (e : Event) (a b : ℕ) → IsLinkEdge sizes journal e → present_key journal e.source ≡ Some a
+      → present_key journal e.target ≡ Some b → weight_of (graph_of journal) a b ≡ None
   new_pair e a b ok from to = by (weight_of (graph_of journal) a b) refl
     where
       by : (o : Option ℕ) → weight_of (graph_of journal) a b ≡ o → weight_of (graph_of journal) a b ≡ None
@@ -95,5 +103,8 @@ module _ (sizes : Sizes) (z : IsLayout sizes) (journal : List Event) (kept : IsK
           let has = subst (HasList sizes journal) i p.list in
           let s = link_spot sizes z journal e kept ok in
           let key : e.key ≡ b = value e.key b (sym ok.target_key ∙ (present_is journal e.target b to).1) in
-          absurd (none_of_key (edge_chain sizes journal e.source.index) s.at (word_at sizes journal (key_at sizes e.life.index)) x.0.index ((lists sizes z journal kept).each e.source.index (has_open sizes journal e.source.index has)).chain (link_can sizes z journal e kept ok s).passes on
+          absurd (none_of_key (edge_chain sizes journal e.source.index) s.at
+          (word_at sizes journal (key_at sizes e.life.index)) x.0.index
+          ((lists sizes z journal kept).each e.source.index (has_open sizes journal e.source.index has)).chain
+          (link_can sizes z journal e kept ok s).passes on
           (p.key ∙ (sym key ∙ sym ok.filled.key_word)))

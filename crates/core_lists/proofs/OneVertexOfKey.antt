@@ -24,7 +24,8 @@ module _ (sizes : Sizes) (z : IsLayout sizes) (journal : List Event) (kept : IsK
   pub vertex_of : (j : ℕ) (x : Life) → IsInBucket sizes journal j x → IsVertexOf sizes journal j x
   vertex_of j x h =
       let v = is_in sizes (state sizes journal) j x.index h.on in
-      let key = ((named sizes z journal kept).each x.index h.there).vertex_key (subst IsUsed (sym v.linked) tt) v.vertex in
+      let key = ((named sizes z journal kept).each x.index h.there).vertex_key
+      (subst IsUsed (sym v.linked) tt) v.vertex in
       record {
         key = (node_in sizes journal x.index).key;
         key_is = ap (key_of journal) (life_is x x.index (node_in sizes journal x.index).tag refl h.life) ∙ key;
@@ -33,11 +34,17 @@ module _ (sizes : Sizes) (z : IsLayout sizes) (journal : List Event) (kept : IsK
       }
 
   -- the life of a linked vertex is on the chain of its bucket
-  live_in : (j : ℕ) (x : Life) (k : ℕ) → IsLiveVertex (node_in sizes journal x.index) x.tag k → k % sizes.buckets ≡ j → IsInBucket sizes journal j x
+  live_in : (j : ℕ) (x : Life) (k : ℕ) → IsLiveVertex (node_in sizes journal x.index) x.tag k → k % sizes.buckets ≡ j
+      → IsInBucket sizes journal j x
   live_in j x k v of = record {
     there = used_there sizes journal x.index kept (λ f. let m = v.linked in absurd (cc));
     life = v.life;
-    on = in_is sizes (state sizes journal) j x.index record { linked = v.linked; vertex = v.vertex; of_bucket = ap (λ (y : ℕ). y % sizes.buckets) v.key_is ∙ of };
+    on = in_is sizes (state sizes journal) j x.index record {
+      linked = v.linked;
+      vertex = v.vertex;
+      of_bucket = ap
+          (λ (y : ℕ). y % sizes.buckets) v.key_is ∙ of;
+    };
   }
 
   -- and the other way round
@@ -45,10 +52,12 @@ module _ (sizes : Sizes) (z : IsLayout sizes) (journal : List Event) (kept : IsK
   in_bucket j x h = live_in j x h.key ((live_vertices sizes z journal kept).live x h.key h.key_is h.stays) h.of_bucket
 
   -- a present vertex isn't unlinked, so it's a linked node of its key
-  pub present_live : (x : Life) (k : ℕ) → present_key journal x ≡ Some k → IsLiveVertex (node_in sizes journal x.index) x.tag k
+  pub present_live : (x : Life) (k : ℕ) → present_key journal x ≡ Some k → IsLiveVertex
+      (node_in sizes journal x.index) x.tag k
   present_live x k h = let p = present_is journal x k h in by p.0 p.1 (unlinked journal x) refl
     where
-      by : vertex_marked journal x ≡ false → key_of journal x ≡ Some k → (b : Bool) → unlinked journal x ≡ b → IsLiveVertex (node_in sizes journal x.index) x.tag k
+      by : vertex_marked journal x ≡ false → key_of journal x ≡ Some k → (b : Bool) → unlinked journal x ≡ b
+          → IsLiveVertex (node_in sizes journal x.index) x.tag k
       by mark key false u = (live_vertices sizes z journal kept).live x k key u
       by mark key true u = let t = (live_vertices sizes z journal kept).ended x k key u in absurd (cc)
 
@@ -64,8 +73,12 @@ module _ (sizes : Sizes) (z : IsLayout sizes) (journal : List Event) (kept : IsK
       let u = present_live y k g in
       let a = present_in x k h in
       let b = present_in y k g in
-      let key_x = key_word sizes z journal kept x.index j (is_in sizes (state sizes journal) j x.index a.on) ∙ v.key_is in
-      let key_y = key_word sizes z journal kept y.index j (is_in sizes (state sizes journal) j y.index b.on) ∙ u.key_is in
-      let same : x.index ≡ y.index = same_node x.index y.index (((buckets sizes z journal kept).each j (home_low sizes z journal kept k)).chain.alone (Node x.index) (Node y.index) a.on b.on (omega (arith, key_x, key_y)) refl) in
+      let key_x = key_word sizes z journal kept x.index j (is_in sizes (state sizes journal) j x.index a.on)
+      ∙ v.key_is in
+      let key_y = key_word sizes z journal kept y.index j (is_in sizes (state sizes journal) j y.index b.on)
+      ∙ u.key_is in
+      let same : x.index ≡ y.index = same_node x.index y.index
+      (((buckets sizes z journal kept).each j (home_low sizes z journal kept k)).chain.alone (Node x.index)
+      (Node y.index) a.on b.on (omega (arith, key_x, key_y)) refl) in
       let tags : x.tag ≡ y.tag = v.life ∙ (ap (λ (i : ℕ). (node_in sizes journal i).tag) same ∙ sym u.life) in
       λ i. record { index = same i; tag = tags i }

@@ -15,12 +15,14 @@ use Rattle.core_rule.specs.Fronts.{IsLifeAt}
 use Rattle.core_rule.specs.declared.view.View.{View}
 
 module _ (v : View) (z : IsLayout v.sizes) (kept : IsKept v.sizes v.front) where
-  pub free_tag_low : (first : List Event) → IsPrefix first v.front → (seen : ℕ) → word_at v.sizes first (free_at v.sizes) ≡ seen → tag_of seen ≤ 2 ^ 37
+  pub free_tag_low : (first : List Event) → IsPrefix first v.front → (seen : ℕ) → word_at v.sizes first
+      (free_at v.sizes) ≡ seen → tag_of seen ≤ 2 ^ 37
   free_tag_low first p seen is =
       let k = kept_front v.sizes first v.front p kept in
       omega (arith, (bounds v.sizes z first k).changes, sym (ap tag_of is) ∙ (free_list v.sizes z first k).tag)
 
-  pub epoch_low : (loaded : List Event) → IsPrefix loaded v.front → (seen : ℕ) → word_at v.sizes loaded (epoch_at v.sizes) ≡ seen → seen ≤ 2 ^ 38
+  pub epoch_low : (loaded : List Event) → IsPrefix loaded v.front → (seen : ℕ) → word_at v.sizes loaded
+      (epoch_at v.sizes) ≡ seen → seen ≤ 2 ^ 38
   epoch_low loaded p seen is =
       let k = kept_front v.sizes loaded v.front p kept in
       omega (arith, (bounds v.sizes z loaded k).epoch, (numbers v.sizes loaded k).epoch, is)

@@ -24,28 +24,43 @@ use Rattle.core_kept.proofs.OwnSpent.{spent_stays}
 use Rattle.core_lists.proofs.RipeningNodes.{ripe_beyond}
 
 -- the token's pass is what it was
-pub own_pass : (v : View) (journal : List Event) → Reaches v journal → pass_in v.sizes journal v.number ≡ pass_in v.sizes v.front v.number
+pub own_pass : (v : View) (journal : List Event) → Reaches v journal
+    → pass_in v.sizes journal v.number ≡ pass_in v.sizes v.front v.number
 own_pass v journal r = pass_stays v.sizes v.number v.last v.front journal r.front r.kept r.quiet r.old
 
 -- a node that's fresh with the token is what it was, with its words
-pub own_fresh : (v : View) → IsLayout v.sizes → (journal : List Event) → Reaches v journal → (x : ℕ) → x < v.sizes.nodes → IsFreshWith v.sizes v.front v.number x → IsHeld v.sizes v.front journal x
-own_fresh v z journal r x there f = fresh_stays v.sizes z v.number v.last x there v.front journal r.front r.kept r.quiet r.old f
+pub own_fresh : (v : View) → IsLayout v.sizes → (journal : List Event) → Reaches v journal → (x : ℕ) → x < v.sizes.nodes
+    → IsFreshWith v.sizes v.front v.number x → IsHeld v.sizes v.front journal x
+own_fresh v z journal r x there f = fresh_stays v.sizes z v.number v.last x there v.front journal r.front r.kept r.quiet
+    r.old f
 
-pub still_fresh : (v : View) (journal : List Event) (x : ℕ) → IsHeld v.sizes v.front journal x → IsFreshWith v.sizes v.front v.number x → IsFreshWith v.sizes journal v.number x
-still_fresh v journal x h f = record { fresh = ap (λ (u : Node). u.mode) h.node ∙ f.fresh; mine = ap (λ (u : Node). u.who) h.node ∙ f.mine }
+pub still_fresh : (v : View) (journal : List Event) (x : ℕ) → IsHeld v.sizes v.front journal x
+    → IsFreshWith v.sizes v.front v.number x → IsFreshWith v.sizes journal v.number x
+still_fresh v journal x h f = record {
+  fresh = ap (λ (u : Node). u.mode) h.node ∙ f.fresh;
+  mine = ap
+      (λ (u : Node). u.who) h.node ∙ f.mine;
+}
 
 -- a node that's spent with the token is what it was, with its link
-pub own_spent : (v : View) → IsLayout v.sizes → (journal : List Event) → Reaches v journal → (x : ℕ) → x < v.sizes.nodes → IsSpentWith v.sizes v.front v.number x → IsKeptSpent v.sizes v.front journal x
-own_spent v z journal r x there s = spent_stays v.sizes z v.number v.last x there v.front journal r.front r.kept r.quiet r.old s
+pub own_spent : (v : View) → IsLayout v.sizes → (journal : List Event) → Reaches v journal → (x : ℕ) → x < v.sizes.nodes
+    → IsSpentWith v.sizes v.front v.number x → IsKeptSpent v.sizes v.front journal x
+own_spent v z journal r x there s = spent_stays v.sizes z v.number v.last x there v.front journal r.front r.kept r.quiet
+    r.old s
 
 -- a node that's ripe stays so
-pub still_ripe : (v : View) → IsLayout v.sizes → (journal : List Event) → Reaches v journal → (x : ℕ) → IsRipe v.sizes v.front v.number x → IsRipe v.sizes journal v.number x
-still_ripe v z journal r x ripe = ripe_beyond v.sizes z v.number v.last x v.front journal r.front r.kept r.quiet r.old ripe
+pub still_ripe : (v : View) → IsLayout v.sizes → (journal : List Event) → Reaches v journal → (x : ℕ)
+    → IsRipe v.sizes v.front v.number x → IsRipe v.sizes journal v.number x
+still_ripe v z journal r x ripe = ripe_beyond v.sizes z v.number v.last x v.front journal r.front r.kept r.quiet r.old
+    ripe
 
 -- a node is taken
-pub lift_pop : (v : View) → IsLayout v.sizes → (seen next : ℕ) → MayPopFree v seen next → (journal : List Event) → Reaches v journal → word_at v.sizes journal (free_at v.sizes) ≡ seen → IsPopFree v.sizes journal (pop_event v seen next)
+pub lift_pop : (v : View) → IsLayout v.sizes → (seen next : ℕ) → MayPopFree v seen next → (journal : List Event)
+    → Reaches v journal → word_at v.sizes journal (free_at v.sizes) ≡ seen → IsPopFree v.sizes journal
+    (pop_event v seen next)
 lift_pop v z seen next m journal r is =
-    let again = pop_again v.sizes z seen next m.there m.first m.second journal m.then (prefix_trans m.second v.front journal m.before r.front) r.kept m.word m.link is in
+    let again = pop_again v.sizes z seen next m.there m.first m.second journal m.then
+    (prefix_trans m.second v.front journal m.before r.front) r.kept m.word m.link is in
     let link : word_at v.sizes journal (link_at v.sizes (index_of seen)) ≡ next = again.0 in
     record {
       life = ap (λ (w : ℕ). tag_of w + 1) (sym link);
@@ -54,11 +69,13 @@ lift_pop v z seen next m journal r is =
       seen = ap index_of is;
       word = λ i. pack (index_of (sym link i)) 0 (tag_of (sym is i) + 1);
       holds_none = none_fresh_stays v.sizes v.number v.last v.front journal r.front r.kept r.quiet r.old m.holds_none;
-      limit = let same = made_quiet pops v.number v.last v.front journal r.front r.old r.quiet in omega (arith, same, m.limit);
+      limit = let same = made_quiet pops v.number v.last v.front journal r.front r.old r.quiet in omega
+          (arith, same, m.limit);
     }
 
 -- a word of a fresh node is stored
-pub lift_store : (v : View) → IsLayout v.sizes → (x : Life) (field word : ℕ) → MayStorePrivate v x field word → (journal : List Event) → Reaches v journal → IsStorePrivate v.sizes journal (store_event v x field word)
+pub lift_store : (v : View) → IsLayout v.sizes → (x : Life) (field word : ℕ) → MayStorePrivate v x field word →
+    (journal : List Event) → Reaches v journal → IsStorePrivate v.sizes journal (store_event v x field word)
 lift_store v z x field word m journal r =
     let h = own_fresh v z journal r x.index m.life.there m.fresh in
     record {
@@ -72,7 +89,9 @@ lift_store v z x field word m journal r =
     }
 
 -- a ripe node is given back
-pub lift_push : (v : View) → IsLayout v.sizes → (seen : ℕ) (x : Life) → MayPushFree v seen x → (journal : List Event) → Reaches v journal → word_at v.sizes journal (free_at v.sizes) ≡ seen → IsPushFree v.sizes journal (push_event v seen x)
+pub lift_push : (v : View) → IsLayout v.sizes → (seen : ℕ) (x : Life) → MayPushFree v seen x → (journal : List Event)
+    → Reaches v journal → word_at v.sizes journal (free_at v.sizes) ≡ seen → IsPushFree v.sizes journal
+    (push_event v seen x)
 lift_push v z seen x m journal r is =
     let s = own_spent v z journal r x.index m.life.there m.ripe.stamped.spent in
     record {
@@ -86,7 +105,8 @@ lift_push v z seen x m journal r is =
     }
 
 -- an epoch is announced
-pub lift_announce : (v : View) (epoch : ℕ) → MayAnnounce v epoch → (journal : List Event) → Reaches v journal → IsAnnounce v.sizes journal (announce_event v epoch)
+pub lift_announce : (v : View) (epoch : ℕ) → MayAnnounce v epoch → (journal : List Event) → Reaches v journal
+    → IsAnnounce v.sizes journal (announce_event v epoch)
 lift_announce v epoch m journal r = record {
   life = refl;
   there = m.there;
@@ -98,11 +118,20 @@ lift_announce v epoch m journal r = record {
 }
 
 -- a pass is withdrawn
-pub lift_withdraw : (v : View) → MayWithdraw v → (journal : List Event) → Reaches v journal → IsWithdraw v.sizes journal (withdraw_event v)
-lift_withdraw v m journal r = record { life = refl; there = m.there; place = refl; word = refl; pass = ap (λ (q : Pass). q.is_open) (own_pass v journal r) ∙ m.pass }
+pub lift_withdraw : (v : View) → MayWithdraw v → (journal : List Event) → Reaches v journal → IsWithdraw v.sizes journal
+    (withdraw_event v)
+lift_withdraw v m journal r = record {
+  life = refl;
+  there = m.there;
+  place = refl;
+  word = refl;
+  pass = ap
+      (λ (q : Pass). q.is_open) (own_pass v journal r) ∙ m.pass;
+}
 
 -- the epoch is moved on
-pub lift_move : (v : View) (seen : ℕ) → MayMoveEpoch v seen → (journal : List Event) → Reaches v journal → word_at v.sizes journal (epoch_at v.sizes) ≡ seen → IsMoveEpoch v.sizes journal (move_event v seen)
+pub lift_move : (v : View) (seen : ℕ) → MayMoveEpoch v seen → (journal : List Event) → Reaches v journal
+    → word_at v.sizes journal (epoch_at v.sizes) ≡ seen → IsMoveEpoch v.sizes journal (move_event v seen)
 lift_move v seen m journal r is = record {
   life = refl;
   there = m.there;
@@ -115,8 +144,10 @@ lift_move v seen m journal r is = record {
     moment = c.moment;
     after = c.after;
     before = prefix_trans c.moment v.front journal c.before r.front;
-    clear = subst (λ (w : ℕ). (word_at v.sizes c.moment (announce_at v.sizes i) ≡ 0) ⊎ (w + 1 ≤ word_at v.sizes c.moment (announce_at v.sizes i))) (sym is) c.clear;
+    clear = subst (λ (w : ℕ). (word_at v.sizes c.moment (announce_at v.sizes i) ≡ 0) ⊎
+        (w + 1 ≤ word_at v.sizes c.moment (announce_at v.sizes i))) (sym is) c.clear;
   };
   closed = ap (λ (q : Pass). q.is_open) (own_pass v journal r) ∙ m.closed;
-  limit = let same = made_quiet moves v.number v.last v.front journal r.front r.old r.quiet in omega (arith, same, m.limit);
+  limit = let same = made_quiet moves v.number v.last v.front journal r.front r.old r.quiet in omega
+      (arith, same, m.limit);
 }

@@ -1,5 +1,6 @@
 -- Nodes that are spent with a token and stand once in a list are at most as many as there are nodes.
-use Rattle.std.proofs.Common.{◌≡◌, ◌≢◌, ℕ, ◌+◌, ◌<◌, ◌≤◌, ◌==◌, ◌||◌, Bool, true, false, List, [], ◌∷◌, length, refl, ap, ap₂, arith, eq-eqb, ne_eqb}
+use Rattle.std.proofs.Common.{◌≡◌, ◌≢◌, ℕ, ◌+◌, ◌<◌, ◌≤◌, ◌==◌, ◌||◌, Bool, true, false, List, [], ◌∷◌, length, refl}
+use Rattle.std.proofs.Common.{ap, ap₂, arith, eq-eqb, ne_eqb}
 use Rattle.std.specs.List.{list_any}
 use Rattle.graph_kinds.specs.History.{Every}
 use Rattle.core_kept.specs.Kept.{IsKept}
@@ -31,15 +32,33 @@ behind_in xs x y h = by (x == y)
 -- so many numbers stand there
 counted_in : (n : ℕ) (xs : List ℕ) → AreApart xs → Every (λ x. x < n) xs → length xs ≤ count_below (stands_in xs) n
 counted_in n [] apart low = omega arith
-counted_in n (x ∷ xs) apart low = omega (arith, counted_in n xs apart.1 low.1, count_more (stands_in xs) (stands_in (x ∷ xs)) n x low.0 (not_in xs x apart.0) (here_in xs x) (λ y _ h. behind_in xs x y h))
+counted_in n (x ∷ xs) apart low = omega (
+  arith,
+  counted_in n xs apart.1 low.1,
+  count_more (stands_in xs)
+      (stands_in (x ∷ xs)) n x low.0 (not_in xs x apart.0) (here_in xs x) (λ y _ h. behind_in xs x y h),
+)
 
-spent_there : (v : View) → IsKept v.sizes v.front → (xs : List ℕ) → Every (λ x. IsSpentWith v.sizes v.front v.number x) xs → Every (λ x. x < v.sizes.nodes) xs
+spent_there : (v : View) → IsKept v.sizes v.front → (xs : List ℕ) → Every
+    (λ x. IsSpentWith v.sizes v.front v.number x) xs → Every (λ x. x < v.sizes.nodes) xs
 spent_there v kept [] h = tt
-spent_there v kept (x ∷ xs) h = (used_there v.sizes v.front x kept (λ e. let s = h.0.spent in absurd (cc)), spent_there v kept xs h.1)
+spent_there v kept (x ∷ xs) h = (
+  used_there v.sizes v.front x kept
+      (λ e. let s = h.0.spent in absurd (cc)),
+  spent_there v kept xs h.1,
+)
 
-pub spent_fit : (v : View) → IsKept v.sizes v.front → (xs : List ℕ) → AreApart xs → Every (λ x. IsSpentWith v.sizes v.front v.number x) xs → length xs ≤ v.sizes.nodes
-spent_fit v kept xs apart spent = omega (arith, counted_in v.sizes.nodes xs apart (spent_there v kept xs spent), count_at_most (stands_in xs) v.sizes.nodes)
+pub spent_fit : (v : View) → IsKept v.sizes v.front → (xs : List ℕ) → AreApart xs → Every
+    (λ x. IsSpentWith v.sizes v.front v.number x) xs → length xs ≤ v.sizes.nodes
+spent_fit v kept xs apart spent = omega (
+  arith,
+  counted_in v.sizes.nodes xs apart
+      (spent_there v kept xs spent),
+  count_at_most (stands_in xs) v.sizes.nodes,
+)
 
 -- and where another node is spent with the token, there's room for it
-pub room_for_one : (v : View) → IsKept v.sizes v.front → (xs : List ℕ) → AreApart xs → Every (λ x. IsSpentWith v.sizes v.front v.number x) xs → (x : ℕ) → IsSpentWith v.sizes v.front v.number x → Every (λ y. y ≢ x) xs → length xs + 1 ≤ v.sizes.nodes
+pub room_for_one : (v : View) → IsKept v.sizes v.front → (xs : List ℕ) → AreApart xs → Every
+    (λ x. IsSpentWith v.sizes v.front v.number x) xs → (x : ℕ) → IsSpentWith v.sizes v.front v.number x → Every
+    (λ y. y ≢ x) xs → length xs + 1 ≤ v.sizes.nodes
 room_for_one v kept xs apart spent x mine out = omega (arith, spent_fit v kept (x ∷ xs) (out, apart) (mine, spent))

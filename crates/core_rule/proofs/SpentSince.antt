@@ -1,5 +1,7 @@
--- The nodes that a token has spent since its pass began are never fewer, one more at each of its unlinks, and at most all.
-use Rattle.std.proofs.Common.{◌≡◌, ◌≢◌, ℕ, zero, suc, ◌+◌, ◌<◌, ◌≤◌, ◌&&◌, Bool, true, false, cond, ltb, List, [], ◌∷◌, ◌++◌, Some, refl, sym, ap, ap₂, ◌∙◌, subst, arith, eqb-true, eq-eqb}
+-- The nodes that a token has spent since its pass began are never fewer, one more at each of its unlinks, and at most
+-- all.
+use Rattle.std.proofs.Common.{◌≡◌, ◌≢◌, ℕ, zero, suc, ◌+◌, ◌<◌, ◌≤◌, ◌&&◌, Bool, true, false, cond, ltb, List, [], ◌∷◌}
+use Rattle.std.proofs.Common.{◌++◌, Some, refl, sym, ap, ap₂, ◌∙◌, subst, arith, eqb-true, eq-eqb}
 use Rattle.std.proofs.lemmas.Bool.{and_parts, ltb-true, lt-ltb}
 use mathlib.Core.Logic.{dite}
 use native.Mathlib.Decide.{ℕ_discrete}
@@ -32,18 +34,30 @@ one_no_less : (b c : Bool) → (b ≡ true → c ≡ true) → cond b 1 0 ≤ co
 one_no_less true c h = subst (λ (d : Bool). 1 ≤ cond d 1 0) (sym (h refl)) (omega arith)
 one_no_less false c h = omega arith
 
-count_no_less : (f g : ℕ → Bool) (n : ℕ) → ((x : ℕ) → x < n → f x ≡ true → g x ≡ true) → count_below f n ≤ count_below g n
+count_no_less : (f g : ℕ → Bool) (n : ℕ) → ((x : ℕ) → x < n → f x ≡ true → g x ≡ true)
+    → count_below f n ≤ count_below g n
 count_no_less f g zero h = omega arith
-count_no_less f g (suc n) h = omega (arith, one_no_less (f n) (g n) (h n (omega arith)), count_no_less f g n (λ x low. h x (omega (arith, low))))
+count_no_less f g (suc n) h = omega (
+  arith,
+  one_no_less (f n) (g n) (h n (omega arith)),
+  count_no_less f g n
+      (λ x low. h x (omega (arith, low))),
+)
 
-pub count_more : (f g : ℕ → Bool) (n x : ℕ) → x < n → f x ≡ false → g x ≡ true → ((y : ℕ) → y < n → f y ≡ true → g y ≡ true) → count_below f n + 1 ≤ count_below g n
+pub count_more : (f g : ℕ → Bool) (n x : ℕ) → x < n → f x ≡ false → g x ≡ true →
+    ((y : ℕ) → y < n → f y ≡ true → g y ≡ true) → count_below f n + 1 ≤ count_below g n
 count_more f g zero x low fails passes h = absurd (omega (arith, low))
 count_more f g (suc n) x low fails passes h = dite (ℕ_discrete x n)
     (λ is.
     let a : ◌≡◌ {A = ℕ} (cond (f n) 1 0) 0 = ap (λ (b : Bool). cond b 1 0) (ap f (sym is) ∙ fails) in
     let b : ◌≡◌ {A = ℕ} (cond (g n) 1 0) 1 = ap (λ (b : Bool). cond b 1 0) (ap g (sym is) ∙ passes) in
     omega (arith, a, b, count_no_less f g n (λ y below. h y (omega (arith, below)))))
-    (λ ne. omega (arith, one_no_less (f n) (g n) (h n (omega arith)), count_more f g n x (omega (arith, low, ne)) fails passes (λ y below. h y (omega (arith, below)))))
+    (λ ne. omega (
+      arith,
+      one_no_less (f n) (g n) (h n (omega arith)),
+      count_more f g n x
+          (omega (arith, low, ne)) fails passes (λ y below. h y (omega (arith, below))),
+    ))
 
 pub count_at_most : (f : ℕ → Bool) (n : ℕ) → count_below f n ≤ n
 count_at_most f zero = omega arith
@@ -70,17 +84,27 @@ after_test n caller since h =
     by _ t = absurd (cc)
 
 test_after : (n : Node) (caller since : ℕ) → IsSpentAfter n caller since → is_spent_since n caller since ≡ true
-test_after n caller since h = ap₂ (λ (a b : Bool). a && b) (ap is_spent h.spent) (ap₂ (λ (a b : Bool). a && b) (eq-eqb n.who caller h.mine) (lt-ltb since n.ended h.later))
+test_after n caller since h = ap₂ (λ (a b : Bool). a && b) (ap is_spent h.spent)
+    (ap₂ (λ (a b : Bool). a && b) (eq-eqb n.who caller h.mine) (lt-ltb since n.ended h.later))
 
 -- a node that the pass has met and that its caller spent is spent with it while the pass is open
-module _ (sizes : Sizes) (z : IsLayout sizes) (c x : ℕ) (front : List Event) (opened : (pass_in sizes front c).is_open ≡ true) (m : HasMet sizes front c x) (f : IsSpentWith sizes front c x) where
-  same_from : (journal : List Event) → IsPrefix front journal → pass_in sizes journal c ≡ pass_in sizes front c → IsSamePass sizes front journal c
-  same_from journal p same = record { before = p; open_still = ap (λ (q : Pass). q.is_open) same ∙ opened; since = ap (λ (q : Pass). q.since) same }
+module _ (sizes : Sizes) (z : IsLayout sizes) (c x : ℕ) (front : List Event)
+    (opened : (pass_in sizes front c).is_open ≡ true) (m : HasMet sizes front c x)
+    (f : IsSpentWith sizes front c x) where
+  same_from : (journal : List Event) → IsPrefix front journal → pass_in sizes journal c ≡ pass_in sizes front c
+      → IsSamePass sizes front journal c
+  same_from journal p same = record {
+    before = p;
+    open_still = ap (λ (q : Pass). q.is_open) same ∙ opened;
+    since = ap
+        (λ (q : Pass). q.since) same;
+  }
 
   abbrev IsOn : List Event → Type 0
   IsOn j = IsPrefix front j × (pass_in sizes j c ≡ pass_in sizes front c → IsSpentWith sizes j c x)
 
-  on_step : (past : List Event) (e : Event) → IsKept sizes past → IsOn past → Allowed sizes past e → IsOn (past ++ e ∷ [])
+  on_step : (past : List Event) (e : Event) → IsKept sizes past → IsOn past → Allowed sizes past e → IsOn
+      (past ++ e ∷ [])
   on_step past e kept h ok =
       let now = kept_snoc sizes past e kept ok in (
         prefix_trans front past (past ++ e ∷ []) h.0 (prefix_snoc past e),
@@ -88,21 +112,38 @@ module _ (sizes : Sizes) (z : IsLayout sizes) (c x : ℕ) (front : List Event) (
             let was = pass_between sizes c front past (past ++ e ∷ []) now h.0 (prefix_snoc past e) opened same in
             let met = (still_met sizes z front past kept c x (same_from past h.0 was) m).0 in
             (spent_still sizes past e now z c x
-            (λ is at. ripe_not_met sizes z past kept e.caller c x (subst (λ (i : ℕ). IsRipe sizes past e.caller i) at (allowed_as sizes past e now PushFree is).ripe) met)
+            (λ is at. ripe_not_met sizes z past kept e.caller c x
+            (subst (λ (i : ℕ). IsRipe sizes past e.caller i) at (allowed_as sizes past e now PushFree is).ripe) met)
             (h.1 was)).0,
       )
 
-  pub spent_on : (journal : List Event) → IsPrefix front journal → IsKept sizes journal → pass_in sizes journal c ≡ pass_in sizes front c → IsSpentWith sizes journal c x
-  spent_on journal p kept same = (kept_onward sizes IsOn on_step front journal p kept (prefix_refl front, λ _. f)).1 same
+  pub spent_on : (journal : List Event) → IsPrefix front journal → IsKept sizes journal
+      → pass_in sizes journal c ≡ pass_in sizes front c → IsSpentWith sizes journal c x
+  spent_on journal p kept same = (kept_onward sizes IsOn on_step front journal p kept (prefix_refl front, λ _. f)).1
+      same
 
-  spent_after : (journal : List Event) → IsPrefix front journal → IsKept sizes journal → pass_in sizes journal c ≡ pass_in sizes front c → IsSpentAfter (node_in sizes journal x) c (pass_in sizes journal c).since
+  spent_after : (journal : List Event) → IsPrefix front journal → IsKept sizes journal
+      → pass_in sizes journal c ≡ pass_in sizes front c → IsSpentAfter (node_in sizes journal x) c
+      (pass_in sizes journal c).since
   spent_after journal p kept same =
       let s = spent_on journal p kept same in
-      record { spent = s.spent; mine = s.mine; later = (still_met sizes z front journal kept c x (same_from journal p same) m).0.spent s.spent }
+      record {
+        spent = s.spent;
+        mine = s.mine;
+        later = (still_met sizes z front journal kept c x
+            (same_from journal p same) m).0.spent s.spent;
+      }
 
 -- what the test of a node says of the pass
-met_after : (v : View) (x : ℕ) → HasPass v → IsSpentAfter (node_in v.sizes v.front x) v.number (pass_in v.sizes v.front v.number).since → HasMet v.sizes v.front v.number x
-met_after v x opened h = record { pass = opened; free = λ e. let s = h.spent in absurd (cc); fresh = λ e. let s = h.spent in absurd (cc); spent = λ _. h.later }
+met_after : (v : View) (x : ℕ) → HasPass v → IsSpentAfter (node_in v.sizes v.front x) v.number
+    (pass_in v.sizes v.front v.number).since → HasMet v.sizes v.front v.number x
+met_after v x opened h = record {
+  pass = opened;
+  free = λ e. let s = h.spent in absurd
+      (cc);
+  fresh = λ e. let s = h.spent in absurd (cc);
+  spent = λ _. h.later;
+}
 
 -- whether a node of a view was spent since the pass began
 abbrev pub counts : View → ℕ → Bool
@@ -115,25 +156,40 @@ module _ (v w : View) (z : IsLayout v.sizes) (g : GoesOn v w) (opened : HasPass 
   still_counts : (x : ℕ) → counts v x ≡ true → counts w x ≡ true
   still_counts x h =
       let t = after_test (node_in v.sizes v.front x) v.number (pass_in v.sizes v.front v.number).since h in
-      let s = spent_after v.sizes z v.number x v.front opened (met_after v x opened t) record { spent = t.spent; mine = t.mine } w.front g.grows g.kept g.pass in
-      subst (λ (u : View). counts u x ≡ true) (sym g.view) (test_after (node_in v.sizes w.front x) v.number (pass_in v.sizes w.front v.number).since s)
+      let s = spent_after v.sizes z v.number x v.front opened
+      (met_after v x opened t) record { spent = t.spent; mine = t.mine } w.front g.grows g.kept g.pass in
+      subst (λ (u : View). counts u x ≡ true) (sym g.view) (test_after (node_in v.sizes w.front x) v.number
+      (pass_in v.sizes w.front v.number).since s)
 
   same_nodes : count_below (counts w) w.sizes.nodes ≡ count_below (counts w) v.sizes.nodes
   same_nodes = ap (λ (u : View). count_below (counts w) u.sizes.nodes) g.view
 
   pub spent_since_grows : spent_since v ≤ spent_since w
-  spent_since_grows = omega (arith, same_nodes, count_no_less (counts v) (counts w) v.sizes.nodes (λ x low h. still_counts x h))
+  spent_since_grows = omega (
+    arith,
+    same_nodes,
+    count_no_less (counts v) (counts w) v.sizes.nodes
+        (λ x low h. still_counts x h),
+  )
 
-  pub spent_since_one : (x : ℕ) → x < v.sizes.nodes → counts v x ≡ false → counts w x ≡ true → spent_since v + 1 ≤ spent_since w
-  spent_since_one x there old new = omega (arith, same_nodes, count_more (counts v) (counts w) v.sizes.nodes x there old new (λ y low h. still_counts y h))
+  pub spent_since_one : (x : ℕ) → x < v.sizes.nodes → counts v x ≡ false → counts w x ≡ true
+      → spent_since v + 1 ≤ spent_since w
+  spent_since_one x there old new = omega (
+    arith,
+    same_nodes,
+    count_more (counts v)
+        (counts w) v.sizes.nodes x there old new (λ y low h. still_counts y h),
+  )
 
 -- an own unlink
-module _ (v w : View) (e : Event) (z : IsLayout v.sizes) (t : Steps v (Some e) w) (by : e.caller ≡ v.number) (opened : HasPass v) where
+module _ (v w : View) (e : Event) (z : IsLayout v.sizes) (t : Steps v (Some e) w) (by : e.caller ≡ v.number)
+    (opened : HasPass v) where
   kept_end : IsKept v.sizes (t.grown ++ e ∷ [])
   kept_end = subst (IsKept v.sizes) t.front t.kept
 
   pass_grown : pass_in v.sizes t.grown v.number ≡ pass_in v.sizes v.front v.number
-  pass_grown = pass_stays v.sizes v.number v.last v.front t.grown t.reaches.front t.reaches.kept t.reaches.quiet t.reaches.old
+  pass_grown = pass_stays v.sizes v.number v.last v.front t.grown t.reaches.front t.reaches.kept t.reaches.quiet
+      t.reaches.old
 
   -- the node was linked before the event, and so it wasn't counted
   not_counted : (node_in v.sizes t.grown e.life.index).mode ≡ Linked → counts v e.life.index ≡ false
@@ -144,18 +200,36 @@ module _ (v w : View) (e : Event) (z : IsLayout v.sizes) (t : Steps v (Some e) w
       by_test true is =
           let i = e.life.index in
           let h = after_test (node_in v.sizes v.front i) v.number (pass_in v.sizes v.front v.number).since is in
-          let s = spent_on v.sizes z v.number i v.front opened (met_after v i opened h) record { spent = h.spent; mine = h.mine } t.grown t.reaches.front t.reaches.kept pass_grown in
+          let s = spent_on v.sizes z v.number i v.front opened
+          (met_after v i opened h) record { spent = h.spent; mine = h.mine } t.grown t.reaches.front t.reaches.kept
+          pass_grown in
           let m = s.spent in absurd (cc)
 
-  now_counted : (node_in v.sizes t.grown e.life.index).mode ≡ Linked → IsSpentWith v.sizes (t.grown ++ e ∷ []) e.caller e.life.index → pass_in v.sizes (t.grown ++ e ∷ []) v.number ≡ pass_in v.sizes t.grown v.number → counts w e.life.index ≡ true
+  now_counted : (node_in v.sizes t.grown e.life.index).mode ≡ Linked → IsSpentWith v.sizes
+      (t.grown ++ e ∷ []) e.caller e.life.index → pass_in v.sizes
+      (t.grown ++ e ∷ []) v.number ≡ pass_in v.sizes t.grown v.number → counts w e.life.index ≡ true
   now_counted linked f same =
       let i = e.life.index in
       let o : (pass_in v.sizes t.grown v.number).is_open ≡ true = ap (λ (q : Pass). q.is_open) pass_grown ∙ opened in
-      let m : HasMet v.sizes t.grown v.number i = record { pass = o; free = λ h. absurd (cc); fresh = λ h. absurd (cc); spent = λ h. absurd (cc) } in
-      let p : IsSamePass v.sizes t.grown (t.grown ++ e ∷ []) v.number = record { before = prefix_snoc t.grown e; open_still = ap (λ (q : Pass). q.is_open) same ∙ o; since = ap (λ (q : Pass). q.since) same } in
+      let m : HasMet v.sizes t.grown v.number i = record {
+        pass = o;
+        free = λ h. absurd (cc);
+        fresh = λ h. absurd
+            (cc);
+        spent = λ h. absurd (cc);
+      } in
+      let p : IsSamePass v.sizes t.grown (t.grown ++ e ∷ []) v.number = record {
+        before = prefix_snoc t.grown e;
+        open_still = ap (λ (q : Pass). q.is_open) same ∙ o;
+        since = ap
+            (λ (q : Pass). q.since) same;
+      } in
       let later = (still_met v.sizes z t.grown (t.grown ++ e ∷ []) kept_end v.number i p m).0.spent f.spent in
-      let h : counts (record v { front = t.grown ++ e ∷ [] }) i ≡ true = test_after (node_in v.sizes (t.grown ++ e ∷ []) i) v.number (pass_in v.sizes (t.grown ++ e ∷ []) v.number).since record { spent = f.spent; mine = f.mine ∙ by; later = later } in
-      subst (λ (u : View). counts u i ≡ true) (sym t.view) (subst (λ (j : List Event). counts (record v { front = j }) i ≡ true) (sym t.front) h)
+      let h : counts (record v { front = t.grown ++ e ∷ [] }) i ≡ true = test_after
+      (node_in v.sizes (t.grown ++ e ∷ []) i) v.number (pass_in v.sizes (t.grown ++ e ∷ []) v.number).since record
+      { spent = f.spent; mine = f.mine ∙ by; later = later } in
+      subst (λ (u : View). counts u i ≡ true) (sym t.view) (subst
+      (λ (j : List Event). counts (record v { front = j }) i ≡ true) (sym t.front) h)
 
   pub unlink_counts : unlinks e.kind ≡ true → spent_since v + 1 ≤ spent_since w
   unlink_counts is = by_kind e.kind refl is
@@ -168,10 +242,13 @@ module _ (v w : View) (e : Event) (z : IsLayout v.sizes) (t : Steps v (Some e) w
           let ok = allowed_as v.sizes t.grown e kept_end UnlinkVertex k in
           let s = (vertex_spent v.sizes t.grown e kept_end z k).0 in
           let same = pass_kept v.sizes t.grown e kept_end (λ h. absurd (cc)) (λ h. absurd (cc)) v.number in
-          spent_since_one v w z (on (λ h. absurd (cc)) (λ h. absurd (cc))) opened e.life.index ok.there (not_counted ok.linked.linked) (now_counted ok.linked.linked record { spent = s.spent; mine = s.mine } same)
+          spent_since_one v w z (on (λ h. absurd (cc)) (λ h. absurd (cc))) opened e.life.index ok.there
+          (not_counted ok.linked.linked) (now_counted ok.linked.linked record { spent = s.spent; mine = s.mine }
+          same)
       by_kind UnlinkEdge k u =
           let ok = allowed_as v.sizes t.grown e kept_end UnlinkEdge k in
           let s = (edge_spent v.sizes t.grown e kept_end k).0 in
           let same = pass_kept v.sizes t.grown e kept_end (λ h. absurd (cc)) (λ h. absurd (cc)) v.number in
-          spent_since_one v w z (on (λ h. absurd (cc)) (λ h. absurd (cc))) opened e.life.index ok.there (not_counted ok.linked.linked) (now_counted ok.linked.linked s same)
+          spent_since_one v w z (on (λ h. absurd (cc)) (λ h. absurd (cc))) opened e.life.index ok.there
+          (not_counted ok.linked.linked) (now_counted ok.linked.linked s same)
       by_kind _ k u = absurd (cc)

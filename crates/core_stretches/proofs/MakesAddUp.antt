@@ -1,5 +1,6 @@
 -- Loads, won steps and stores as what a token made, and one stretch behind another.
-use Rattle.std.proofs.Common.{◌≡◌, ℕ, ◌<◌, ◌≤◌, true, List, [], ◌∷◌, ◌++◌, length, append-nil, None, Some, Option, refl, sym, ap, ◌∙◌, subst, arith, ⊎_elim}
+use Rattle.std.proofs.Common.{◌≡◌, ℕ, ◌<◌, ◌≤◌, true, List, [], ◌∷◌, ◌++◌, length, append-nil, None, Some, Option, refl}
+use Rattle.std.proofs.Common.{sym, ap, ◌∙◌, subst, arith, ⊎_elim}
 use Rattle.std.specs.Prelude.{slice_get}
 use Rattle.std.proofs.lemmas.Bool.{cases_lt}
 use Rattle.packed_link.specs.Layout.{Sizes}
@@ -28,9 +29,11 @@ look_first u v w own a b =
         quiet = record {
           none = λ k e far at by. ⊎_elim
               (λ (low : k < length v.front).
-              let at' : slice_get v.front k ≡ Some e = sym (get_back v.front p.rest k low) ∙ subst (λ (j : List Event). slice_get j k ≡ Some e) (sym p.whole) at in
+              let at' : slice_get v.front k ≡ Some e = sym (get_back v.front p.rest k low) ∙ subst
+              (λ (j : List Event). slice_get j k ≡ Some e) (sym p.whole) at in
               a.reaches.quiet.none k e far (subst (λ (j : List Event). slice_get j k ≡ Some e) front at') by)
-              (λ (high : length v.front ≤ k). b.reaches.quiet.none k e (let o = b.reaches.old in omega (arith, o, high)) at (by ∙ sym g.1))
+              (λ (high : length v.front ≤ k). b.reaches.quiet.none k e
+              (let o = b.reaches.old in omega (arith, o, high)) at (by ∙ sym g.1))
               (cases_lt k (length v.front));
         };
         old = a.reaches.old;
@@ -57,18 +60,38 @@ pub makes_look : (v w : View) (place found : ℕ) → v.numbered ≡ true → Is
 makes_look v w place found has s l = record { steps = look_steps v place found w has s l }
 
 -- a step that won made its event
-pub makes_won : (v w : View) (place found : ℕ) (e : Event) → v.numbered ≡ true → IsSound v → e.caller ≡ v.number → Won v place found e w → Makes v (e ∷ []) w
-makes_won v w place found e has s by won = record { steps = (w, by, win_steps v place found e w has s won, self_steps w (ap (λ (x : View). x.numbered) won.view ∙ has) won.sound) }
+pub makes_won : (v w : View) (place found : ℕ) (e : Event) → v.numbered ≡ true → IsSound v → e.caller ≡ v.number
+    → Won v place found e w → Makes v (e ∷ []) w
+makes_won v w place found e has s by won = record {
+  steps = (
+    w,
+    by,
+    win_steps v place found e w has s won,
+    self_steps w
+        (ap (λ (x : View). x.numbered) won.view ∙ has) won.sound,
+  );
+}
 
 -- and so did a store
-pub makes_stored : (v w : View) (e : Event) → v.numbered ≡ true → IsSound v → e.caller ≡ v.number → Stored v e w → Makes v (e ∷ []) w
-makes_stored v w e has s by st = record { steps = (w, by, store_steps v e w has s st, self_steps w (ap (λ (x : View). x.numbered) st.view ∙ has) st.sound) }
+pub makes_stored : (v w : View) (e : Event) → v.numbered ≡ true → IsSound v → e.caller ≡ v.number → Stored v e w
+    → Makes v (e ∷ []) w
+makes_stored v w e has s by st = record {
+  steps = (
+    w,
+    by,
+    store_steps v e w has s st,
+    self_steps w
+        (ap (λ (x : View). x.numbered) st.view ∙ has) st.sound,
+  );
+}
 
 -- one stretch behind another
-chain_by : (u v w : View) (first second : List Event) → StepsBy u first v → StepsBy v second w → StepsBy u (first ++ second) w
+chain_by : (u v w : View) (first second : List Event) → StepsBy u first v → StepsBy v second w → StepsBy u
+    (first ++ second) w
 chain_by u v w [] [] a b = look_first u v w None a b
 chain_by u v w [] (e ∷ es) a (m, by, s, rest) = (m, by ∙ (step_view u v None a).1, look_first u v m (Some e) a s, rest)
 chain_by u v w (e ∷ es) second (m, by, s, rest) b = (m, by, s, chain_by m v w es second rest b)
 
-pub makes_chain : (u v w : View) (first second : List Event) → Makes u first v → Makes v second w → Makes u (first ++ second) w
+pub makes_chain : (u v w : View) (first second : List Event) → Makes u first v → Makes v second w → Makes u
+    (first ++ second) w
 makes_chain u v w first second a b = record { steps = chain_by u v w first second a.steps b.steps }

@@ -47,7 +47,8 @@ pub record IsUnlinkedVertex (v : View) (x : Life) : Type 0 where
   pub spent : IsSpentVertex v.sizes v.front v.number x.index
   pub list : KeepsList v.sizes v.front x.index
 
--- a spent node may be retired: the lists that may lead to it are frozen to their ends, all but that which is being frozen
+-- a spent node may be retired: the lists that may lead to it are frozen to their ends, all but that which is being
+-- frozen
 pub record IsRetirable (but : Option ℕ) (v : View) (x : Life) : Type 0 where
   pub held : IsHeldSpent v x
   pub own_list : (node_in v.sizes v.front x.index).vertex ≡ true → IsFrozenToEnd v.sizes v.front x.index

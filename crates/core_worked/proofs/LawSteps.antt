@@ -22,7 +22,7 @@ use Rattle.core_kept.proofs.BucketWords.{bucket_unmarked}
 use Rattle.core_kept.proofs.CutEdges.{cut_was_linked}
 use Rattle.core_kept.proofs.PassBetween.{pass_between}
 use Rattle.core_lists.specs.Chains.{KeepsList}
-use Rattle.core_lists.proofs.FreezingLeaves.{frozen_leaves}
+use Rattle.core_lists.proofs.EffectOfKinds.{frozen_leaves}
 use Rattle.core_lists.proofs.FrozenPathIsList.{path_all}
 use Rattle.core_lists.proofs.FrozenToEndIsList.{has_keeps}
 use Rattle.core_lists.proofs.ListedWords.{listed_key, listed_linked}
@@ -54,10 +54,10 @@ use Rattle.core_worked.proofs.TwoLives.{before, event, two_lives_kept}
 use Rattle.core_worked.proofs.TwoLivesShown.{small_layout}
 
 -- a front of the worked journal is kept, and begins a longer one
-kept : (n : ℕ) → IsKept small (before n)
+pub kept : (n : ℕ) → IsKept small (before n)
 kept n = front_kept two_lives two_lives_kept n
 
-longer : (n m : ℕ) → before n ++ drop n (before m) ≡ before m → IsPrefix (before n) (before m)
+pub longer : (n m : ℕ) → before n ++ drop n (before m) ≡ before m → IsPrefix (before n) (before m)
 longer n m is = record { rest = drop n (before m); whole = is }
 
 -- laws of core_journal and core_kept
@@ -77,7 +77,7 @@ cut_linked = cut_was_linked small small_layout (before 28) (event 28) (kept 29) 
 
 -- laws of core_lists
 
-keeps_38 : KeepsList small (before 38) 0
+pub keeps_38 : KeepsList small (before 38) 0
 unfolding state
 keeps_38 = has_keeps small small_layout (before 38) (kept 38) 0 (record { there = lit< tt; used = tt; vertex = refl; unfinished = λ f. true≢false (sym (f.edges 3 refl)) })
 
@@ -91,16 +91,16 @@ linked_listed = listed_linked small small_layout (before 38) (kept 38) 0 3 (lit<
 
 -- steps of caller 0: a store to the fresh node 3, the unlink of a vertex, the freezing of an edge, and the store of a link
 
-stored : Steps (view_at 0 34) (Some (event 34)) (view_behind 34)
+pub stored : Steps (view_at 0 34) (Some (event 34)) (view_behind 34)
 stored = record { view = refl; grown = before 34; reaches = makes_store.reaches; front = refl; kept = kept 35 }
 
-unlinked : Steps (view_at 0 41) (Some (event 41)) (view_behind 41)
+pub unlinked : Steps (view_at 0 41) (Some (event 41)) (view_behind 41)
 unlinked = record { view = refl; grown = before 41; reaches = makes_unlink_vertex.reaches; front = refl; kept = kept 42 }
 
-frozen : Steps (view_at 0 43) (Some (event 43)) (view_behind 43)
+pub frozen : Steps (view_at 0 43) (Some (event 43)) (view_behind 43)
 frozen = record { view = refl; grown = before 43; reaches = makes_freeze_edge.reaches; front = refl; kept = kept 44 }
 
-given : Steps (view_at 0 47) (Some (event 47)) (view_behind 47)
+pub given : Steps (view_at 0 47) (Some (event 47)) (view_behind 47)
 given = record { view = refl; grown = before 47; reaches = makes_store_edge.reaches; front = refl; kept = kept 48 }
 
 -- the unlink alone was made, elsewhere than at the link of node 1
@@ -110,18 +110,18 @@ own_elsewhere = own_event (Elsewhere (link_at small 1)) (view_at 0 41) (view_beh
     apart : bucket_at small 0 ≡ link_at small 1 → ⊥
     apart is = absurd (omega (arith, is))
 
-opened_41 : HasPass (view_at 0 41)
+pub opened_41 : HasPass (view_at 0 41)
 unfolding state
 opened_41 = refl
 
-goes_41 : GoesOn (view_at 0 41) (view_behind 43)
+pub goes_41 : GoesOn (view_at 0 41) (view_behind 43)
 unfolding state
 goes_41 = record { view = refl; grows = longer 41 44 refl; kept = kept 44; pass = refl }
 
 pub moment_between : GoesOn (view_at 0 41) (moved_on (view_at 0 41) (before 42) 41)
 moment_between = (goes_between (view_at 0 41) (view_behind 43) goes_41 opened_41 (before 42) (longer 41 42 refl) (longer 42 44 refl)).0
 
-alike_41 : IsAlike (view_at 0 41) (view_drawing 41)
+pub alike_41 : IsAlike (view_at 0 41) (view_drawing 41)
 alike_41 = record { sizes = refl; front = refl; number = refl }
 
 pub met_drawing : MetVertex (view_drawing 41) (first_life 0)
@@ -170,7 +170,7 @@ spent_2_kept = (own_spent_by_kind (view_at 0 43) (view_behind 43) (Some (event 4
 
 -- what second words tell
 
-met_0 : MetVertex (view_at 0 43) (first_life 0)
+pub met_0 : MetVertex (view_at 0 43) (first_life 0)
 unfolding state
 met_0 = record { life = record { there = lit< tt; tag = refl }; met = record { pass = refl; free = λ h. absurd (cc); fresh = λ h. absurd (cc); spent = λ _. lit< tt }; vertex = refl }
 
@@ -178,7 +178,7 @@ pub head_tells : vertex_marked (before 43) (first_life 0) ≡ true
 unfolding machine word_at
 head_tells = (head_marked (view_at 0 43) small_layout (kept 43) (first_life 0) met_0 refl).1
 
-met_3 : MetEdge (view_at 0 41) (first_life 0) (first_life 3)
+pub met_3 : MetEdge (view_at 0 41) (first_life 0) (first_life 3)
 unfolding state
 met_3 = met_edge (view_at 0 41) 3 (lit< tt) refl refl refl refl refl
 
@@ -190,7 +190,7 @@ target_stays = (edge_words_still (view_at 0 41) (view_behind 43) small_layout go
 
 -- freezing and retiring
 
-keeps_44 : KeepsList small (before 44) 0
+pub keeps_44 : KeepsList small (before 44) 0
 unfolding state
 keeps_44 = (own_list).1
   where
@@ -208,7 +208,7 @@ freezing_leaves = frozen_leaves small small_layout (before 43) (event 43) (kept 
 pub edge_stays_behind : is_listed (state small (before 43)) 0 3 ≡ true
 edge_stays_behind = (edge_behind (view_at 0 43) small_layout (before 43) makes_freeze_edge.reaches (first_life 0) (second_at small 0) (first_life 3) may_freeze_edge).2
 
-retired_3 : IsRetired None (view_at 0 47) (first_life 3) 2
+pub retired_3 : IsRetired None (view_at 0 47) (first_life 3) 2
 unfolding machine word_at state
 retired_3 = record {
   life = may_store_edge.life;
@@ -221,7 +221,7 @@ retired_3 = record {
 pub retired_behind : IsRetired None (view_behind 47) (first_life 3) 2
 retired_behind = retired_still (view_at 0 47) (view_behind 47) (Some (event 47)) small_layout given None (first_life 3) 2 (λ h. absurd (cc)) retired_3
 
-spent_at_44 : (x : ℕ) → (node_in small (before 44) x).mode ≡ Spent → (node_in small (before 44) x).who ≡ 0 → IsSpentWith small (before 44) 0 x
+pub spent_at_44 : (x : ℕ) → (node_in small (before 44) x).mode ≡ Spent → (node_in small (before 44) x).who ≡ 0 → IsSpentWith small (before 44) 0 x
 spent_at_44 x spent mine = record { spent = spent; mine = mine }
 
 pub room_at_44 : length {A = ℕ} (2 ∷ 3 ∷ []) + 1 ≤ 8
@@ -230,7 +230,7 @@ room_at_44 = room_for_one (view_at 0 44) (kept 44) (2 ∷ 3 ∷ []) (((λ h. ome
 
 -- the count of numbers, and the end of a table
 
-sound_52 : IsSound (view_drawing 52)
+pub sound_52 : IsSound (view_drawing 52)
 sound_52 = record { kept = kept 52; quiet = λ _. makes_52; old = λ _. lit≤ tt; others = tt }
   where
     makes_52 : IsQuiet (before 52) 0 52
@@ -258,7 +258,7 @@ closing_ruled = record { journal = two_lives; drawer = 0; owner = λ _. 0; words
     one zero v at = subst (Fits small two_lives 0 (λ _. 0) 0) (some-injective closing_view v at) fits_closing
     one (suc seat) v at = absurd (some-ne-none v (sym at))
 
-answers_all : AnswersForCallers closing_view
+pub answers_all : AnswersForCallers closing_view
 answers_all = record { each = by }
   where
     by : (number : ℕ) → number < 2 → ((0 ≡ number) ⊎ ((1 ≡ number) ⊎ ⊥))

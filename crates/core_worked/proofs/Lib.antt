@@ -16,3 +16,9 @@ pub mod WorkedCounts
 pub mod WorkedSweep
 pub mod WorkedWalk
 pub mod MomentsShown
+pub mod WorkedBounds
+pub mod WorkedOthers
+pub mod WorkedAlike
+pub mod WorkedKept
+pub mod WorkedLists
+pub mod WorkedTokens

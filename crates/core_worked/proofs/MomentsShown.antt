@@ -34,7 +34,7 @@ use Rattle.core_lists.proofs.MarksTakeAway.{mark_gone, pair_cut}
 use Rattle.core_lists.proofs.OwnUnlinksOnly.{stays_but_unlinked}
 use Rattle.core_lists.proofs.GraphOfLives.{weight_between, no_edge_no_pair}
 use Rattle.core_lists.proofs.UncountedEvents.{stays_uncounted}
-use Rattle.core_worked.specs.Replacing.{replacing, replaces_by}
+use Rattle.core_worked.specs.Replacing.{replacing_journal, replaces_by}
 use Rattle.core_worked.specs.TwoLives.{links_new, marks_first, two_lives}
 use Rattle.core_worked.proofs.KnownSteps.{front_kept}
 use Rattle.core_worked.proofs.Replacing.{replacing_kept}
@@ -99,12 +99,12 @@ unfolding key_of link_of
 edge_gone = pair_cut small small_layout two_lives two_lives_kept (first_life 2) 28 (links_new 2 5) 1 2 cut_of_edge refl refl refl
 
 -- it's replaced in the other journal, and its pair has the new weight
-abbrev cut_by_replacing : IsCutOf replacing (first_life 2) 33
+abbrev cut_by_replacing : IsCutOf replacing_journal (first_life 2) 33
 cut_by_replacing = record { event = replaces_by 2 3 6; at = refl; cuts = refl; life = refl; uncut = refl }
 
-pub edge_replaced : IsPairCut replacing (links_new 2 5) (replaces_by 2 3 6) 33 1 2
+pub edge_replaced : IsPairCut replacing_journal (links_new 2 5) (replaces_by 2 3 6) 33 1 2
 unfolding key_of link_of
-edge_replaced = pair_cut small small_layout replacing replacing_kept (first_life 2) 33 (links_new 2 5) 1 2 cut_by_replacing refl refl refl
+edge_replaced = pair_cut small small_layout replacing_journal replacing_kept (first_life 2) 33 (links_new 2 5) 1 2 cut_by_replacing refl refl refl
 
 -- three foreign events of caller 1, one and then two
 pub foreign_three : foreign callers_journal 0 20 28 ≡ 3

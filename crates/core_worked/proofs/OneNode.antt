@@ -7,16 +7,16 @@ use Rattle.core_journal.specs.Machine.{machine, word_at}
 use Rattle.core_journal.specs.Right.{NoneFree}
 use Rattle.core_journal.specs.State.{state}
 use Rattle.core_kept.specs.Kept.{IsKept}
-use Rattle.core_worked.specs.Counted.{least, one_vertex}
+use Rattle.core_worked.specs.Counted.{one_node, one_vertex}
 
-pub least_layout : IsLayout least
+pub least_layout : IsLayout one_node
 least_layout = record { some_callers = lit≤ tt; few_callers = lit≤ tt; some_nodes = lit≤ tt; few_nodes = lit≤ tt; some_buckets = lit≤ tt; few_buckets = lit≤ tt }
 
-pub one_vertex_empty : NoneFree least one_vertex
+pub one_vertex_empty : NoneFree one_node one_vertex
 unfolding machine word_at
 one_vertex_empty = record { empty = refl }
 
-pub one_vertex_kept : IsKept least one_vertex
+pub one_vertex_kept : IsKept one_node one_vertex
 unfolding machine word_at state
 one_vertex_kept = record {
   steps = (

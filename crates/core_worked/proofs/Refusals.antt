@@ -20,7 +20,7 @@ use Rattle.core_kept.specs.Kept.{Allowed, AllowedAs, IsKept}
 use Rattle.core_kept.specs.Passes.{IsChecked, IsMoveEpoch}
 use Rattle.core_worked.specs.Refused.{IsRefusedBehind, holding, outside, made_in_a_pass, event_of, inside, moves_own, edgeless, unraised, closed, unmet, raises_again, unmet_source, unmet_target, unmet_list, lagging, early, unclosed}
 use Rattle.core_kept.specs.Nodes.{node_in, IsLinkedVertex}
-use Rattle.core_worked.specs.TwoLives.{raises_source, links_new, marks_first, marks_a_vertex, unlinks_vertex, stores_link, moves_epoch, with_other, removes_vertex}
+use Rattle.core_worked.specs.TwoLives.{raises_source, links_new, marks_first, marks_a_vertex, unlinks_a_vertex, stores_link, moves_epoch, with_other, removes_vertex}
 use Rattle.core_kept.proofs.Announcements.{epoch_was}
 use Rattle.core_journal.proofs.KeptLives.{link_more}
 use Rattle.core_lists.proofs.LowerCounters.{edge_event}
@@ -147,7 +147,7 @@ vertex_marked past drawn tag linked link runs = record {
 }
 
 vertex_unlinked : (past : List Event) → 0 < (state small past).drawn → (node_in small past 0).tag ≡ 1 → IsLinkedVertex small past 0 → word_at small past (bucket_at small 0) ≡ pack 0 0 0 → word_at small past (link_at small 0) ≡ pack 1 1 1 → (pass_in small past 0).is_open ≡ true
-    → Allowed small past unlinks_vertex
+    → Allowed small past unlinks_a_vertex
 vertex_unlinked past drawn tag linked head link runs = record {
   by = λ _. drawn;
   as_kind = record {

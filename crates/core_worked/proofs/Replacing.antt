@@ -11,7 +11,7 @@ use Rattle.core_journal.specs.State.{Spent, state}
 use Rattle.core_journal.specs.Worked.{small, first_life}
 use Rattle.core_kept.specs.Kept.{Allowed, IsKept}
 use Rattle.core_kept.specs.Nodes.{node_in, IsRipe}
-use Rattle.core_worked.specs.Replacing.{replacing}
+use Rattle.core_worked.specs.Replacing.{replacing_journal}
 use Rattle.core_worked.specs.TwoLives.{two_lives}
 use Rattle.core_kept.proofs.Induction.{kept_snoc}
 use Rattle.core_worked.proofs.KnownSteps.{front_kept}
@@ -21,10 +21,10 @@ use Rattle.core_worked.proofs.TwoLives.{two_lives_kept}
 
 -- a front of the journal, and the event of a number
 abbrev pub first : ℕ → List Event
-first n = take n replacing
+first n = take n replacing_journal
 
 abbrev pub event : ℕ → Event
-event n = get_or replacing n blank
+event n = get_or replacing_journal n blank
 
 next : (n : ℕ) → IsKept small (first n) → Allowed small (first n) (event n) → IsKept small (first n ++ event n ∷ [])
 next n = kept_snoc small (first n) (event n)
@@ -551,5 +551,5 @@ kept_78 = next 77 kept_77 (record {
   };
 })
 
-pub replacing_kept : IsKept small replacing
+pub replacing_kept : IsKept small replacing_journal
 replacing_kept = kept_78

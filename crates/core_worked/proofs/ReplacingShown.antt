@@ -10,12 +10,12 @@ use Rattle.core_journal.specs.Machine.{machine, word_at}
 use Rattle.core_journal.specs.State.{state}
 use Rattle.core_journal.specs.Worked.{small}
 use Rattle.core_kept.specs.Standings.{StandsAs, OnFreeList, OnChain, SpentBy}
-use Rattle.core_worked.specs.Replacing.{replaced_once, replaced_twice, removed_then, added_anew, replaced_anew, frozen_behind, replacing, replacing_words}
+use Rattle.core_worked.specs.Replacing.{replaced_once, replaced_twice, removed_then, added_anew, replaced_anew, frozen_behind, replacing_journal, replacing_words}
 use Rattle.core_worked.specs.TwoLives.{two_keys, key_two}
 use Rattle.core_worked.proofs.Replacing.{first}
 
 -- each kind of event stands in it
-pub replacing_kinds : (k : Kind) → Contains (map (λ (e : Event). e.kind) replacing) k
+pub replacing_kinds : (k : Kind) → Contains (map (λ (e : Event). e.kind) replacing_journal) k
 replacing_kinds DrawNumber = (0, lit< tt, refl)
 replacing_kinds Announce = (2, lit< tt, refl)
 replacing_kinds PopFree = (3, lit< tt, refl)
@@ -55,7 +55,7 @@ pub graph_replaced : graph_of replaced_anew ≡ two_keys (((1, 2), 9) ∷ [])
 unfolding graph_of key_of link_of
 graph_replaced = refl
 
-pub graph_end : graph_of replacing ≡ key_two
+pub graph_end : graph_of replacing_journal ≡ key_two
 unfolding graph_of key_of link_of
 graph_end = refl
 
@@ -64,7 +64,7 @@ pub list_twice : (state small replaced_twice).edges 0 ≡ 2 ∷ 3 ∷ 4 ∷ []
 unfolding state
 list_twice = refl
 
-pub list_end : (state small replacing).edges 0 ≡ 5 ∷ 6 ∷ []
+pub list_end : (state small replacing_journal).edges 0 ≡ 5 ∷ 6 ∷ []
 unfolding state
 list_end = refl
 
@@ -80,14 +80,14 @@ pub handed_last : StandsAs small frozen_behind 6 (SpentBy 0)
 unfolding machine word_at state
 handed_last = record { mode = refl; by = refl; link = record { life = refl; marked = refl } }
 
-pub given_back : StandsAs small replacing 2 OnFreeList
+pub given_back : StandsAs small replacing_journal 2 OnFreeList
 unfolding machine word_at state
 given_back = record { mode = refl; listed = (0, lit< tt, refl); link = record { life = refl; marked = refl } }
 
-pub free_end : (state small replacing).free ≡ 2 ∷ 7 ∷ []
+pub free_end : (state small replacing_journal).free ≡ 2 ∷ 7 ∷ []
 unfolding state
 free_end = refl
 
-pub words_end : machine small replacing ≡ replacing_words
+pub words_end : machine small replacing_journal ≡ replacing_words
 unfolding machine
 words_end = refl

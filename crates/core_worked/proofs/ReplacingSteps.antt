@@ -17,7 +17,7 @@ use Rattle.core_kept.specs.Kept.{IsKept}
 use Rattle.core_worked.specs.KnownSteps.{view_replacing, Makes}
 use Rattle.core_rule.specs.OwnEvents.{replace_event}
 use Rattle.core_worked.specs.Refused.{IsRefusedBehind}
-use Rattle.core_worked.specs.Replacing.{replacing, raises_to, replaces_by, not_raised_for, same_weight, other_target, replaces_target, marked_meanwhile}
+use Rattle.core_worked.specs.Replacing.{replacing_journal, raises_to, replaces_by, not_raised_for, same_weight, other_target, replaces_target, marked_meanwhile}
 use Rattle.core_worked.specs.TwoLives.{marks_first}
 use Rattle.core_kept.proofs.Induction.{allowed_at, kept_snoc}
 use Rattle.core_worked.proofs.KnownSteps.{reached, met_edge}
@@ -25,9 +25,9 @@ use Rattle.core_lists.proofs.MetWordsLead.{linked_met}
 use Rattle.core_worked.proofs.Replacing.{first, event, kept_30, kept_31, kept_32, kept_33, replacing_kept}
 use Rattle.core_worked.proofs.SmallSteps.{whole, none_such, filled}
 
-pub makes_replace : Makes replacing (view_replacing 0 33) 33 (pack nowhere 0 1) (replace_event (view_replacing 0 33) (pack nowhere 0 1) 2 (first_life 0) (first_life 1) 6 (first_life 2) (first_life 3))
+pub makes_replace : Makes replacing_journal (view_replacing 0 33) 33 (pack nowhere 0 1) (replace_event (view_replacing 0 33) (pack nowhere 0 1) 2 (first_life 0) (first_life 1) 6 (first_life 2) (first_life 3))
 unfolding machine word_at
-makes_replace = record { reaches = reached replacing replacing_kept 0 33 33 (whole (first 33)) refl (lit≤ tt); finds = refl; makes = refl }
+makes_replace = record { reaches = reached replacing_journal replacing_kept 0 33 33 (whole (first 33)) refl (lit≤ tt); finds = refl; makes = refl }
 
 pub may_replace : MayReplaceEdge (view_replacing 0 33) (pack nowhere 0 1) 2 (first_life 0) (first_life 1) 6 (first_life 2) (first_life 3)
 unfolding machine word_at state link_of

@@ -19,7 +19,7 @@ use Rattle.core_kept.proofs.Induction.{kept_front, last_allowed}
 use Rattle.core_kept.proofs.NodesInPlace.{used_there}
 use Rattle.core_counts.specs.Nodes.{IsAllGraph}
 use Rattle.core_counts.specs.Spending.{IsOwnUnlink, IsHandedOver, AreFinished, GotOnly}
-use Rattle.core_counts.specs.Totals.{IsNotOver, IsOver, RaisesApart, RaisesOnce, total}
+use Rattle.core_counts.specs.Totals.{IsNotOver, IsEdgeOver, RaisesApart, RaisesOnce, total}
 use Rattle.core_counts.proofs.AllNodesOfGraph.{empty_none, all_counted}
 use Rattle.core_counts.proofs.NodesBecomeSpent.{becoming, settled, IsSettled}
 use Rattle.core_counts.proofs.SumsOverBooks.{of_books}
@@ -32,7 +32,7 @@ use Rattle.core_counts.proofs.LivesGoOneWay.{one_way}
 use Rattle.core_counts.proofs.RaisesOfEdges.{once_opening, once_stays, once_raise, once_done, once_apart}
 use Rattle.core_counts.proofs.IdleCallers.{HasNothing, has_nothing}
 use Rattle.core_worked.proofs.OneNode.{least_layout, one_vertex_kept, one_vertex_empty}
-use Rattle.core_worked.specs.Counted.{least, one_vertex, two_books}
+use Rattle.core_worked.specs.Counted.{one_node, one_vertex, two_books}
 use Rattle.core_worked.specs.TwoLives.{two_lives, with_an_edge, freezes_second}
 use Rattle.core_worked.proofs.SmallSteps.{below, whole, frozen_list, quiet_from}
 use Rattle.core_worked.proofs.TwoLives.{event, two_lives_kept}
@@ -60,7 +60,7 @@ pub over : RaisesOnce two_lives two_lives 0 0 []
 over = once_done 0 0 (first_life 2 ∷ []) (take 27 two_lives) two_lives (front 27 refl) (λ i d low. by i d low)
     (once_stays 0 0 (first_life 2 ∷ []) (take 27 two_lives) (take 28 two_lives) two_lives (front 28 refl) refl raised)
   where
-    by : All (IsOver two_lives) (first_life 2 ∷ [])
+    by : All (IsEdgeOver two_lives) (first_life 2 ∷ [])
     by zero d low = inl refl
     by (suc i) d low = absurd (omega (arith, low))
 
@@ -104,18 +104,18 @@ pub counted_pairs : pair_count (graph_of with_an_edge) ≡ 1
 unfolding state
 counted_pairs = pairs_are small small_layout (take 26 two_lives) (kept_at 26 refl)
 
-pub none_left : (x : ℕ) → x < 1 → (node_in least one_vertex x).mode ≢ Free
-none_left x t = empty_none least least_layout one_vertex one_vertex_kept one_vertex_empty x t
+pub none_left : (x : ℕ) → x < 1 → (node_in one_node one_vertex x).mode ≢ Free
+none_left x t = empty_none one_node least_layout one_vertex one_vertex_kept one_vertex_empty x t
 
-pub all_one : IsAllGraph least one_vertex
+pub all_one : IsAllGraph one_node one_vertex
 unfolding state
 all_one = record {
   free = none_left;
-  fresh = λ x t m. let is : (node_in least one_vertex x).mode ≡ Linked = at_zero (λ y. (node_in least one_vertex y).mode ≡ Linked) x t refl in absurd (cc);
-  spent = λ x t m. let is : (node_in least one_vertex x).mode ≡ Linked = at_zero (λ y. (node_in least one_vertex y).mode ≡ Linked) x t refl in absurd (cc);
-  marked = λ x t. at_zero (λ y. (node_in least one_vertex y).marked ≡ false) x t refl;
-  source = λ x t e. let is : (node_in least one_vertex x).vertex ≡ true = at_zero (λ y. (node_in least one_vertex y).vertex ≡ true) x t refl in absurd (cc);
-  target = λ x t e. let is : (node_in least one_vertex x).vertex ≡ true = at_zero (λ y. (node_in least one_vertex y).vertex ≡ true) x t refl in absurd (cc);
+  fresh = λ x t m. let is : (node_in one_node one_vertex x).mode ≡ Linked = at_zero (λ y. (node_in one_node one_vertex y).mode ≡ Linked) x t refl in absurd (cc);
+  spent = λ x t m. let is : (node_in one_node one_vertex x).mode ≡ Linked = at_zero (λ y. (node_in one_node one_vertex y).mode ≡ Linked) x t refl in absurd (cc);
+  marked = λ x t. at_zero (λ y. (node_in one_node one_vertex y).marked ≡ false) x t refl;
+  source = λ x t e. let is : (node_in one_node one_vertex x).vertex ≡ true = at_zero (λ y. (node_in one_node one_vertex y).vertex ≡ true) x t refl in absurd (cc);
+  target = λ x t e. let is : (node_in one_node one_vertex x).vertex ≡ true = at_zero (λ y. (node_in one_node one_vertex y).vertex ≡ true) x t refl in absurd (cc);
 }
   where
     at_zero : (P : ℕ → Type 0) (x : ℕ) → x < 1 → P 0 → P x
@@ -123,7 +123,7 @@ all_one = record {
     at_zero P (suc n) t h = absurd (omega (arith, t))
 
 pub full_one : key_count (graph_of one_vertex) + pair_count (graph_of one_vertex) ≡ 1
-full_one = all_counted least least_layout one_vertex one_vertex_kept all_one
+full_one = all_counted one_node least_layout one_vertex one_vertex_kept all_one
 
 -- the edge of node 3 is handed over
 pub handed : IsHandedOver small (take 43 two_lives) freezes_second 0 3

@@ -16,7 +16,7 @@ use Rattle.core_counts.proofs.SweptTables.{each_is}
 use Rattle.core_counts.proofs.CleanEdges.{clean_edge, linked_same}
 use Rattle.core_counts.proofs.CleanVertices.{clean_stays}
 use Rattle.core_counts.proofs.ExactFull.{full_exact, all_empty}
-use Rattle.core_worked.specs.Counted.{least, one_vertex}
+use Rattle.core_worked.specs.Counted.{one_node, one_vertex}
 use Rattle.core_worked.specs.TwoLives.{two_lives}
 use Rattle.core_worked.proofs.OneNode.{least_layout, one_vertex_kept, one_vertex_empty}
 use Rattle.core_worked.proofs.TwoLives.{event}
@@ -39,25 +39,25 @@ at_zero : (P : ℕ → Type 0) (x : ℕ) → x < 1 → P 0 → P x
 at_zero P zero t h = h
 at_zero P (suc n) t h = absurd (omega (arith, t))
 
-linked_one : (x : ℕ) → x < 1 → (node_in least one_vertex x).mode ≡ Linked
+linked_one : (x : ℕ) → x < 1 → (node_in one_node one_vertex x).mode ≡ Linked
 unfolding state
-linked_one x t = at_zero (λ y. (node_in least one_vertex y).mode ≡ Linked) x t refl
+linked_one x t = at_zero (λ y. (node_in one_node one_vertex y).mode ≡ Linked) x t refl
 
-no_fresh : (caller x : ℕ) → IsFreshWith least one_vertex caller x → ⊥
-no_fresh caller x f = let m = f.fresh in let is = linked_one x (used_there least one_vertex x one_vertex_kept (λ h. absurd (cc))) in absurd (cc)
+no_fresh : (caller x : ℕ) → IsFreshWith one_node one_vertex caller x → ⊥
+no_fresh caller x f = let m = f.fresh in let is = linked_one x (used_there one_node one_vertex x one_vertex_kept (λ h. absurd (cc))) in absurd (cc)
 
-no_spent : (caller x : ℕ) → IsSpentWith least one_vertex caller x → ⊥
-no_spent caller x f = let m = f.spent in let is = linked_one x (used_there least one_vertex x one_vertex_kept (λ h. absurd (cc))) in absurd (cc)
+no_spent : (caller x : ℕ) → IsSpentWith one_node one_vertex caller x → ⊥
+no_spent caller x f = let m = f.spent in let is = linked_one x (used_there one_node one_vertex x one_vertex_kept (λ h. absurd (cc))) in absurd (cc)
 
-pub swept_one : IsSwept least one_vertex
+pub swept_one : IsSwept one_node one_vertex
 unfolding state
 swept_one = record {
-  vertices = λ x t _. at_zero (λ y. (node_in least one_vertex y).marked ≡ false) x t refl;
-  edges = λ y t e. let v : (node_in least one_vertex y).vertex ≡ true = at_zero (λ x. (node_in least one_vertex x).vertex ≡ true) y t refl in let w = e.edge in absurd (cc);
+  vertices = λ x t _. at_zero (λ y. (node_in one_node one_vertex y).marked ≡ false) x t refl;
+  edges = λ y t e. let v : (node_in one_node one_vertex y).vertex ≡ true = at_zero (λ x. (node_in one_node one_vertex x).vertex ≡ true) y t refl in let w = e.edge in absurd (cc);
 }
 
-pub each_one : (x : ℕ) → x < 1 → IsOfGraphOr least one_vertex 0 x
-each_one x t = each_is least least_layout one_vertex one_vertex_kept 0 none_left (no_fresh 0) (no_spent 0) swept_one x t
+pub each_one : (x : ℕ) → x < 1 → IsOfGraphOr one_node one_vertex 0 x
+each_one x t = each_is one_node least_layout one_vertex one_vertex_kept 0 none_left (no_fresh 0) (no_spent 0) swept_one x t
 
 -- all events are those of caller 0
 idle_else : (i : ℕ) → i ≢ 0 → made acts i one_vertex ≡ 0
@@ -68,7 +68,7 @@ idle_else i ne = by (0 == i) (ne_eqb 0 i (λ h. ne (sym h)))
     by false h = refl
 
 pub exact_one : key_count (graph_of (take 8 one_vertex)) + pair_count (graph_of (take 8 one_vertex)) ≡ 1
-exact_one = full_exact least least_layout (take 8 one_vertex) one_vertex one_vertex_kept refl 0 one_vertex_empty (no_fresh 0) (no_spent 0) swept_one idle_else
+exact_one = full_exact one_node least_layout (take 8 one_vertex) one_vertex one_vertex_kept refl 0 one_vertex_empty (no_fresh 0) (no_spent 0) swept_one idle_else
 
-pub empty_one : NoneFree least one_vertex
-empty_one = all_empty least least_layout one_vertex one_vertex one_vertex_kept refl full_one
+pub empty_one : NoneFree one_node one_vertex
+empty_one = all_empty one_node least_layout one_vertex one_vertex one_vertex_kept refl full_one

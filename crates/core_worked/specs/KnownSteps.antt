@@ -6,7 +6,7 @@ use Rattle.core_journal.specs.TwoCallers.{callers_journal}
 use Rattle.core_journal.specs.Worked.{small}
 use Rattle.core_worked.specs.Beside.{beside_others}
 use Rattle.core_rule.specs.Owes.{Reaches}
-use Rattle.core_worked.specs.Replacing.{replacing}
+use Rattle.core_worked.specs.Replacing.{replacing_journal}
 use Rattle.core_worked.specs.TwoLives.{two_lives}
 use Rattle.core_rule.specs.declared.view.View.{View}
 
@@ -40,7 +40,7 @@ view_beside caller n = view_of beside_others caller n
 
 -- the same of the worked journal in which edges are replaced
 abbrev pub view_replacing : ℕ → ℕ → View
-view_replacing caller n = view_of replacing caller n
+view_replacing caller n = view_of replacing_journal caller n
 
 -- a token's step makes event n of a journal: the token may meet the events before it, the step finds this word at its
 -- place, and its event is the next one

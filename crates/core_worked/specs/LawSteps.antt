@@ -13,9 +13,13 @@ use Rattle.core_worked.specs.TwoLives.{two_lives}
 abbrev pub view_behind : ℕ → View
 view_behind n = moved_on (view_at 0 n) (take (n + 1) two_lives) (n + 1)
 
--- the same view with the right to draw
+-- a view with the right to draw
+abbrev pub drawing_too : View → View
+drawing_too v = record v { draws = true }
+
+-- the view of caller 0 before event n with the right to draw
 abbrev pub view_drawing : ℕ → View
-view_drawing n = record (view_at 0 n) { draws = true }
+view_drawing n = drawing_too (view_at 0 n)
 
 -- the view of caller 0 behind all events, to which the token of caller 1 was joined: no one has the right to draw,
 -- which a token took that was dropped
@@ -30,3 +34,11 @@ closing_view =
 -- the table with this token alone
 abbrev pub closing_table : TableState (Unit {0}) View
 closing_table = record { words = machine small two_lives; homes = []; views = closing_view ∷ [] }
+
+-- the same view with the right to draw, whose token drew both numbers
+abbrev pub last_view : View
+last_view = drawing_too closing_view
+
+-- the table with this token alone
+abbrev pub last_table : TableState (Unit {0}) View
+last_table = record { words = machine small two_lives; homes = []; views = last_view ∷ [] }

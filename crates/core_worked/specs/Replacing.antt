@@ -89,8 +89,8 @@ abbrev pub frozen_behind : List Event
 frozen_behind = replaced_anew ++ (announces 0 ∷ removes_vertex ++ (closes_head 5 ∷ freezes_last ∷ withdraws 0 ∷ []))
 
 -- all events, 0 to 77
-abbrev pub replacing : List Event
-replacing = frozen_behind ++ (moves_epoch 1 ∷ moves_epoch 2 ∷ gives_back 2 7 8)
+abbrev pub replacing_journal : List Event
+replacing_journal = frozen_behind ++ (moves_epoch 1 ∷ moves_epoch 2 ∷ gives_back 2 7 8)
 
 -- the words of the table after all events, place by place
 abbrev pub replacing_words : List ℕ

@@ -65,12 +65,13 @@ abbrev pub marks_a_vertex : Event
 marks_a_vertex = record blank { kind = MarkVertex; place = link_at small 0; word = pack 1 1 1; life = first_life 0 }
 
 -- it's unlinked
-abbrev pub unlinks_vertex : Event
-unlinks_vertex = record blank { kind = UnlinkVertex; place = bucket_at small 0; word = pack 1 0 0; life = first_life 0 }
+abbrev pub unlinks_a_vertex : Event
+unlinks_a_vertex =
+    record blank { kind = UnlinkVertex; place = bucket_at small 0; word = pack 1 0 0; life = first_life 0 }
 
 -- the vertex of node 0 is removed
 abbrev pub removes_vertex : List Event
-removes_vertex = marks_a_vertex ∷ unlinks_vertex ∷ []
+removes_vertex = marks_a_vertex ∷ unlinks_a_vertex ∷ []
 
 -- its list is closed at its head, which leads to node x
 abbrev pub closes_head : ℕ → Event

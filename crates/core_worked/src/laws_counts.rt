@@ -20,7 +20,7 @@ ghost use Rattle.core_counts.specs.Nodes.{IsAllGraph};
 ghost use Rattle.core_counts.specs.Spending.{GotOnly, IsHandedOver, acts};
 ghost use Rattle.core_counts.specs.Swept.{IsCleanEdge, IsCleanVertex, IsOfGraphOr, IsSwept};
 ghost use Rattle.core_counts.specs.Totals.{GoesOneWay, RaisesApart, RaisesOnce, cuts, total};
-ghost use Rattle.core_worked.specs.Counted.{least, one_vertex, two_books};
+ghost use Rattle.core_worked.specs.Counted.{one_node, one_vertex, two_books};
 ghost use Rattle.core_worked.specs.TwoLives.{freezes_second, two_lives, with_an_edge};
 
 /// In the journal with two lives the first life of node 0, a vertex, goes through all its stages, and so do the lives
@@ -56,10 +56,10 @@ pub fn worked_events_are_few()
 /// vertex, is all graph: its free list is empty, and no node is free.
 pub fn worked_graphs_are_counted()
     ensures counted { (key_count (graph_of with_an_edge) ≡ 2) × (pair_count (graph_of with_an_edge) ≡ 1) }
-    ensures kept { IsKept least one_vertex }
-    ensures empty { NoneFree least one_vertex }
-    ensures none { (x : ℕ) → x < 1 → (node_in least one_vertex x).mode ≢ Free }
-    ensures all { IsAllGraph least one_vertex }
+    ensures kept { IsKept one_node one_vertex }
+    ensures empty { NoneFree one_node one_vertex }
+    ensures none { (x : ℕ) → x < 1 → (node_in one_node one_vertex x).mode ≢ Free }
+    ensures all { IsAllGraph one_node one_vertex }
     ensures full { key_count (graph_of one_vertex) + pair_count (graph_of one_vertex) ≡ 1 }
 {}
 
@@ -86,8 +86,8 @@ pub fn worked_tables_are_swept()
     ensures vertex { IsCleanVertex (node_in small (take 46 two_lives) 1) }
     ensures linked { node_in small (take 46 two_lives) 1 ≡ node_in small (take 45 two_lives) 1 }
     ensures edge { IsCleanEdge (state small (take 26 two_lives)) 2 }
-    ensures swept { IsSwept least one_vertex }
-    ensures each { (x : ℕ) → x < 1 → IsOfGraphOr least one_vertex 0 x }
+    ensures swept { IsSwept one_node one_vertex }
+    ensures each { (x : ℕ) → x < 1 → IsOfGraphOr one_node one_vertex 0 x }
     ensures full { key_count (graph_of (take 8 one_vertex)) + pair_count (graph_of (take 8 one_vertex)) ≡ 1 }
-    ensures none { NoneFree least one_vertex }
+    ensures none { NoneFree one_node one_vertex }
 {}

@@ -14,7 +14,7 @@ ghost use Rattle.core_journal.specs.Worked.{first_life, small, worked_journal};
 ghost use Rattle.core_lists.specs.Changed.{IsChangedByAnother};
 ghost use Rattle.core_lists.specs.MarkEffects.{IsKeyGone, IsPairCut};
 ghost use Rattle.core_lists.specs.Uncounted.{StaysButUnlinked, StaysUncounted};
-ghost use Rattle.core_worked.specs.Replacing.{replaces_by, replacing};
+ghost use Rattle.core_worked.specs.Replacing.{replaces_by, replacing_journal};
 ghost use Rattle.core_worked.specs.TwoLives.{links_new, marks_first, two_lives};
 
 /// In the journal with two lives an edge of weight 5 is added and removed: its pair is in the graph with that weight,
@@ -26,7 +26,7 @@ pub fn a_worked_edge_comes_and_goes()
     ensures none { weight_of (graph_of (take 31 two_lives)) 1 2 ≡ None }
     ensures first { (m : ℕ) × (length (take 26 two_lives) ≤ m) × IsCutOf two_lives (first_life 2) m }
     ensures cut { IsPairCut two_lives (links_new 2 5) marks_first 28 1 2 }
-    ensures replaced { IsPairCut replacing (links_new 2 5) (replaces_by 2 3 6) 33 1 2 }
+    ensures replaced { IsPairCut replacing_journal (links_new 2 5) (replaces_by 2 3 6) 33 1 2 }
     ensures own { (q : ℕ) (e : Event) → length (take 28 two_lives) ≤ q → slice_get (take 31 two_lives) q ≡ Some e
         → e.caller ≡ 0 → cuts_edge e.kind ≡ true → q ≡ 28 }
 {}

@@ -18,14 +18,14 @@ ghost use Rattle.core_rule.specs.OwnEvents.{mark_edge_event, mark_vertex_event, 
 ghost use Rattle.core_rule.specs.OwnEvents.{raise_event, replace_event, store_event, unlink_edge_event};
 ghost use Rattle.core_rule.specs.OwnEvents.{unlink_vertex_event};
 ghost use Rattle.core_rule.specs.OwnEvents.{withdraw_event};
-ghost use Rattle.core_worked.specs.Replacing.{replacing};
+ghost use Rattle.core_worked.specs.Replacing.{replacing_journal};
 ghost use Rattle.core_worked.specs.TwoLives.{two_lives};
 
 /// None of these conditions is empty: for each there is an event of a worked journal (`two_lives` of
-/// `specs/TwoLives.antt`, and `replacing` of `specs/Replacing.antt` where an edge is replaced) before which a token met
-/// it by its front, and the token's step makes just that event of the word that it finds. The front is the whole
-/// journal before the event, but where the epoch is moved: caller 1 looked at it and at the announcements, then caller
-/// 0 made 43 events, and behind these caller 1 moves the epoch on.
+/// `specs/TwoLives.antt`, and `replacing_journal` of `specs/Replacing.antt` where an edge is replaced) before which a
+/// token met it by its front, and the token's step makes just that event of the word that it finds. The front is the
+/// whole journal before the event, but where the epoch is moved: caller 1 looked at it and at the announcements, then
+/// caller 0 made 43 events, and behind these caller 1 moves the epoch on.
 pub fn a_token_may_make_each_step()
     ensures pop { MayPopFree (view_at 0 52) (pack 0 0 6) (pack 3 1 1)
         × Makes two_lives (view_at 0 52) 52 (pack 0 0 6) (pop_event (view_at 0 52) (pack 0 0 6) (pack 3 1 1)) }
@@ -53,7 +53,7 @@ pub fn a_token_may_make_each_step()
         (mark_edge_event (view_at 0 28) (first_life 2) (pack nowhere 0 1)) }
     ensures replace_edge { MayReplaceEdge (view_replacing 0 33) (pack nowhere 0 1) 2 (first_life 0) (first_life 1) 6
         (first_life 2) (first_life 3)
-        × Makes replacing (view_replacing 0 33) 33 (pack nowhere 0 1)
+        × Makes replacing_journal (view_replacing 0 33) 33 (pack nowhere 0 1)
         (replace_event (view_replacing 0 33) (pack nowhere 0 1) 2 (first_life 0) (first_life 1) 6 (first_life 2)
         (first_life 3)) }
     ensures unlink_edge { MayUnlinkEdge (view_at 0 29) (second_at small 0) (pack 2 0 1) nowhere (first_life 0)

@@ -16,7 +16,7 @@ ghost use Rattle.core_worked.specs.Refused.{IsRefusedBehind};
 ghost use Rattle.core_worked.specs.Replacing.{added_anew, frozen_behind, marked_meanwhile};
 ghost use Rattle.core_worked.specs.Replacing.{not_raised_for, other_target};
 ghost use Rattle.core_worked.specs.Replacing.{removed_then, replaced_anew, replaced_once, replaced_twice, replaces_by};
-ghost use Rattle.core_worked.specs.Replacing.{replaces_target, replacing, replacing_books, replacing_history};
+ghost use Rattle.core_worked.specs.Replacing.{replaces_target, replacing_journal, replacing_books, replacing_history};
 ghost use Rattle.core_worked.specs.Replacing.{replacing_words, same_weight};
 ghost use Rattle.core_kept.specs.Standings.{OnChain, OnFreeList, SpentBy, StandsAs};
 ghost use Rattle.core_worked.specs.TwoLives.{key_two, two_keys};
@@ -27,28 +27,28 @@ ghost use Rattle.core_worked.specs.TwoLives.{key_two, two_keys};
 /// the list is closed at its head, and the last one as it's frozen. At the end the first node is free again. The words,
 /// the graphs, the books and their history are as worked out by hand, and the history is legal.
 pub fn an_edge_is_replaced()
-    ensures kept { IsKept small replacing }
-    ensures each_kind { (k : Kind) → Contains (map (λ (e : Event). e.kind) replacing) k }
+    ensures kept { IsKept small replacing_journal }
+    ensures each_kind { (k : Kind) → Contains (map (λ (e : Event). e.kind) replacing_journal) k }
     ensures once { graph_of replaced_once ≡ two_keys (((1, 2), 6) ∷ []) }
     ensures twice { graph_of replaced_twice ≡ two_keys (((1, 2), 7) ∷ []) }
     ensures removed { graph_of removed_then ≡ two_keys [] }
     ensures added_anew { graph_of added_anew ≡ two_keys (((1, 2), 8) ∷ []) }
     ensures replaced_anew { graph_of replaced_anew ≡ two_keys (((1, 2), 9) ∷ []) }
-    ensures gone { graph_of replacing ≡ key_two }
+    ensures gone { graph_of replacing_journal ≡ key_two }
     ensures list { (state small replaced_twice).edges 0 ≡ 2 ∷ 3 ∷ 4 ∷ [] }
     ensures marked { StandsAs small replaced_twice 3 OnChain }
-    ensures handed { StandsAs small (take 72 replacing) 5 (SpentBy 0) }
+    ensures handed { StandsAs small (take 72 replacing_journal) 5 (SpentBy 0) }
     ensures frozen { StandsAs small frozen_behind 6 (SpentBy 0) }
-    ensures list_then { (state small replacing).edges 0 ≡ 5 ∷ 6 ∷ [] }
-    ensures freed { StandsAs small replacing 2 OnFreeList }
-    ensures free_list { (state small replacing).free ≡ 2 ∷ 7 ∷ [] }
-    ensures words { machine small replacing ≡ replacing_words }
-    ensures reuse { ReusesSafely small replacing }
-    ensures regular { IsRegular replacing }
+    ensures list_then { (state small replacing_journal).edges 0 ≡ 5 ∷ 6 ∷ [] }
+    ensures freed { StandsAs small replacing_journal 2 OnFreeList }
+    ensures free_list { (state small replacing_journal).free ≡ 2 ∷ 7 ∷ [] }
+    ensures words { machine small replacing_journal ≡ replacing_words }
+    ensures reuse { ReusesSafely small replacing_journal }
+    ensures regular { IsRegular replacing_journal }
     ensures apart { CallersApart replacing_books }
-    ensures books { Every (IsBookOf small replacing) replacing_books }
-    ensures closed { IsClosed replacing replacing_books }
-    ensures history { history replacing replacing_books ≡ replacing_history }
+    ensures books { Every (IsBookOf small replacing_journal) replacing_books }
+    ensures closed { IsClosed replacing_journal replacing_books }
+    ensures history { history replacing_journal replacing_books ≡ replacing_history }
     ensures legal { IsLegal replacing_history key_two }
 {}
 

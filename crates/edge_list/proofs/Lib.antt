@@ -1,0 +1,3 @@
+pub mod FrozenWords
+pub mod ListUnderFreezing
+pub mod HandedEdges

@@ -36,7 +36,8 @@ pub record IsClosed (x : Life) (v w : View) (f : FrozenValue) : Type 0 where
   pub makes : Makes v (marking (freeze_head_event v x) found) w
   pub freezing : IsFreezing w f
 
--- the next edge was frozen, by an event where the link that was found had no mark, and is spent with the token: the last
+-- the next edge was frozen, by an event where the link that was found had no mark, and is spent with the token: the
+-- last
 -- frozen word leads to it, and its link is the next one. It's an edge of the list
 pub record IsHandedTo (old : FrozenValue) (v w : View) (x : Life) (new : FrozenValue) : Type 0 where
   pub from : new.from ≡ old.from
@@ -44,7 +45,6 @@ pub record IsHandedTo (old : FrozenValue) (v w : View) (x : Life) (new : FrozenV
   pub place : new.place ≡ link_at w.sizes x.index
   pub found : ℕ
   pub makes : Makes v (marking (freeze_edge_event v x) found) w
-  pub keeps : KeepsFrozen old.from v w
   pub held : IsHeldSpent w x
   pub edge : (node_in w.sizes w.front x.index).vertex ≡ false
   pub listed : is_listed (state w.sizes w.front) old.from.index x.index ≡ true
@@ -55,7 +55,6 @@ pub record IsHandedTo (old : FrozenValue) (v w : View) (x : Life) (new : FrozenV
 pub record IsFrozenWhole (old : FrozenValue) (v w : View) (new : FrozenValue) : Type 0 where
   pub same : new ≡ old
   pub makes : Makes v [] w
-  pub keeps : KeepsFrozen old.from v w
   pub leads : index_of (word_at w.sizes w.front old.place) ≡ nowhere
   pub freezing : IsFreezing w new
   pub whole : IsFrozenToEnd w.sizes w.front old.from.index

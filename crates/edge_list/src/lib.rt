@@ -6,5 +6,7 @@
 #![tactic(auto)]
 
 mod freezing;
+mod laws;
 
 pub use freezing::{Frozen, freeze_head, freeze_next};
+pub use laws::{edges_are_handed_over_once, frozen_words_stay_over_stretches};

@@ -1,0 +1,2 @@
+pub mod EpochSeen
+pub mod LimboStays

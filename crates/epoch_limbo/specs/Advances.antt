@@ -1,5 +1,5 @@
 -- What moving the epoch on tells.
-use Rattle.std.specs.Prelude.{◌≡◌, ◌≢◌, ℕ, ◌<◌, ◌≤◌, ◌⊎◌, ◌+◌, List, [], ◌∷◌}
+use Rattle.std.specs.Prelude.{◌≢◌, ℕ, ◌<◌, ◌≤◌, List, [], ◌∷◌}
 use Rattle.packed_link.specs.Layout.{announce_at, epoch_at}
 use Rattle.core_journal.specs.declared.event.Event.{Event}
 use Rattle.core_journal.specs.Machine.{word_at}

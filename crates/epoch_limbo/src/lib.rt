@@ -6,9 +6,11 @@
 #![tactic(auto)]
 
 mod advancing;
+mod keeping;
 mod limbo;
 mod passes;
 
 pub use advancing::{Advanced, advance};
+pub use keeping::{a_limbo_has_room_for_one_more, a_limbo_outlasts_a_freeze, limbos_stay};
 pub use limbo::{Limbo, Memory};
 pub use passes::{close_pass, open_pass};

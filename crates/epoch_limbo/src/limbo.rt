@@ -24,7 +24,7 @@ pub struct Limbo {
 }
 
 impl Model for Limbo {
-    ghost use Rattle.std.specs.Prelude.{◌≤◌, length};
+    ghost use Rattle.std.specs.Prelude.{◌<◌, ◌≤◌, ◌^◌, length};
     ghost use Rattle.std.specs.VecDeque.{deque_capacity};
     ghost use Rattle.epoch_limbo.specs.Limbos.{LimboValue};
 
@@ -32,7 +32,7 @@ impl Model for Limbo {
 
     ghost view = { λ l. record { nodes = l.nodes.items; room = l.room } };
 
-    ghost invariant = { λ l. (length l.nodes.items ≤ l.room) × (l.room ≤ deque_capacity l.nodes) };
+    ghost invariant = { λ l. (length l.nodes.items ≤ l.room) × (l.room ≤ deque_capacity l.nodes) × (l.room < 2 ^ 32) };
 }
 
 impl Limbo {
@@ -74,11 +74,14 @@ impl Limbo {
         requires limbo { IsLimboOf None token.now.view self.old.nodes }
         ensures ripe { MatchRipe result self.old self.new token.now.view epoch }
     {
-        let ready = match self.nodes.get(0) {
-            Some(first) => epoch >= 2 && first.stamp() <= epoch - 2,
-            None => false,
+        let Some(first) = self.nodes.get(0) else {
+            return None;
         };
-        if ready { self.nodes.pop_front() } else { None }
+        let age = epoch.saturating_sub(first.stamp());
+        if age < 2 {
+            return None;
+        }
+        self.nodes.pop_front()
     }
 
     /// Makes a node the oldest again, in O(1). There's room. Where the limbo was of a token, the node isn't in it and

@@ -1,21 +1,26 @@
 -- What calls answer and change: plain outcomes, valid graphs, counts, and a replay that is legal.
-use Rattle.std.proofs.Common.{◌≡◌, ℕ, ◌+◌, ◌-◌, ◌≤◌, Bool, true, false, cond, not, ◌&&◌, ◌||◌, ◌==◌, List, [], ◌∷◌, length, Option, Some, None, refl, sym, ap, ◌∙◌, true≢false, arith, eqb-true, subst}
+use Rattle.std.proofs.Common.{◌≡◌, ℕ, ◌+◌, ◌-◌, ◌≤◌, Bool, true, false, cond, not, ◌&&◌, ◌||◌, ◌==◌, List, [], ◌∷◌}
+use Rattle.std.proofs.Common.{length, Option, Some, None, refl, sym, ap, ◌∙◌, true≢false, arith, eqb-true, subst}
 use Rattle.std.specs.Prelude.{is_some, suc}
 use Rattle.std.specs.Cmp.{nat_cmp_total}
 use Rattle.std.specs.FinMap as map
 use Rattle.std.specs.FinSet as set
 use Rattle.graph_kinds.specs.declared.call.Call.{Call}
-use Rattle.graph_kinds.specs.declared.call.Call.TheVariants.{AddVertex, RemoveVertex, HasVertex, AddEdge, RemoveEdge, HasEdge, Reach, Levels, Cheapest}
+use Rattle.graph_kinds.specs.declared.call.Call.TheVariants.{AddVertex, RemoveVertex, HasVertex, AddEdge, RemoveEdge}
+use Rattle.graph_kinds.specs.declared.call.Call.TheVariants.{HasEdge, Reach, Levels, Cheapest}
 use Rattle.graph_kinds.specs.declared.call.Row.{Row}
 use Rattle.graph_kinds.specs.declared.outcome.Outcome.{Outcome}
 use Rattle.graph_kinds.specs.declared.outcome.Outcome.TheVariants as out
 use Rattle.graph_kinds.specs.declared.answer.Answer.{Answer}
 use Rattle.graph_kinds.specs.Graph.{Graph, IsGraph, pair_cmp, empty_graph, has, weight_of, key_count, pair_count}
-use Rattle.graph_kinds.specs.Answer.{IsWellMade, answer, alters, needs_node, after, change, without, is_change, is_added, plain, by_weight, on_keys, by_path, by_levels, by_cost, answers, after_all, there_with, is_new, grows}
+use Rattle.graph_kinds.specs.Answer.{IsWellMade, answer, alters, needs_node, after, change, without, is_change}
+use Rattle.graph_kinds.specs.Answer.{is_added, plain, by_weight, on_keys, by_path, by_levels, by_cost, answers}
+use Rattle.graph_kinds.specs.Answer.{after_all, there_with, is_new, grows}
 use Rattle.graph_kinds.specs.Levels.{reach_path, levels_of}
 use Rattle.graph_kinds.specs.Path.{least_cost, cheapest_path}
 use Rattle.graph_kinds.specs.History.{Item, Demand, LegalFrom, left_by, answered, calls_of, item_by}
-use Rattle.graph_kinds.proofs.Graphs.{pair_total, same_graph, has_put, has_cut, weight_put, weight_cut, weight_kept, len-retain_keys}
+use Rattle.graph_kinds.proofs.Graphs.{pair_total, same_graph, has_put, has_cut, weight_put, weight_cut, weight_kept}
+use Rattle.graph_kinds.proofs.Graphs.{len-retain_keys}
 
 or_true : (b : Bool) → (b || true) ≡ true
 or_true true = refl
@@ -37,7 +42,8 @@ IsPlain out.Again = ⊥
 IsPlain out.Worn = ⊥
 IsPlain _ = Unit {0}
 
-plain_weight : (w : Option ℕ) (there : ℕ → Outcome) (gone : Outcome) → ((x : ℕ) → IsPlain (there x)) → IsPlain gone → IsPlain (by_weight w there gone).outcome
+plain_weight : (w : Option ℕ) (there : ℕ → Outcome) (gone : Outcome) → ((x : ℕ) → IsPlain (there x)) → IsPlain gone
+    → IsPlain (by_weight w there gone).outcome
 plain_weight None there gone p q = q
 plain_weight (Some w) there gone p q = p w
 
@@ -53,19 +59,25 @@ plain_cost None p = tt
 plain_cost (Some c) p = tt
 
 plain_keys : (g : Graph) (a b : ℕ) (r : Answer) → IsPlain r.outcome → IsPlain (on_keys g a b r).outcome
-plain_keys g a b r p = elim (has g a && has g b) as (λ t. IsPlain (cond t r (plain out.NoVertex)).outcome) [ true ↦ p | false ↦ tt ]
+plain_keys g a b r p = elim (has g a && has g b) as (λ t. IsPlain (cond t r (plain out.NoVertex)).outcome)
+    [ true ↦ p | false ↦ tt ]
 
 -- an answer is never Overtaken, Full, Again or Worn
 pub answer-plain : (g : Graph) (c : Call) → IsPlain (answer g c).outcome
 unfolding answer
-answer-plain g (AddVertex k) = elim (has g k) as (λ b. IsPlain (cond b (out.Present 0) out.Added)) [ true ↦ tt | false ↦ tt ]
-answer-plain g (RemoveVertex k) = elim (has g k) as (λ b. IsPlain (cond b (out.Removed 0) out.Absent)) [ true ↦ tt | false ↦ tt ]
+answer-plain g (AddVertex k) = elim (has g k) as (λ b. IsPlain (cond b (out.Present 0) out.Added))
+    [ true ↦ tt | false ↦ tt ]
+answer-plain g (RemoveVertex k) = elim (has g k) as (λ b. IsPlain (cond b (out.Removed 0) out.Absent))
+    [ true ↦ tt | false ↦ tt ]
 answer-plain g (HasVertex k) = elim (has g k) as (λ b. IsPlain (cond b out.Yes out.No)) [ true ↦ tt | false ↦ tt ]
-answer-plain g (AddEdge a b w) = plain_keys g a b _ (plain_weight (weight_of g a b) (there_with w) out.Added (plain_there w) tt)
-answer-plain g (RemoveEdge a b) = plain_keys g a b _ (plain_weight (weight_of g a b) out.Removed out.NoEdge (λ x. tt) tt)
+answer-plain g (AddEdge a b w) = plain_keys g a b _ (plain_weight (weight_of g a b) (there_with w) out.Added
+    (plain_there w) tt)
+answer-plain g (RemoveEdge a b) = plain_keys g a b _ (plain_weight (weight_of g a b) out.Removed out.NoEdge
+    (λ x. tt) tt)
 answer-plain g (HasEdge a b) = plain_keys g a b _ (plain_weight (weight_of g a b) out.Edge out.NoEdge (λ x. tt) tt)
 answer-plain g (Reach a b) = plain_keys g a b _ (plain_path (reach_path g a b))
-answer-plain g (Levels a) = elim (has g a) as (λ t. IsPlain (cond t (by_levels (levels_of g a)) (plain out.NoVertex)).outcome) [ true ↦ tt | false ↦ tt ]
+answer-plain g (Levels a) = elim (has g a) as (λ t. IsPlain (cond t (by_levels (levels_of g a))
+    (plain out.NoVertex)).outcome) [ true ↦ tt | false ↦ tt ]
 answer-plain g (Cheapest a b) = plain_keys g a b _ (plain_cost (least_cost g a b) (cheapest_path g a b))
 
 pub after_same : (g : Graph) (c : Call) → alters g c ≡ false → after g c ≡ g
@@ -86,7 +98,8 @@ module _ (P : Graph → Type 0) (g : Graph) (c : Call) where
       by false e = subst P (sym (after_same g c e)) same
 
 -- an edge call that changes something finds both keys
-pub keys_there : (g : Graph) (a b : ℕ) (r : Answer) → is_change (on_keys g a b r).outcome ≡ true → (has g a && has g b) ≡ true
+pub keys_there : (g : Graph) (a b : ℕ) (r : Answer) → is_change (on_keys g a b r).outcome ≡ true →
+    (has g a && has g b) ≡ true
 keys_there g a b r e = by (has g a && has g b) e
   where
     by : (t : Bool) → is_change (cond t r (plain out.NoVertex)).outcome ≡ true → t ≡ true
@@ -107,7 +120,8 @@ same_yes true false e = absurd (cc)
 same_yes false true e = absurd (cc)
 same_yes false false e = refl
 
-same_weight : (v w : Option ℕ) → (by_weight v out.Edge out.NoEdge).outcome ≡ (by_weight w out.Edge out.NoEdge).outcome → v ≡ w
+same_weight : (v w : Option ℕ) → (by_weight v out.Edge out.NoEdge).outcome ≡ (by_weight w out.Edge out.NoEdge).outcome
+    → v ≡ w
 same_weight None None e = refl
 same_weight None (Some w) e = absurd (cc)
 same_weight (Some v) None e = absurd (cc)
@@ -126,10 +140,13 @@ alike-same g h valid_g valid_h alike = same_graph g h keys weights
     at : (a b : ℕ) (t : Bool) → (has g a && has g b) ≡ t → weight_of g a b ≡ weight_of h a b
     at a b false e = no_weight g valid_g a b e ∙ sym (no_weight h valid_h a b (sym (both a b) ∙ e))
     at a b true e =
-        let left : (on_keys g a b (by_weight (weight_of g a b) out.Edge out.NoEdge)).outcome ≡ (by_weight (weight_of g a b) out.Edge out.NoEdge).outcome =
+        let left : (on_keys g a b (by_weight (weight_of g a b) out.Edge out.NoEdge)).outcome ≡
+        (by_weight (weight_of g a b) out.Edge out.NoEdge).outcome =
         ap (λ t. (cond t (by_weight (weight_of g a b) out.Edge out.NoEdge) (plain out.NoVertex)).outcome) e in
-        let right : (on_keys h a b (by_weight (weight_of h a b) out.Edge out.NoEdge)).outcome ≡ (by_weight (weight_of h a b) out.Edge out.NoEdge).outcome =
-        ap (λ t. (cond t (by_weight (weight_of h a b) out.Edge out.NoEdge) (plain out.NoVertex)).outcome) (sym (both a b) ∙ e) in
+        let right : (on_keys h a b (by_weight (weight_of h a b) out.Edge out.NoEdge)).outcome ≡
+        (by_weight (weight_of h a b) out.Edge out.NoEdge).outcome =
+        ap (λ t. (cond t (by_weight (weight_of h a b) out.Edge out.NoEdge) (plain out.NoVertex)).outcome)
+        (sym (both a b) ∙ e) in
         same_weight _ _ (sym left ∙ (ap (λ (r : Answer). r.outcome) (alike (HasEdge a b)) ∙ right))
 
     weights : (a b : ℕ) → weight_of g a b ≡ weight_of h a b
@@ -158,26 +175,35 @@ kept_some false x w e = absurd (cc)
 
 vertex_removed : (g : Graph) (k : ℕ) → IsGraph g → IsGraph (without g k)
 vertex_removed g k v = record {
-  from_key = λ a b w e. let s = at a b w e in has_cut g.keys k a ∙ (λ i. and_left (not (a == k)) (not (b == k)) s.0 i && v.from_key a b w s.1 i);
-  to_key = λ a b w e. let s = at a b w e in has_cut g.keys k b ∙ (λ i. and_right (not (a == k)) (not (b == k)) s.0 i && v.to_key a b w s.1 i);
+  from_key = λ a b w e. let s = at a b w e in has_cut g.keys k a ∙
+      (λ i. and_left (not (a == k)) (not (b == k)) s.0 i && v.from_key a b w s.1 i);
+  to_key = λ a b w e. let s = at a b w e in has_cut g.keys k b ∙
+      (λ i. and_right (not (a == k)) (not (b == k)) s.0 i && v.to_key a b w s.1 i);
   weighed = λ a b w e. v.weighed a b w (at a b w e).1;
 }
   where
-    at : (a b w : ℕ) → weight_of (without g k) a b ≡ Some w → ((not (a == k) && not (b == k)) ≡ true) × (weight_of g a b ≡ Some w)
-    at a b w e = kept_some (not (a == k) && not (b == k)) (weight_of g a b) w (sym (weight_kept g.pairs (λ p. not (p.0 == k) && not (p.1 == k)) a b) ∙ e)
+    at : (a b w : ℕ) → weight_of (without g k) a b ≡ Some w → ((not (a == k) && not (b == k)) ≡ true) ×
+        (weight_of g a b ≡ Some w)
+    at a b w e = kept_some (not (a == k) && not (b == k)) (weight_of g a b) w
+        (sym (weight_kept g.pairs (λ p. not (p.0 == k) && not (p.1 == k)) a b) ∙ e)
 
-edge_added : (g : Graph) (c d x : ℕ) → IsGraph g → 1 ≤ x → (has g c && has g d) ≡ true → IsGraph (change g (AddEdge c d x))
+edge_added : (g : Graph) (c d x : ℕ) → IsGraph g → 1 ≤ x → (has g c && has g d) ≡ true → IsGraph
+    (change g (AddEdge c d x))
 edge_added g c d x v some there = record {
-  from_key = λ a b w e. by_new (λ w. has g a ≡ true) a b w e (λ f s. subst (λ k. has g k ≡ true) (sym f) (and_left (has g c) (has g d) there)) (v.from_key a b w);
-  to_key = λ a b w e. by_new (λ w. has g b ≡ true) a b w e (λ f s. subst (λ k. has g k ≡ true) (sym s) (and_right (has g c) (has g d) there)) (v.to_key a b w);
+  from_key = λ a b w e. by_new (λ w. has g a ≡ true) a b w e (λ f s. subst (λ k. has g k ≡ true) (sym f)
+      (and_left (has g c) (has g d) there)) (v.from_key a b w);
+  to_key = λ a b w e. by_new (λ w. has g b ≡ true) a b w e (λ f s. subst (λ k. has g k ≡ true) (sym s)
+      (and_right (has g c) (has g d) there)) (v.to_key a b w);
   weighed = λ a b w e. by_new (λ w. 1 ≤ w) a b w e (λ f s. some) (v.weighed a b w);
 }
   where
-    split : (P : ℕ → Type 0) (t : Bool) (o : Option ℕ) (w : ℕ) → cond t (Some x) o ≡ Some w → (t ≡ true → P x) → (o ≡ Some w → P w) → P w
+    split : (P : ℕ → Type 0) (t : Bool) (o : Option ℕ) (w : ℕ) → cond t (Some x) o ≡ Some w → (t ≡ true → P x) →
+        (o ≡ Some w → P w) → P w
     split P true o w e new old = let same : x ≡ w = cc in subst P same (new refl)
     split P false o w e new old = old e
 
-    by_new : (P : ℕ → Type 0) (a b w : ℕ) → weight_of (change g (AddEdge c d x)) a b ≡ Some w → (a ≡ c → b ≡ d → P x) → (weight_of g a b ≡ Some w → P w) → P w
+    by_new : (P : ℕ → Type 0) (a b w : ℕ) → weight_of (change g (AddEdge c d x)) a b ≡ Some w → (a ≡ c → b ≡ d → P x) →
+        (weight_of g a b ≡ Some w → P w) → P w
     by_new P a b w e new old =
         split P ((a == c) && (b == d)) (weight_of g a b) w (sym (weight_put g.pairs c d x a b) ∙ e)
         (λ t. new (eqb-true a c (and_left (a == c) (b == d) t)) (eqb-true b d (and_right (a == c) (b == d) t))) old
@@ -212,7 +238,8 @@ after_valid g c made v = after_either IsGraph g c (λ e. by c made e) v
     by (Cheapest a b) made e = v
 
 -- an answer that adds is not one that removes, looks up or asks for a way
-no_add_weight : (g : Graph) (a b : ℕ) (there : ℕ → Outcome) (gone : Outcome) → ((w : ℕ) → is_new (there w) ≡ false) → is_new gone ≡ false → is_new (on_keys g a b (by_weight (weight_of g a b) there gone)).outcome ≡ false
+no_add_weight : (g : Graph) (a b : ℕ) (there : ℕ → Outcome) (gone : Outcome) → ((w : ℕ) → is_new (there w) ≡ false)
+    → is_new gone ≡ false → is_new (on_keys g a b (by_weight (weight_of g a b) there gone)).outcome ≡ false
 no_add_weight g a b there gone p q = by (has g a && has g b) (weight_of g a b)
   where
     by : (t : Bool) (w : Option ℕ) → is_new (cond t (by_weight w there gone) (plain out.NoVertex)).outcome ≡ false
@@ -220,13 +247,17 @@ no_add_weight g a b there gone p q = by (has g a && has g b) (weight_of g a b)
     by true None = q
     by true (Some w) = p w
 
-added_there : (g : Graph) (a b u : ℕ) → is_new (on_keys g a b (by_weight (weight_of g a b) (there_with u) out.Added)).outcome ≡ true → ((has g a && has g b) ≡ true) × (weight_of g a b ≡ None)
+added_there : (g : Graph) (a b u : ℕ) → is_new (on_keys g a b
+    (by_weight (weight_of g a b) (there_with u) out.Added)).outcome ≡ true → ((has g a && has g b) ≡ true) ×
+    (weight_of g a b ≡ None)
 added_there g a b u e = by (has g a && has g b) (weight_of g a b) e
   where
-    by : (t : Bool) (w : Option ℕ) → is_new (cond t (by_weight w (there_with u) out.Added) (plain out.NoVertex)).outcome ≡ true → (t ≡ true) × (w ≡ None)
+    by : (t : Bool) (w : Option ℕ) → is_new (cond t (by_weight w (there_with u) out.Added) (plain out.NoVertex)).outcome
+        ≡ true → (t ≡ true) × (w ≡ None)
     by false w e = absurd (true≢false (sym e))
     by true None e = (refl, refl)
-    by true (Some w) e = absurd (elim (w == u) as (λ t. is_new (cond t (out.Present w) (out.Changed w)) ≡ true → ⊥) [ true ↦ λ f. true≢false (sym f) | false ↦ λ f. true≢false (sym f) ] e)
+    by true (Some w) e = absurd (elim (w == u) as (λ t. is_new (cond t (out.Present w) (out.Changed w)) ≡ true → ⊥)
+        [ true ↦ λ f. true≢false (sym f) | false ↦ λ f. true≢false (sym f) ] e)
 
 fresh_key : (g : Graph) (k : ℕ) → is_new (cond (has g k) (out.Present 0) out.Added) ≡ true → has g k ≡ false
 fresh_key g k e = by (has g k) e
@@ -256,46 +287,69 @@ new_alters g c e = by (answer g c).outcome e
 key_more : (g : Graph) (k : ℕ) → has g k ≡ false → set.len (set.insert g.keys k) ≡ set.len g.keys + 1
 key_more g k e = set.len-insert nat_cmp_total g.keys k ∙ ap (λ t. cond t (set.len g.keys) (set.len g.keys + 1)) e
 
-pair_more : (g : Graph) (a b w : ℕ) → weight_of g a b ≡ None → map.len (map.insert g.pairs (a, b) w) ≡ map.len g.pairs + 1
-pair_more g a b w e = map.len-insert pair_total g.pairs (a, b) w ∙ ap (λ o. cond (is_some o) (map.len g.pairs) (map.len g.pairs + 1)) e
+pair_more : (g : Graph) (a b w : ℕ) → weight_of g a b ≡ None → map.len
+    (map.insert g.pairs (a, b) w) ≡ map.len g.pairs + 1
+pair_more g a b w e = map.len-insert pair_total g.pairs (a, b) w ∙ ap
+    (λ o. cond (is_some o) (map.len g.pairs) (map.len g.pairs + 1)) e
 
-pub one_more : (g : Graph) (c : Call) → grows g c ≡ true → key_count (after g c) + pair_count (after g c) ≡ key_count g + pair_count g + 1
+pub one_more : (g : Graph) (c : Call) → grows g c ≡ true → key_count (after g c) + pair_count
+    (after g c) ≡ key_count g + pair_count g + 1
 unfolding grows answer
-one_more g c e = subst (λ (h : Graph). key_count h + pair_count h ≡ key_count g + pair_count g + 1) (sym (after_change g c (new_alters g c e))) (by c e)
+one_more g c e = subst (λ (h : Graph). key_count h + pair_count h ≡ key_count g + pair_count g + 1)
+    (sym (after_change g c (new_alters g c e))) (by c e)
   where
-    no : (c : Call) → is_new (answer g c).outcome ≡ false → is_new (answer g c).outcome ≡ true → key_count (change g c) + pair_count (change g c) ≡ key_count g + pair_count g + 1
+    no : (c : Call) → is_new (answer g c).outcome ≡ false → is_new (answer g c).outcome ≡ true → key_count
+        (change g c) + pair_count (change g c) ≡ key_count g + pair_count g + 1
     no c f t = absurd (true≢false (sym t ∙ f))
 
-    by : (c : Call) → grows g c ≡ true → key_count (change g c) + pair_count (change g c) ≡ key_count g + pair_count g + 1
+    by : (c : Call) → grows g c ≡ true → key_count (change g c) + pair_count
+        (change g c) ≡ key_count g + pair_count g + 1
     by (AddVertex k) e = let h = key_more g k (fresh_key g k e) in omega arith
-    by (RemoveVertex k) e = no (RemoveVertex k) (elim (has g k) as (λ t. is_new (cond t (out.Removed 0) out.Absent) ≡ false) [ true ↦ refl | false ↦ refl ]) e
-    by (HasVertex k) e = no (HasVertex k) (elim (has g k) as (λ t. is_new (cond t out.Yes out.No) ≡ false) [ true ↦ refl | false ↦ refl ]) e
+    by (RemoveVertex k) e = no (RemoveVertex k) (elim (has g k) as
+        (λ t. is_new (cond t (out.Removed 0) out.Absent) ≡ false) [ true ↦ refl | false ↦ refl ]) e
+    by (HasVertex k) e = no (HasVertex k) (elim (has g k) as (λ t. is_new (cond t out.Yes out.No) ≡ false)
+        [ true ↦ refl | false ↦ refl ]) e
     by (AddEdge a b w) e = let h = pair_more g a b w (added_there g a b w e).1 in omega arith
     by (RemoveEdge a b) e = no (RemoveEdge a b) (no_add_weight g a b out.Removed out.NoEdge (λ w. refl) refl) e
     by (HasEdge a b) e = no (HasEdge a b) (no_add_weight g a b out.Edge out.NoEdge (λ w. refl) refl) e
-    by (Reach a b) e = no (Reach a b) (elim (has g a && has g b) as (λ t. is_new (cond t (by_path (reach_path g a b)) (plain out.NoVertex)).outcome ≡ false) [ true ↦ elim (reach_path g a b) as (λ p. is_new (by_path p).outcome ≡ false) [ None ↦ refl | Some p ↦ refl ] | false ↦ refl ]) e
-    by (Levels a) e = no (Levels a) (elim (has g a) as (λ t. is_new (cond t (by_levels (levels_of g a)) (plain out.NoVertex)).outcome ≡ false) [ true ↦ refl | false ↦ refl ]) e
-    by (Cheapest a b) e = no (Cheapest a b) (elim (has g a && has g b) as (λ t. is_new (cond t (by_cost (least_cost g a b) (cheapest_path g a b)) (plain out.NoVertex)).outcome ≡ false) [ true ↦ elim (least_cost g a b) as (λ c. is_new (by_cost c (cheapest_path g a b)).outcome ≡ false) [ None ↦ refl | Some c ↦ refl ] | false ↦ refl ]) e
+    by (Reach a b) e = no (Reach a b) (elim (has g a && has g b) as
+        (λ t. is_new (cond t (by_path (reach_path g a b)) (plain out.NoVertex)).outcome ≡ false) [
+          | true ↦ elim (reach_path g a b) as (λ p. is_new (by_path p).outcome ≡ false) [ None ↦ refl | Some p ↦ refl ]
+          | false ↦ refl
+        ]) e
+    by (Levels a) e = no (Levels a) (elim (has g a) as (λ t. is_new
+        (cond t (by_levels (levels_of g a)) (plain out.NoVertex)).outcome ≡ false) [ true ↦ refl | false ↦ refl ]) e
+    by (Cheapest a b) e = no (Cheapest a b) (elim (has g a && has g b) as
+        (λ t. is_new (cond t (by_cost (least_cost g a b) (cheapest_path g a b)) (plain out.NoVertex)).outcome ≡ false) [
+          | true ↦ elim (least_cost g a b) as (λ c. is_new (by_cost c (cheapest_path g a b)).outcome ≡ false)
+              [ None ↦ refl | Some c ↦ refl ]
+          | false ↦ refl
+        ]) e
 
 key_less : (g : Graph) (k : ℕ) → set.len (set.remove g.keys k) ≤ set.len g.keys
 key_less g k = let h = set.len-remove nat_cmp_total g.keys k in by (set.contains g.keys k) h
   where
-    by : (t : Bool) → set.len (set.remove g.keys k) ≡ cond t (set.len g.keys - 1) (set.len g.keys) → set.len (set.remove g.keys k) ≤ set.len g.keys
+    by : (t : Bool) → set.len (set.remove g.keys k) ≡ cond t (set.len g.keys - 1) (set.len g.keys) → set.len
+        (set.remove g.keys k) ≤ set.len g.keys
     by true h = omega arith
     by false h = omega arith
 
 pair_less : (g : Graph) (a b : ℕ) → map.len (map.remove g.pairs (a, b)) ≤ map.len g.pairs
 pair_less g a b = let h = map.len-remove pair_total g.pairs (a, b) in by (map.contains_key g.pairs (a, b)) h
   where
-    by : (t : Bool) → map.len (map.remove g.pairs (a, b)) ≡ cond t (map.len g.pairs - 1) (map.len g.pairs) → map.len (map.remove g.pairs (a, b)) ≤ map.len g.pairs
+    by : (t : Bool) → map.len (map.remove g.pairs (a, b)) ≡ cond t (map.len g.pairs - 1) (map.len g.pairs) → map.len
+        (map.remove g.pairs (a, b)) ≤ map.len g.pairs
     by true h = omega arith
     by false h = omega arith
 
-pub none_more : (g : Graph) (c : Call) → grows g c ≡ false → key_count (after g c) + pair_count (after g c) ≤ key_count g + pair_count g
+pub none_more : (g : Graph) (c : Call) → grows g c ≡ false → key_count (after g c) + pair_count
+    (after g c) ≤ key_count g + pair_count g
 unfolding grows alters answer
-none_more g c e = after_either (λ (h : Graph). key_count h + pair_count h ≤ key_count g + pair_count g) g c (by c e) (omega arith)
+none_more g c e = after_either (λ (h : Graph). key_count h + pair_count h ≤ key_count g + pair_count g) g c (by c e)
+    (omega arith)
   where
-    adds : (o : Outcome) → is_new o ≡ false → is_change o ≡ true → ((w : ℕ) → o ≡ out.Removed w → ⊥) → ((w : ℕ) → o ≡ out.Changed w → ⊥) → ⊥
+    adds : (o : Outcome) → is_new o ≡ false → is_change o ≡ true → ((w : ℕ) → o ≡ out.Removed w → ⊥) →
+        ((w : ℕ) → o ≡ out.Changed w → ⊥) → ⊥
     adds out.Added f t r c = absurd (true≢false f)
     adds (out.Removed w) f t r c = r w refl
     adds (out.Changed w) f t r c = c w refl
@@ -309,26 +363,33 @@ none_more g c e = after_either (λ (h : Graph). key_count h + pair_count h ≤ k
     unchanged true w e = cc
     unchanged false w e = cc
 
-    edge : (t : Bool) (o : Option ℕ) (w : ℕ) → is_new (cond t (by_weight o (there_with w) out.Added) (plain out.NoVertex)).outcome ≡ false
-        → is_change (cond t (by_weight o (there_with w) out.Added) (plain out.NoVertex)).outcome ≡ true → is_some o ≡ true
+    edge : (t : Bool) (o : Option ℕ) (w : ℕ) → is_new (cond t (by_weight o (there_with w) out.Added)
+        (plain out.NoVertex)).outcome ≡ false
+        → is_change (cond t (by_weight o (there_with w) out.Added) (plain out.NoVertex)).outcome ≡ true
+        → is_some o ≡ true
     edge true None w e a = absurd (true≢false e)
     edge true (Some x) w e a = refl
     edge false o w e a = absurd (true≢false (sym a))
 
-    by : (c : Call) → grows g c ≡ false → alters g c ≡ true → key_count (change g c) + pair_count (change g c) ≤ key_count g + pair_count g
-    by (AddVertex k) e a = absurd (adds (cond (has g k) (out.Present 0) out.Added) e a (vertex (has g k)) (unchanged (has g k)))
-    by (RemoveVertex k) e a = let h = key_less g k in let i = len-retain_keys g.pairs (λ p. not (p.0 == k) && not (p.1 == k)) in omega arith
+    by : (c : Call) → grows g c ≡ false → alters g c ≡ true → key_count (change g c) + pair_count
+        (change g c) ≤ key_count g + pair_count g
+    by (AddVertex k) e a = absurd (adds (cond (has g k) (out.Present 0) out.Added) e a (vertex (has g k))
+        (unchanged (has g k)))
+    by (RemoveVertex k) e a = let h = key_less g k in let i = len-retain_keys g.pairs
+        (λ p. not (p.0 == k) && not (p.1 == k)) in omega arith
     by (HasVertex k) e a = omega arith
     by (AddEdge c d w) e a =
         let there = edge (has g c && has g d) (weight_of g c d) w e a in
-        let h = map.len-insert pair_total g.pairs (c, d) w ∙ ap (λ t. cond t (map.len g.pairs) (map.len g.pairs + 1)) there in omega arith
+        let h = map.len-insert pair_total g.pairs (c, d) w ∙ ap
+        (λ t. cond t (map.len g.pairs) (map.len g.pairs + 1)) there in omega arith
     by (RemoveEdge c d) e a = let h = pair_less g c d in omega arith
     by (HasEdge c d) e a = omega arith
     by (Reach c d) e a = omega arith
     by (Levels c) e a = omega arith
     by (Cheapest c d) e a = omega arith
 
-demand_plain : (o : Outcome) → IsPlain o → (r : Answer) (g : Graph) (i : Item) (later : List Item) → r ≡ answer g i.call → Demand o r g i later
+demand_plain : (o : Outcome) → IsPlain o → (r : Answer) (g : Graph) (i : Item) (later : List Item) → r ≡ answer g i.call
+    → Demand o r g i later
 demand_plain out.Overtaken p r g i later e = absurd p
 demand_plain out.Full p r g i later e = absurd p
 demand_plain out.Again p r g i later e = absurd p
@@ -340,12 +401,16 @@ left_plain out.Full p g c = absurd p
 left_plain out.Again p g c = absurd p
 left_plain _ p g c = refl
 
-pub replay_legal : (g : Graph) (rows : List Row) → LegalFrom g (answered rows (answers g (calls_of rows))) (after_all g (calls_of rows))
+pub replay_legal : (g : Graph) (rows : List Row) → LegalFrom g (answered rows (answers g (calls_of rows)))
+    (after_all g (calls_of rows))
 replay_legal g [] = refl
 replay_legal g (r ∷ rows) = (
-  demand_plain (answer g r.call).outcome (answer-plain g r.call) (answer g r.call) g (item_by (r, answer g r.call)) (answered rows (answers (after g r.call) (calls_of rows))) refl,
-  subst (λ (h : Graph). LegalFrom h (answered rows (answers (after g r.call) (calls_of rows))) (after_all (after g r.call) (calls_of rows)))
-      (sym (left_plain (answer g r.call).outcome (answer-plain g r.call) g r.call)) (replay_legal (after g r.call) rows),
+  demand_plain (answer g r.call).outcome (answer-plain g r.call) (answer g r.call) g (item_by (r, answer g r.call))
+      (answered rows (answers (after g r.call) (calls_of rows))) refl,
+  subst (λ (h : Graph). LegalFrom h (answered rows (answers (after g r.call) (calls_of rows)))
+      (after_all (after g r.call) (calls_of rows)))
+      (sym (left_plain (answer g r.call).outcome (answer-plain g r.call) g r.call))
+      (replay_legal (after g r.call) rows),
 )
 
 pub length-answers : (g : Graph) (rows : List Row) → length (answers g (calls_of rows)) ≡ length rows

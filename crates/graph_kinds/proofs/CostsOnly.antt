@@ -1,5 +1,6 @@
 -- Only one path to a key goes by the least keys.
-use Rattle.std.proofs.Common.{◌≡◌, ℕ, zero, suc, ◌+◌, ◌≤◌, true, inl, inr, ◌⊎◌, List, [], ◌∷◌, ◌++◌, length, length-append, unwrap_or, Option, Some, is_some, refl, sym, ap, ◌∙◌, subst, arith}
+use Rattle.std.proofs.Common.{◌≡◌, ℕ, zero, suc, ◌+◌, ◌≤◌, true, inl, inr, ◌⊎◌, List, [], ◌∷◌, ◌++◌, length}
+use Rattle.std.proofs.Common.{length-append, unwrap_or, Option, Some, is_some, refl, sym, ap, ◌∙◌, subst, arith}
 use Rattle.graph_kinds.specs.Graph.{Graph, IsGraph, has, weight_of}
 use Rattle.graph_kinds.specs.Path.{IsPath, least_cost, cheapest_path, LeadsOver, IsKeyBefore, GoesByLeastKeys}
 use Rattle.graph_kinds.proofs.PathsWalks.{weight_there}
@@ -17,7 +18,8 @@ record IsSplit (g : Graph) (a start b : ℕ) (p : List ℕ) : Type 0 where
   pub key : IsKeyBefore g a x b
 
 -- the split of a path with one more pair at its front
-split_on : (g : Graph) (a start b x y : ℕ) (p : List ℕ) → IsGraph g → x ≡ start → is_some (weight_of g x y) ≡ true → IsKeyBefore g a x y
+split_on : (g : Graph) (a start b x y : ℕ) (p : List ℕ) → IsGraph g → x ≡ start → is_some (weight_of g x y) ≡ true
+    → IsKeyBefore g a x y
     → ((p ≡ b ∷ []) × (y ≡ b)) ⊎ IsSplit g a y b p → IsSplit g a start b (x ∷ p)
 split_on g a start b x y p is same pair k (inl e) =
     let w = weight_there (weight_of g x y) pair in
@@ -41,10 +43,12 @@ split_on g a start b x y p is same pair k (inr s) =
     }
 
 -- each path is one key or has a key before its last one
-split : (g : Graph) (a start b : ℕ) (p : List ℕ) → IsGraph g → IsPath g start b p → GoesByLeastKeys g a p → ((p ≡ b ∷ []) × (start ≡ b)) ⊎ IsSplit g a start b p
+split : (g : Graph) (a start b : ℕ) (p : List ℕ) → IsGraph g → IsPath g start b p → GoesByLeastKeys g a p →
+    ((p ≡ b ∷ []) × (start ≡ b)) ⊎ IsSplit g a start b p
 split g a start b [] is h k = absurd h
 split g a start b (x ∷ []) is h k = inl (ap (λ (z : ℕ). z ∷ []) h.1, sym h.0 ∙ h.1)
-split g a start b (x ∷ y ∷ p) is h k = inr (split_on g a start b x y (y ∷ p) is h.0 h.1 k.0 (split g a y b (y ∷ p) is h.2 k.1))
+split g a start b (x ∷ y ∷ p) is h k = inr (split_on g a start b x y (y ∷ p) is h.0 h.1 k.0
+    (split g a y b (y ∷ p) is h.2 k.1))
 
 -- no key stands before the first
 none_before : (g : Graph) (a x b : ℕ) → IsGraph g → has g a ≡ true → IsKeyBefore g a x b → a ≡ b → ⊥
@@ -55,7 +59,8 @@ none_before g a x b is there k same =
     absurd (omega (arith, total, is.weighed x b l.weight l.pair))
 
 -- two paths to a key by the least keys are one, from the last key back
-same_path : (g : Graph) (a : ℕ) → IsGraph g → has g a ≡ true → (n b : ℕ) (p q : List ℕ) → length p ≤ n → IsPath g a b p → GoesByLeastKeys g a p → IsPath g a b q → GoesByLeastKeys g a q → p ≡ q
+same_path : (g : Graph) (a : ℕ) → IsGraph g → has g a ≡ true → (n b : ℕ) (p q : List ℕ) → length p ≤ n → IsPath g a b p
+    → GoesByLeastKeys g a p → IsPath g a b q → GoesByLeastKeys g a q → p ≡ q
 same_path g a is there zero b [] q short h k i j = absurd h
 same_path g a is there zero b (x ∷ p) q short h k i j = absurd (omega arith)
 same_path g a is there (suc n) b p q short h k i j =
@@ -68,14 +73,22 @@ same_path g a is there (suc n) b p q short h k i j =
         | inl f ↦ absurd (none_before g a s.x b is there s.key f.1)
         | inr t ↦
             let same : s.x ≡ t.x = omega (arith, s.key.least t.x t.key.leads, t.key.least s.x s.key.leads) in
-            let short_front : length s.front ≤ n = omega (arith, short, ap length s.whole, length-append s.front (b ∷ [])) in
-            let fronts = same_path g a is there n s.x s.front t.front short_front s.is_path s.keys (subst (λ (z : ℕ). IsPath g a z t.front) (sym same) t.is_path) t.keys in
+            let short_front : length s.front ≤ n = omega (
+              arith,
+              short,
+              ap length s.whole,
+              length-append s.front
+                  (b ∷ []),
+            ) in
+            let fronts = same_path g a is there n s.x s.front t.front short_front s.is_path s.keys
+            (subst (λ (z : ℕ). IsPath g a z t.front) (sym same) t.is_path) t.keys in
             s.whole ∙ (ap (λ (f : List ℕ). f ++ b ∷ []) fronts ∙ sym t.whole)
       ]
     ]
 
 -- so each such path is the one found backwards
-pub only_law : (g : Graph) (a b : ℕ) (p : List ℕ) → IsGraph g → has g a ≡ true → IsPath g a b p → GoesByLeastKeys g a p → p ≡ cheapest_path g a b
+pub only_law : (g : Graph) (a b : ℕ) (p : List ℕ) → IsGraph g → has g a ≡ true → IsPath g a b p → GoesByLeastKeys g a p
+    → p ≡ cheapest_path g a b
 only_law g a b p is there h k =
     let r = path_least g a b is there p h in
     let c : IsCheapest g a b r.0 (cheapest_path g a b) = cheapest g is a there b r.0 r.1 in

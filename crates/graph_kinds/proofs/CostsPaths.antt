@@ -1,9 +1,11 @@
 -- The listed paths are the paths of fewer pairs than the graph has keys, and each path costs no less than one of them.
-use Rattle.std.proofs.Common.{◌≡◌, ℕ, zero, suc, ◌+◌, ◌≤◌, true, inl, inr, List, [], ◌∷◌, length, map, unwrap_or, is_some, refl, sym, ap, subst, arith}
+use Rattle.std.proofs.Common.{◌≡◌, ℕ, zero, suc, ◌+◌, ◌≤◌, true, inl, inr, List, [], ◌∷◌, length, map, unwrap_or}
+use Rattle.std.proofs.Common.{is_some, refl, sym, ap, subst, arith}
 use Rattle.std.proofs.lemmas.Bool.{eq-eqb, eqb-true, cases_lt}
 use Rattle.graph_kinds.specs.Graph.{Graph, IsGraph, has, weight_of, neighbours, key_count}
 use Rattle.graph_kinds.specs.Path.{IsPath, cost_of, paths_of, short_paths, ends_with}
-use Rattle.graph_kinds.proofs.PathsLists.{In, Once, in_left, in_right, in_either, in_map, map_in, in_flat, flat_in, in_or_not, few}
+use Rattle.graph_kinds.proofs.PathsLists.{In, Once, in_left, in_right, in_either, in_map, map_in, in_flat, flat_in}
+use Rattle.graph_kinds.proofs.PathsLists.{in_or_not, few}
 use Rattle.graph_kinds.proofs.PathsWalks.{in_neighbours, neighbours_in, key_behind, path_keys}
 
 -- a path to b ends with b
@@ -22,16 +24,27 @@ path_listed g a b (suc n) (x ∷ y ∷ p) h long =
     let later = path_listed g y b n (y ∷ p) h.2 (omega arith) in
     let here : is_some (weight_of g a y) ≡ true = subst (λ (z : ℕ). is_some (weight_of g z y) ≡ true) h.0 h.1 in
     subst (λ (z : ℕ). In (z ∷ y ∷ p) (paths_of g (suc n) a)) (sym h.0)
-    (in_flat (λ z. map (λ q. a ∷ q) (paths_of g n z)) y (a ∷ y ∷ p) (neighbours g a) (in_neighbours g a y here) (in_map (λ q. a ∷ q) (y ∷ p) (paths_of g n y) later))
+    (in_flat (λ z. map (λ q. a ∷ q) (paths_of g n z)) y (a ∷ y ∷ p) (neighbours g a) (in_neighbours g a y here)
+    (in_map (λ q. a ∷ q) (y ∷ p) (paths_of g n y) later))
 
 -- a path with one more key at its front
-path_before : (g : Graph) (a y b : ℕ) (q : List ℕ) → IsPath g y b q → is_some (weight_of g a y) ≡ true → IsPath g a b (a ∷ q)
+path_before : (g : Graph) (a y b : ℕ) (q : List ℕ) → IsPath g y b q → is_some (weight_of g a y) ≡ true → IsPath g a b
+    (a ∷ q)
 path_before g a y b [] h pair = absurd h
-path_before g a y b (z ∷ []) h pair = (refl, subst (λ (u : ℕ). is_some (weight_of g a u) ≡ true) (sym h.0) pair, (refl, h.1, h.2))
-path_before g a y b (z ∷ u ∷ q) h pair = (refl, subst (λ (v : ℕ). is_some (weight_of g a v) ≡ true) (sym h.0) pair, (refl, h.1, h.2))
+path_before g a y b (z ∷ []) h pair = (
+  refl,
+  subst (λ (u : ℕ). is_some (weight_of g a u) ≡ true) (sym h.0) pair,
+  (refl, h.1, h.2),
+)
+path_before g a y b (z ∷ u ∷ q) h pair = (
+  refl,
+  subst (λ (v : ℕ). is_some (weight_of g a v) ≡ true) (sym h.0) pair,
+  (refl, h.1, h.2),
+)
 
 -- a listed path has a key, so one more at its front changes no end
-ends_before : (b x : ℕ) (n : ℕ) (g : Graph) (y : ℕ) (q : List ℕ) → In q (paths_of g n y) → ends_with b (x ∷ q) ≡ true → ends_with b q ≡ true
+ends_before : (b x : ℕ) (n : ℕ) (g : Graph) (y : ℕ) (q : List ℕ) → In q (paths_of g n y) → ends_with b (x ∷ q) ≡ true
+    → ends_with b q ≡ true
 ends_before b x n g y [] h e = absurd (none n y h)
   where
     none : (m z : ℕ) → In [] (paths_of g m z) → ⊥
@@ -44,7 +57,8 @@ ends_before b x n g y [] h e = absurd (none n y h)
 ends_before b x n g y (z ∷ q) h e = e
 
 -- what is listed and ends with b is a path to b
-pub listed_path : (g : Graph) (a b n : ℕ) (p : List ℕ) → IsGraph g → has g a ≡ true → In p (paths_of g n a) → ends_with b p ≡ true → IsPath g a b p
+pub listed_path : (g : Graph) (a b n : ℕ) (p : List ℕ) → IsGraph g → has g a ≡ true → In p (paths_of g n a)
+    → ends_with b p ≡ true → IsPath g a b p
 listed_path g a b zero p is there (inl same) e =
     let end : a ≡ b = eqb-true a b (subst (λ (q : List ℕ). ends_with b q ≡ true) (sym same) e) in
     subst (IsPath g a b) same (refl, end, there)
@@ -67,12 +81,14 @@ short_listed g a b (suc n) p h short = elim (cases_lt n (length p)) as (λ _. In
 ]
 
 -- what is listed there and ends with b is a path to b
-pub short_path : (g : Graph) (a b n : ℕ) (p : List ℕ) → IsGraph g → has g a ≡ true → In p (short_paths g n a) → ends_with b p ≡ true → IsPath g a b p
+pub short_path : (g : Graph) (a b n : ℕ) (p : List ℕ) → IsGraph g → has g a ≡ true → In p (short_paths g n a)
+    → ends_with b p ≡ true → IsPath g a b p
 short_path g a b zero p is there h e = absurd h
-short_path g a b (suc n) p is there h e = elim (in_either p (short_paths g n a) (paths_of g n a) h) as (λ _. IsPath g a b p) [
-  | inl k ↦ short_path g a b n p is there k e
-  | inr k ↦ listed_path g a b n p is there k e
-]
+short_path g a b (suc n) p is there h e = elim (in_either p (short_paths g n a) (paths_of g n a) h) as
+    (λ _. IsPath g a b p) [
+      | inl k ↦ short_path g a b n p is there k e
+      | inr k ↦ listed_path g a b n p is there k e
+    ]
 
 -- a path from x to b that meets no key twice and costs no more than c
 pub record IsRoute (g : Graph) (x b c : ℕ) : Type 0 where
@@ -83,15 +99,34 @@ pub record IsRoute (g : Graph) (x b c : ℕ) : Type 0 where
 
 -- a higher bound
 cheaper : (g : Graph) (x b c d : ℕ) → c ≤ d → IsRoute g x b c → IsRoute g x b d
-cheaper g x b c d le r = record { path = r.path; is_path = r.is_path; once = r.once; cheap = omega (arith, r.cheap, le) }
+cheaper g x b c d le r = record {
+  path = r.path;
+  is_path = r.is_path;
+  once = r.once;
+  cheap = omega
+      (arith, r.cheap, le);
+}
 
 -- the part of a path from one of its keys on
 part_from : (g : Graph) (y b x : ℕ) (q : List ℕ) → IsPath g y b q → Once q → In x q → IsRoute g x b (cost_of g q)
 part_from g y b x [] h o k = absurd k
-part_from g y b x (z ∷ []) h o (inl e) = record { path = z ∷ []; is_path = (e, h.1, h.2); once = o; cheap = omega arith }
+part_from g y b x (z ∷ []) h o (inl e) = record {
+  path = z ∷ [];
+  is_path =
+      (e, h.1, h.2);
+  once = o;
+  cheap = omega arith;
+}
 part_from g y b x (z ∷ []) h o (inr k) = absurd k
-part_from g y b x (z ∷ u ∷ q) h o (inl e) = record { path = z ∷ u ∷ q; is_path = (e, h.1, h.2); once = o; cheap = omega arith }
-part_from g y b x (z ∷ u ∷ q) h o (inr k) = cheaper g x b (cost_of g (u ∷ q)) (cost_of g (z ∷ u ∷ q)) (omega arith) (part_from g u b x (u ∷ q) h.2 o.1 k)
+part_from g y b x (z ∷ u ∷ q) h o (inl e) = record {
+  path = z ∷ u ∷ q;
+  is_path =
+      (e, h.1, h.2);
+  once = o;
+  cheap = omega arith;
+}
+part_from g y b x (z ∷ u ∷ q) h o (inr k) = cheaper g x b (cost_of g (u ∷ q)) (cost_of g (z ∷ u ∷ q)) (omega arith)
+    (part_from g u b x (u ∷ q) h.2 o.1 k)
 
 -- a path from y begins with y
 pub path_head : (g : Graph) (y b : ℕ) (q : List ℕ) → IsPath g y b q → (rest : List ℕ) × (q ≡ y ∷ rest)
@@ -100,18 +135,20 @@ path_head g y b (z ∷ []) h = ([], ap (λ (u : ℕ). u ∷ []) h.0)
 path_head g y b (z ∷ u ∷ q) h = (u ∷ q, ap (λ (v : ℕ). v ∷ u ∷ q) h.0)
 
 -- one more pair at the front, where a round is left out
-route_on : (g : Graph) (a x y b c : ℕ) → x ≡ a → is_some (weight_of g x y) ≡ true → IsRoute g y b c → IsRoute g a b (unwrap_or (weight_of g x y) 0 + c)
-route_on g a x y b c same pair r = elim (in_or_not r.path x) as (λ _. IsRoute g a b (unwrap_or (weight_of g x y) 0 + c)) [
-  | inl k ↦ subst (λ (z : ℕ). IsRoute g z b (unwrap_or (weight_of g x y) 0 + c)) same
-      (cheaper g x b (cost_of g r.path) _ (omega (arith, r.cheap)) (part_from g y b x r.path r.is_path r.once k))
-  | inr new ↦ let head = path_head g y b r.path r.is_path in
-      record {
-        path = x ∷ y ∷ head.0;
-        is_path = (same, pair, subst (IsPath g y b) head.1 r.is_path);
-        once = (λ k. new (subst (In x) (sym head.1) k), subst Once head.1 r.once);
-        cheap = omega (arith, r.cheap, ap (cost_of g) head.1);
-      }
-]
+route_on : (g : Graph) (a x y b c : ℕ) → x ≡ a → is_some (weight_of g x y) ≡ true → IsRoute g y b c → IsRoute g a b
+    (unwrap_or (weight_of g x y) 0 + c)
+route_on g a x y b c same pair r = elim (in_or_not r.path x) as
+    (λ _. IsRoute g a b (unwrap_or (weight_of g x y) 0 + c)) [
+      | inl k ↦ subst (λ (z : ℕ). IsRoute g z b (unwrap_or (weight_of g x y) 0 + c)) same
+          (cheaper g x b (cost_of g r.path) _ (omega (arith, r.cheap)) (part_from g y b x r.path r.is_path r.once k))
+      | inr new ↦ let head = path_head g y b r.path r.is_path in
+          record {
+            path = x ∷ y ∷ head.0;
+            is_path = (same, pair, subst (IsPath g y b) head.1 r.is_path);
+            once = (λ k. new (subst (In x) (sym head.1) k), subst Once head.1 r.once);
+            cheap = omega (arith, r.cheap, ap (cost_of g) head.1);
+          }
+    ]
 
 -- each path can be cut to one that meets no key twice
 pub cut : (g : Graph) (a b : ℕ) (p : List ℕ) → IsPath g a b p → IsRoute g a b (cost_of g p)

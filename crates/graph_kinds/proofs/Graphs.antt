@@ -1,5 +1,6 @@
 -- What graphs are by their look-ups, and what calls change.
-use Rattle.std.proofs.Common.{◌≡◌, ℕ, ◌≤◌, Bool, true, false, cond, not, ◌&&◌, ◌||◌, ◌==◌, List, [], ◌∷◌, length, Some, None, refl, sym, ap, ◌∙◌, arith}
+use Rattle.std.proofs.Common.{◌≡◌, ℕ, ◌≤◌, Bool, true, false, cond, not, ◌&&◌, ◌||◌, ◌==◌, List, [], ◌∷◌, length, Some}
+use Rattle.std.proofs.Common.{None, refl, sym, ap, ◌∙◌, arith}
 use Rattle.std.specs.Prelude.{filter}
 use Rattle.std.specs.declared.cmp.Ordering.{Ordering}
 use Rattle.std.specs.declared.cmp.Ordering.TheVariants.{Less, Equal, Greater}
@@ -49,17 +50,23 @@ has_put s j k = set.contains-insert nat_cmp_total s j k ∙ ap (λ b. b || set.c
 pub has_cut : (s : set.FinSet nat_cmp) (j k : ℕ) → set.contains (set.remove s j) k ≡ (not (k == j) && set.contains s k)
 has_cut s j k = set.contains-remove nat_cmp_total s j k ∙ ap (λ b. not b && set.contains s k) (unsigned_tied k j)
 
-pub weight_put : (m : map.FinMap pair_cmp ℕ) (c d w a b : ℕ) → map.get (map.insert m (c, d) w) (a, b) ≡ cond ((a == c) && (b == d)) (Some w) (map.get m (a, b))
-weight_put m c d w a b = map.get-insert pair_total m (c, d) w (a, b) ∙ ap (λ t. cond t (Some w) (map.get m (a, b))) (pair_tied a b c d)
+pub weight_put : (m : map.FinMap pair_cmp ℕ) (c d w a b : ℕ) → map.get (map.insert m (c, d) w) (a, b) ≡ cond
+    ((a == c) && (b == d)) (Some w) (map.get m (a, b))
+weight_put m c d w a b = map.get-insert pair_total m (c, d) w (a, b) ∙ ap (λ t. cond t (Some w) (map.get m (a, b)))
+    (pair_tied a b c d)
 
-pub weight_cut : (m : map.FinMap pair_cmp ℕ) (c d a b : ℕ) → map.get (map.remove m (c, d)) (a, b) ≡ cond ((a == c) && (b == d)) None (map.get m (a, b))
-weight_cut m c d a b = map.get-remove pair_total m (c, d) (a, b) ∙ ap (λ t. cond t None (map.get m (a, b))) (pair_tied a b c d)
+pub weight_cut : (m : map.FinMap pair_cmp ℕ) (c d a b : ℕ) → map.get (map.remove m (c, d)) (a, b) ≡ cond
+    ((a == c) && (b == d)) None (map.get m (a, b))
+weight_cut m c d a b = map.get-remove pair_total m (c, d) (a, b) ∙ ap (λ t. cond t None (map.get m (a, b)))
+    (pair_tied a b c d)
 
-pub weight_kept : (m : map.FinMap pair_cmp ℕ) (t : ℕ × ℕ → Bool) (a b : ℕ) → map.get (map.retain_keys m t) (a, b) ≡ cond (t (a, b)) (map.get m (a, b)) None
+pub weight_kept : (m : map.FinMap pair_cmp ℕ) (t : ℕ × ℕ → Bool) (a b : ℕ) → map.get (map.retain_keys m t) (a, b) ≡ cond
+    (t (a, b)) (map.get m (a, b)) None
 weight_kept m t a b = map.get-retain_keys m t (a, b) (λ x e. ap t (sym (pair_same (a, b) x e)))
 
 -- the entries that are retained, and that they are no more
-pub entries-retain_keys : (m : map.FinMap pair_cmp ℕ) (t : ℕ × ℕ → Bool) → map.entries (map.retain_keys m t) ≡ entry.where_key pair_cmp t (map.entries m)
+pub entries-retain_keys : (m : map.FinMap pair_cmp ℕ) (t : ℕ × ℕ → Bool) → map.entries
+    (map.retain_keys m t) ≡ entry.where_key pair_cmp t (map.entries m)
 entries-retain_keys m t =
     let sorted = entry.is_sorted-where_key pair_cmp t (map.entries m) (map.entries_sorted m) in
     let alike : (q x : ℕ × ℕ) → pair_cmp q x ≡ Equal → t x ≡ t q = λ q x e. ap t (sym (pair_same q x e)) in
@@ -72,11 +79,14 @@ entries-retain_keys m t =
 
 filter_short : {A : Type 0} (p : A → Bool) (xs : List A) → length (filter p xs) ≤ length xs
 filter_short p [] = omega arith
-filter_short p (x ∷ xs) = let h = filter_short p xs in elim (p x) as (λ b. length (cond b (x ∷ filter p xs) (filter p xs)) ≤ length (x ∷ xs)) [ true ↦ omega arith | false ↦ omega arith ]
+filter_short p (x ∷ xs) = let h = filter_short p xs in elim (p x) as
+    (λ b. length (cond b (x ∷ filter p xs) (filter p xs)) ≤ length (x ∷ xs))
+    [ true ↦ omega arith | false ↦ omega arith ]
 
 pub len-retain_keys : (m : map.FinMap pair_cmp ℕ) (t : ℕ × ℕ → Bool) → map.len (map.retain_keys m t) ≤ map.len m
 len-retain_keys m t =
-    let a : map.len (map.retain_keys m t) ≡ length (entry.where_key pair_cmp t (map.entries m)) = map.len-entries _ ∙ ap length (entries-retain_keys m t) in
+    let a : map.len (map.retain_keys m t) ≡ length (entry.where_key pair_cmp t (map.entries m)) = map.len-entries _
+    ∙ ap length (entries-retain_keys m t) in
     let b = map.len-entries m in
     let h = filter_short (λ (e : (ℕ × ℕ) × ℕ). t e.0) (map.entries m) in
     omega arith

@@ -1,5 +1,7 @@
 -- What stands in a list, and lists in which nothing stands twice.
-use Rattle.std.proofs.Common.{◌≡◌, ◌≢◌, ℕ, zero, suc, ◌-◌, ◌<◌, ◌≤◌, ◌==◌, Bool, true, false, cond, not, ◌&&◌, ◌⊎◌, inl, inr, List, [], ◌∷◌, ◌++◌, length, map, filter, flat_map, get_or, AllPairs, refl, sym, ap, ◌∙◌, subst, arith}
+use Rattle.std.proofs.Common.{◌≡◌, ◌≢◌, ℕ, zero, suc, ◌-◌, ◌<◌, ◌≤◌, ◌==◌, Bool, true, false, cond, not, ◌&&◌, ◌⊎◌, inl}
+use Rattle.std.proofs.Common.{inr, List, [], ◌∷◌, ◌++◌, length, map, filter, flat_map, get_or, AllPairs, refl, sym, ap}
+use Rattle.std.proofs.Common.{◌∙◌, subst, arith}
 use Rattle.std.proofs.lemmas.Bool.{true≢false, eq-eqb, eqb-true, ne_eqb, cases_eq, or_cases, or_left, or_right}
 use Rattle.std.specs.Ordering.{nat_cmp}
 use Rattle.std.specs.Cmp.{nat_cmp_total, unsigned_tied}
@@ -30,22 +32,26 @@ module _ {A : Type 0} where
   pub in_either : (x : A) (xs ys : List A) → In x (xs ++ ys) → In x xs ⊎ In x ys
   in_either x [] ys h = inr h
   in_either x (y ∷ xs) ys (inl e) = inl (inl e)
-  in_either x (y ∷ xs) ys (inr h) = elim (in_either x xs ys h) as (λ _. In x (y ∷ xs) ⊎ In x ys) [ inl k ↦ inl (inr k) | inr k ↦ inr k ]
+  in_either x (y ∷ xs) ys (inr h) = elim (in_either x xs ys h) as
+      (λ _. In x (y ∷ xs) ⊎ In x ys) [ inl k ↦ inl (inr k) | inr k ↦ inr k ]
 
   -- what stands in a list and passes, stands in what the filter keeps, and back
   pub in_filter : (p : A → Bool) (x : A) (xs : List A) → In x xs → p x ≡ true → In x (filter p xs)
   in_filter p x [] h t = h
-  in_filter p x (y ∷ ys) (inl e) t = subst (λ (b : Bool). In x (cond b (y ∷ filter p ys) (filter p ys))) (sym (ap p e ∙ t)) (inl e)
+  in_filter p x (y ∷ ys) (inl e) t = subst (λ (b : Bool). In x (cond b (y ∷ filter p ys) (filter p ys)))
+      (sym (ap p e ∙ t)) (inl e)
   in_filter p x (y ∷ ys) (inr h) t =
       let later = in_filter p x ys h t in
       elim (p y) as (λ b. In x (cond b (y ∷ filter p ys) (filter p ys))) [ true ↦ inr later | false ↦ later ]
 
   pub filter_in : (p : A → Bool) (x : A) (xs : List A) → In x (filter p xs) → In x xs × (p x ≡ true)
   filter_in p x [] h = absurd h
-  filter_in p x (y ∷ ys) h = elim (p y) as (λ b. p y ≡ b → In x (cond b (y ∷ filter p ys) (filter p ys)) → In x (y ∷ ys) × (p x ≡ true)) [
-    | true ↦ λ t k. elim k as (λ _. In x (y ∷ ys) × (p x ≡ true)) [ inl e ↦ (inl e, ap p (sym e) ∙ t) | inr l ↦ let r = filter_in p x ys l in (inr r.0, r.1) ]
-    | false ↦ λ t k. let r = filter_in p x ys k in (inr r.0, r.1)
-  ] refl h
+  filter_in p x (y ∷ ys) h = elim (p y) as (λ b. p y ≡ b → In x (cond b (y ∷ filter p ys) (filter p ys)) → In x (y ∷ ys)
+      × (p x ≡ true)) [
+        | true ↦ λ t k. elim k as (λ _. In x (y ∷ ys) × (p x ≡ true))
+            [ inl e ↦ (inl e, ap p (sym e) ∙ t) | inr l ↦ let r = filter_in p x ys l in (inr r.0, r.1) ]
+        | false ↦ λ t k. let r = filter_in p x ys k in (inr r.0, r.1)
+      ] refl h
 
   -- lists that share nothing, one behind the other
   pub once_append : (xs ys : List A) → Once xs → Once ys → ((x : A) → In x xs → In x ys → ⊥) → Once (xs ++ ys)
@@ -60,7 +66,8 @@ module _ {A : Type 0} where
   once_filter p [] f = tt
   once_filter p (x ∷ xs) f =
       let later = once_filter p xs f.1 in
-      elim (p x) as (λ b. Once (cond b (x ∷ filter p xs) (filter p xs))) [ true ↦ (λ h. f.0 (filter_in p x xs h).0, later) | false ↦ later ]
+      elim (p x) as (λ b. Once (cond b (x ∷ filter p xs) (filter p xs)))
+      [ true ↦ (λ h. f.0 (filter_in p x xs h).0, later) | false ↦ later ]
 
   -- an item at a place stands in the list
   pub in_place : (xs : List A) (k : ℕ) (d : A) → k < length xs → In (get_or xs k d) xs
@@ -72,7 +79,8 @@ module _ {A : Type 0} where
   pub pairs_from_once : (xs : List A) → Once xs → AllPairs (λ x y. x ≢ y) xs
   pairs_from_once [] f i j d lt h = absurd (omega arith)
   pairs_from_once (x ∷ xs) f i zero d lt h = absurd (omega arith)
-  pairs_from_once (x ∷ xs) f zero (suc j) d lt h = λ e. f.0 (subst (λ (y : A). In y xs) (sym e) (in_place xs j d (omega arith)))
+  pairs_from_once (x ∷ xs) f zero (suc j) d lt h = λ e. f.0 (subst (λ (y : A). In y xs) (sym e)
+      (in_place xs j d (omega arith)))
   pairs_from_once (x ∷ xs) f (suc i) (suc j) d lt h = pairs_from_once xs f.1 i j d (omega arith) (omega arith)
 
 module _ {A B : Type 0} where
@@ -114,7 +122,8 @@ in_standing (y ∷ ys) x e = elim (or_cases (y == x) (stands_in ys x) e) as (λ 
 ]
 
 pub not_standing : (xs : List ℕ) (x : ℕ) → (In x xs → ⊥) → stands_in xs x ≡ false
-not_standing xs x f = elim (stands_in xs x) as (λ b. stands_in xs x ≡ b → b ≡ false) [ true ↦ λ e. absurd (f (in_standing xs x e)) | false ↦ λ e. refl ] refl
+not_standing xs x f = elim (stands_in xs x) as (λ b. stands_in xs x ≡ b → b ≡ false)
+    [ true ↦ λ e. absurd (f (in_standing xs x e)) | false ↦ λ e. refl ] refl
 
 -- whether a number stands in a list
 pub in_or_not : (xs : List ℕ) (x : ℕ) → In x xs ⊎ (In x xs → ⊥)
@@ -129,7 +138,8 @@ in_firsts x [] h = h
 in_firsts x (y ∷ ys) (inl e) = inl e
 in_firsts x (y ∷ ys) (inr h) = elim (cases_eq y x) as (λ _. In x (firsts_of (y ∷ ys))) [
   | inl e ↦ inl e
-  | inr ne ↦ inr (in_filter (λ (z : ℕ). not (z == y)) x (firsts_of ys) (in_firsts x ys h) (ap not (ne_eqb x y (λ e. ne (sym e)))))
+  | inr ne ↦ inr (in_filter (λ (z : ℕ). not (z == y)) x (firsts_of ys) (in_firsts x ys h)
+      (ap not (ne_eqb x y (λ e. ne (sym e)))))
 ]
 
 pub firsts_in : (x : ℕ) (xs : List ℕ) → In x (firsts_of xs) → In x xs
@@ -145,16 +155,20 @@ once_firsts (y ∷ ys) = (
 )
 
 -- no more numbers, each once, stand in a list than in a set that has them all
-pub few : (s : set.FinSet nat_cmp) (xs : List ℕ) → Once xs → ((x : ℕ) → In x xs → set.contains s x ≡ true) → length xs ≤ set.len s
+pub few : (s : set.FinSet nat_cmp) (xs : List ℕ) → Once xs → ((x : ℕ) → In x xs → set.contains s x ≡ true)
+    → length xs ≤ set.len s
 few s [] f all = omega arith
 few s (x ∷ xs) f all =
     let there : set.contains s x ≡ true = all x (inl refl) in
     let later = few (set.remove s x) xs f.1 (λ y h. left y h) in
-    let shorter : set.len (set.remove s x) ≡ set.len s - 1 = set.len-remove nat_cmp_total s x ∙ ap (λ (b : Bool). cond b (set.len s - 1) (set.len s)) there in
-    let some : set.len s ≢ 0 = λ e. true≢false (sym there ∙ ap (λ (t : set.FinSet nat_cmp). set.contains t x) (set.empty_of_len s e) ∙ set.contains-empty nat_cmp x) in
+    let shorter : set.len (set.remove s x) ≡ set.len s - 1 = set.len-remove nat_cmp_total s x ∙ ap
+    (λ (b : Bool). cond b (set.len s - 1) (set.len s)) there in
+    let some : set.len s ≢ 0 = λ e. true≢false (sym there ∙ ap (λ (t : set.FinSet nat_cmp). set.contains t x)
+    (set.empty_of_len s e) ∙ set.contains-empty nat_cmp x) in
     omega (arith, later, shorter, some)
   where
     left : (y : ℕ) → In y xs → set.contains (set.remove s x) y ≡ true
     left y h =
         let ne : y ≢ x = λ e. f.0 (subst (λ (z : ℕ). In z xs) e h) in
-        set.contains-remove nat_cmp_total s x y ∙ ap (λ (b : Bool). not b && set.contains s y) (unsigned_tied y x ∙ ne_eqb y x ne) ∙ all y (inr h)
+        set.contains-remove nat_cmp_total s x y ∙ ap (λ (b : Bool). not b && set.contains s y)
+        (unsigned_tied y x ∙ ne_eqb y x ne) ∙ all y (inr h)

@@ -1,11 +1,14 @@
 -- From a key, a graph and the part of it that is reached from there are answered alike.
-use Rattle.std.proofs.Common.{◌≡◌, ℕ, zero, suc, ◌+◌, ◌<◌, ◌≤◌, Bool, true, false, cond, inl, inr, List, [], ◌∷◌, ◌++◌, length, length-append, filter, flat_map, find, not, unwrap_or, slice_index, Option, Some, None, is_some, refl, sym, ap, ◌∙◌, subst, arith}
+use Rattle.std.proofs.Common.{◌≡◌, ℕ, zero, suc, ◌+◌, ◌<◌, ◌≤◌, Bool, true, false, cond, inl, inr, List, [], ◌∷◌, ◌++◌}
+use Rattle.std.proofs.Common.{length, length-append, filter, flat_map, find, not, unwrap_or, slice_index, Option, Some}
+use Rattle.std.proofs.Common.{None, is_some, refl, sym, ap, ◌∙◌, subst, arith}
 use Rattle.std.proofs.lemmas.Bool.{cond-true}
 use Rattle.std.specs.FinSet as set
 use Rattle.std.specs.List.{concat}
 use Rattle.graph_kinds.specs.Graph.{Graph, IsGraph, has, weight_of, neighbours, key_count}
 use Rattle.graph_kinds.specs.Path.{IsPath, cost_of, IsLeastCost, least_cost, cheapest_path, LeadsOver, GoesByLeastKeys}
-use Rattle.graph_kinds.specs.Levels.{stands_in, firsts_of, level_after, levels_from, levels_of, level_at, reach_path, GoesByParents}
+use Rattle.graph_kinds.specs.Levels.{stands_in, firsts_of, level_after, levels_from, levels_of, level_at, reach_path}
+use Rattle.graph_kinds.specs.Levels.{GoesByParents}
 use Rattle.graph_kinds.specs.Part.{IsPart, part}
 use Rattle.graph_kinds.proofs.Graphs.{same_graph, weight_kept}
 use Rattle.graph_kinds.proofs.PathsLists.{In, stands}
@@ -19,7 +22,8 @@ use Rattle.graph_kinds.proofs.CostsOnly.{only_law}
 use Rattle.graph_kinds.proofs.LevelsLaws.{all_law, in_some_level}
 
 -- two rising lists of the same numbers are one
-same_rising : (xs ys : List ℕ) → Rises xs → Rises ys → ((z : ℕ) → In z xs → In z ys) → ((z : ℕ) → In z ys → In z xs) → xs ≡ ys
+same_rising : (xs ys : List ℕ) → Rises xs → Rises ys → ((z : ℕ) → In z xs → In z ys) → ((z : ℕ) → In z ys → In z xs)
+    → xs ≡ ys
 same_rising [] [] r s f k = refl
 same_rising [] (y ∷ ys) r s f k = absurd (k y (inl refl))
 same_rising (x ∷ xs) [] r s f k = absurd (f x (inl refl))
@@ -28,7 +32,8 @@ same_rising (x ∷ xs) (y ∷ ys) r s f k =
       | inl e ↦ sym e
       | inr h ↦ elim (k y (inl refl)) as (λ _. x ≡ y) [ inl e ↦ e | inr i ↦ absurd (omega (arith, s.0 x h, r.0 y i)) ]
     ] in
-    let rest = same_rising xs ys r.1 s.1 (λ z h. later z (r.0 z h) (f z (inr h)) same) (λ z h. sooner z (s.0 z h) (k z (inr h)) same) in
+    let rest = same_rising xs ys r.1 s.1 (λ z h. later z (r.0 z h) (f z (inr h)) same)
+    (λ z h. sooner z (s.0 z h) (k z (inr h)) same) in
     λ i. same i ∷ rest i
   where
     later : (z : ℕ) → x < z → In z (y ∷ ys) → x ≡ y → In z ys
@@ -70,7 +75,8 @@ module _ (g : Graph) (a : ℕ) (h : Graph) (is : IsGraph g) (there : has g a ≡
 
   -- pairs from a key of the part are the same in both
   weight_same : (x y : ℕ) → has h x ≡ true → weight_of h x y ≡ weight_of g x y
-  weight_same x y k = same_option (weight_of h x y) (weight_of g x y) (λ w e. ((reached.pairs x y w).0 e).1) (λ w e. (reached.pairs x y w).1 (k, e))
+  weight_same x y k = same_option (weight_of h x y) (weight_of g x y) (λ w e. ((reached.pairs x y w).0 e).1)
+      (λ w e. (reached.pairs x y w).1 (k, e))
 
   weight_in : (x y w : ℕ) → weight_of h x y ≡ Some w → weight_of g x y ≡ Some w
   weight_in x y w e = ((reached.pairs x y w).0 e).1
@@ -108,7 +114,8 @@ module _ (g : Graph) (a : ℕ) (h : Graph) (is : IsGraph g) (there : has g a ≡
   cost_same s b (x ∷ []) k = refl
   cost_same s b (x ∷ y ∷ p) k =
       let w = weight_there (weight_of h x y) k.1 in
-      let weight : unwrap_or (weight_of h x y) 0 ≡ unwrap_or (weight_of g x y) 0 = ap (λ (o : Option ℕ). unwrap_or o 0) (w.1 ∙ sym (weight_in x y w.0 w.1)) in
+      let weight : unwrap_or (weight_of h x y) 0 ≡ unwrap_or (weight_of g x y) 0 = ap (λ (o : Option ℕ). unwrap_or o 0)
+      (w.1 ∙ sym (weight_in x y w.0 w.1)) in
       omega (arith, weight, cost_same y b (y ∷ p) k.2)
 
   -- so are least costs
@@ -146,33 +153,44 @@ module _ (g : Graph) (a : ℕ) (h : Graph) (is : IsGraph g) (there : has g a ≡
       (λ z i. in_neighbours h x z (some_same x z k ∙ neighbours_in g x z i))
 
   -- and a level of such keys the same level behind it
-  after_same : (known level : List ℕ) → ((x : ℕ) → In x level → has h x ≡ true) → level_after h known level ≡ level_after g known level
-  after_same known level keys = ap (λ (l : List ℕ). firsts_of (filter (λ z. not (stands_in known z)) l)) (same_flat (neighbours h) (neighbours g) level (λ x i. neighbours_same x (keys x i)))
+  after_same : (known level : List ℕ) → ((x : ℕ) → In x level → has h x ≡ true)
+      → level_after h known level ≡ level_after g known level
+  after_same known level keys = ap (λ (l : List ℕ). firsts_of (filter (λ z. not (stands_in known z)) l))
+      (same_flat (neighbours h) (neighbours g) level (λ x i. neighbours_same x (keys x i)))
 
   -- so the levels from a turn on are the same, with turns that are enough in both
-  levels_same : (n m i : ℕ) (known level : List ℕ) → IsTurn h a i known level → IsTurn g a i known level → key_count h ≤ length known + n → key_count g ≤ length known + m → levels_from h n known level ≡ levels_from g m known level
-  levels_same zero m i known level t u enough more = sym (no_levels g m known level (none_left h a i known level t part_is here (omega (arith, enough))))
-  levels_same (suc n) zero i known level t u enough more = no_levels h (suc n) known level (none_left g a i known level u is there (omega (arith, more)))
+  levels_same : (n m i : ℕ) (known level : List ℕ) → IsTurn h a i known level → IsTurn g a i known level
+      → key_count h ≤ length known + n → key_count g ≤ length known + m
+      → levels_from h n known level ≡ levels_from g m known level
+  levels_same zero m i known level t u enough more = sym (no_levels g m known level
+      (none_left h a i known level t part_is here (omega (arith, enough))))
+  levels_same (suc n) zero i known level t u enough more = no_levels h (suc n) known level
+      (none_left g a i known level u is there (omega (arith, more)))
   levels_same (suc n) (suc m) i known [] t u enough more = refl
   levels_same (suc n) (suc m) i known (y ∷ ys) t u enough more =
       let beyond = known ++ y ∷ ys in
       let after = after_same beyond (y ∷ ys) (λ x k. walk_key h a part_is here i x (t.level_in x k)) in
-      let next : IsTurn h a (suc i) beyond (level_after g beyond (y ∷ ys)) = subst (IsTurn h a (suc i) beyond) after (next_turn h a i known (y ∷ ys) t) in
-      let later = levels_same n m (suc i) beyond (level_after g beyond (y ∷ ys)) next (next_turn g a i known (y ∷ ys) u) (omega (arith, enough, length-append known (y ∷ ys))) (omega (arith, more, length-append known (y ∷ ys))) in
+      let next : IsTurn h a (suc i) beyond (level_after g beyond (y ∷ ys)) = subst (IsTurn h a (suc i) beyond) after
+      (next_turn h a i known (y ∷ ys) t) in
+      let later = levels_same n m (suc i) beyond (level_after g beyond (y ∷ ys)) next (next_turn g a i known (y ∷ ys) u)
+      (omega (arith, enough, length-append known (y ∷ ys))) (omega (arith, more, length-append known (y ∷ ys))) in
       ap (λ (l : List ℕ). (y ∷ ys) ∷ levels_from h n beyond l) after ∙ ap (λ (ls : List (List ℕ)). (y ∷ ys) ∷ ls) later
 
   pub levels_alike : levels_of h a ≡ levels_of g a
-  levels_alike = levels_same (key_count h) (key_count g) 0 [] (a ∷ []) (first_turn h a) (first_turn g a) (omega arith) (omega arith)
+  levels_alike = levels_same (key_count h) (key_count g) 0 [] (a ∷ []) (first_turn h a) (first_turn g a) (omega arith)
+      (omega arith)
 
   -- the keys of levels are keys of the part
   level_key : (i x : ℕ) → In x (level_at (levels_of g a) i) → has h x ≡ true
-  level_key i x k = let p = (all_law g a x is there).0 (stands (concat (levels_of g a)) x (in_some_level x (levels_of g a) i k).1) in (reached.keys x).1 p
+  level_key i x k = let p = (all_law g a x is there).0 (stands (concat (levels_of g a)) x
+      (in_some_level x (levels_of g a) i k).1) in (reached.keys x).1 p
 
   -- parents in the part are parents in the graph
   parents_in : (p : List ℕ) → GoesByParents g (levels_of g a) p → GoesByParents h (levels_of h a) p
   parents_in p f i lt =
       let y = slice_index p (i + 1) in
-      let same = same_find (λ x. is_some (weight_of h x y)) (λ x. is_some (weight_of g x y)) (level_at (levels_of g a) i) (λ x k. some_same x y (level_key i x k)) in
+      let same = same_find (λ x. is_some (weight_of h x y)) (λ x. is_some (weight_of g x y))
+      (level_at (levels_of g a) i) (λ x k. some_same x y (level_key i x k)) in
       ap (λ (ls : List (List ℕ)). find (λ x. is_some (weight_of h x y)) (level_at ls i)) levels_alike ∙ same ∙ f i lt
 
   -- the shortest path by parents in the graph is that in the part
@@ -180,12 +198,14 @@ module _ (g : Graph) (a : ℕ) (h : Graph) (is : IsGraph g) (there : has g a ≡
   reach_alike b = from (reach_path g a b) refl
     where
       from : (o : Option (List ℕ)) → reach_path g a b ≡ o → reach_path h a b ≡ reach_path g a b
-      from None e = (reach.no_reach_law h a b part_is here).1 (λ p k. (reach.no_reach_law g a b is there).0 e p (path_in a b p k)) ∙ sym e
+      from None e = (reach.no_reach_law h a b part_is here).1
+          (λ p k. (reach.no_reach_law g a b is there).0 e p (path_in a b p k)) ∙ sym e
       from (Some p) e =
           let path : IsPath g a b p = reach.reach_path_law g a b p is there e in
           let least = reach.shortest_law g a b p is there e in
           let parents = parents_in p (reach.parents_law g a b p is there e) in
-          reach.only_law h a b p part_is here (in_path a b p here path) (λ q k. least q (path_in a b q k)) parents ∙ sym e
+          reach.only_law h a b p part_is here (in_path a b p here path) (λ q k. least q (path_in a b q k)) parents
+          ∙ sym e
 
   -- a cheapest way leads over a pair in the part where it does in the graph
   leads_in : (x y : ℕ) → LeadsOver h a x y → LeadsOver g a x y
@@ -213,13 +233,17 @@ module _ (g : Graph) (a : ℕ) (h : Graph) (is : IsGraph g) (there : has g a ≡
   least_keys_in : (p : List ℕ) → GoesByLeastKeys g a p → GoesByLeastKeys h a p
   least_keys_in [] k = tt
   least_keys_in (x ∷ []) k = tt
-  least_keys_in (x ∷ y ∷ p) k = (record { leads = in_leads x y k.0.leads; least = λ z l. k.0.least z (leads_in z y l) }, least_keys_in (y ∷ p) k.1)
+  least_keys_in (x ∷ y ∷ p) k = (
+    record { leads = in_leads x y k.0.leads; least = λ z l. k.0.least z (leads_in z y l) },
+    least_keys_in (y ∷ p) k.1,
+  )
 
   -- and is the one found backwards in both
   pub cheapest_alike : (b c : ℕ) → least_cost g a b ≡ Some c → cheapest_path h a b ≡ cheapest_path g a b
   cheapest_alike b c e =
       let best : IsCheapest g a b c (cheapest_path g a b) = cheapest g is a there b c e in
-      sym (only_law h a b (cheapest_path g a b) part_is here (in_path a b (cheapest_path g a b) here best.is_path) (least_keys_in (cheapest_path g a b) best.keys))
+      sym (only_law h a b (cheapest_path g a b) part_is here (in_path a b (cheapest_path g a b) here best.is_path)
+      (least_keys_in (cheapest_path g a b) best.keys))
 
 -- two tests that imply each other give one answer
 same_bool : (b d : Bool) → (b ≡ true → d ≡ true) → (d ≡ true → b ≡ true) → b ≡ d
@@ -252,13 +276,16 @@ part_law g a is there = record {
     kept : (x y : ℕ) → weight_of (part g a) x y ≡ cond (stands_in all x) (weight_of g x y) None
     kept x y = weight_kept g.pairs (λ p. stands_in all p.0) x y
 
-    out : (x y w : ℕ) → cond (stands_in all x) (weight_of g x y) None ≡ Some w → (has (part g a) x ≡ true) × (weight_of g x y ≡ Some w)
-    out x y w e = elim (stands_in all x) as (λ b. stands_in all x ≡ b → cond b (weight_of g x y) None ≡ Some w → (has (part g a) x ≡ true) × (weight_of g x y ≡ Some w)) [
-      | true ↦ λ t f. (key x ∙ t, f)
-      | false ↦ λ t f. absurd (cc)
-    ] refl e
+    out : (x y w : ℕ) → cond (stands_in all x) (weight_of g x y) None ≡ Some w → (has (part g a) x ≡ true) ×
+        (weight_of g x y ≡ Some w)
+    out x y w e = elim (stands_in all x) as (λ b. stands_in all x ≡ b → cond b (weight_of g x y) None ≡ Some w →
+        (has (part g a) x ≡ true) × (weight_of g x y ≡ Some w)) [
+          | true ↦ λ t f. (key x ∙ t, f)
+          | false ↦ λ t f. absurd (cc)
+        ] refl e
 
-    into : (x y w : ℕ) → (has (part g a) x ≡ true) × (weight_of g x y ≡ Some w) → cond (stands_in all x) (weight_of g x y) None ≡ Some w
+    into : (x y w : ℕ) → (has (part g a) x ≡ true) × (weight_of g x y ≡ Some w) → cond (stands_in all x)
+        (weight_of g x y) None ≡ Some w
     into x y w r = cond-true (stands_in all x) (weight_of g x y) None (sym (key x) ∙ r.0) ∙ r.1
 
 pub only_part_law : (g h : Graph) (a : ℕ) → IsGraph g → has g a ≡ true → IsPart g a h → h ≡ part g a
@@ -276,5 +303,6 @@ reach_law g a b is there = reach_alike g a (part g a) is there (part_law g a is 
 pub cost_law : (g : Graph) (a b : ℕ) → IsGraph g → has g a ≡ true → least_cost (part g a) a b ≡ least_cost g a b
 cost_law g a b is there = cost_alike g a (part g a) is there (part_law g a is there) b
 
-pub cheapest_law : (g : Graph) (a b c : ℕ) → IsGraph g → has g a ≡ true → least_cost g a b ≡ Some c → cheapest_path (part g a) a b ≡ cheapest_path g a b
+pub cheapest_law : (g : Graph) (a b c : ℕ) → IsGraph g → has g a ≡ true → least_cost g a b ≡ Some c → cheapest_path
+    (part g a) a b ≡ cheapest_path g a b
 cheapest_law g a b c is there e = cheapest_alike g a (part g a) is there (part_law g a is there) b c e

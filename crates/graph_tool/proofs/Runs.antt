@@ -11,7 +11,7 @@ use Rattle.graph_kinds.specs.Answer.{after, answers, after_all}
 use Rattle.graph_kinds.specs.History.{answered, calls_of}
 use Rattle.graph_kinds.specs.Stream.{Puts, PutsSome, TakesMore}
 use Rattle.graph_kinds.proofs.Calls.{replay_legal, length-answers}
-use Rattle.op_text.specs.Text.{IsShown, text}
+use Rattle.op_text.specs.Text.{IsWritable, text}
 use Rattle.op_text.specs.Rows.{rows}
 use Rattle.op_text.proofs.Shown.{answer-shown}
 use Rattle.std.specs.declared.string.String.{String}
@@ -29,14 +29,14 @@ use Rattle.graph_tool.specs.declared.command.Command.{Command}
 use Rattle.graph_tool.specs.declared.command.Command.TheVariants.{Run, Replay}
 use Rattle.graph_tool.proofs.Inputs.{too_many}
 
-shown_at : (g : Graph) (cs : List Call) (k : ℕ) (d : Answer) → k < length (answers g cs) → IsShown (get_or (answers g cs) k d).outcome (get_or (answers g cs) k d).keys (get_or (answers g cs) k d).ends
+shown_at : (g : Graph) (cs : List Call) (k : ℕ) (d : Answer) → k < length (answers g cs) → IsWritable (get_or (answers g cs) k d).outcome (get_or (answers g cs) k d).keys (get_or (answers g cs) k d).ends
 shown_at g [] k d h = absurd (omega arith)
 shown_at g (c ∷ cs) zero d h = answer-shown g c
 shown_at g (c ∷ cs) (suc k) d h = shown_at (after g c) cs k d (omega arith)
 
 -- answers of calls can be written
-pub all_shown : (asked : List Row) (replies : List Answer) → replies ≡ answers empty_graph (calls_of asked) → All (λ (a : Answer). IsShown a.outcome a.keys a.ends) replies
-all_shown asked replies is = subst (λ (xs : List Answer). All (λ (a : Answer). IsShown a.outcome a.keys a.ends) xs) (sym is) (shown_at empty_graph (calls_of asked))
+pub all_shown : (asked : List Row) (replies : List Answer) → replies ≡ answers empty_graph (calls_of asked) → All (λ (a : Answer). IsWritable a.outcome a.keys a.ends) replies
+all_shown asked replies is = subst (λ (xs : List Answer). All (λ (a : Answer). IsWritable a.outcome a.keys a.ends) xs) (sym is) (shown_at empty_graph (calls_of asked))
 
 -- the text of the rows in input order is what either command writes
 pub writes : (command : Command) (asked : List Row) → Writes command asked (replayed asked)

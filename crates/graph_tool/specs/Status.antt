@@ -9,13 +9,13 @@ use Rattle.graph_tool.specs.declared.status.UsageCause.{UsageCause}
 use Rattle.graph_tool.specs.declared.status.UsageCause.TheVariants as usage
 
 -- the number that the process ends with
-abbrev pub number_of : Status → ℕ
-number_of Done = 0
-number_of (Usage c) = 2
-number_of (BadRow n c) = 3
-number_of ReadFault = 4
-number_of WriteFault = 5
-number_of Memory = 6
+abbrev pub exit_number : Status → ℕ
+exit_number Done = 0
+exit_number (Usage c) = 2
+exit_number (BadRow n c) = 3
+exit_number ReadFault = 4
+exit_number WriteFault = 5
+exit_number Memory = 6
 
 -- what is wrong with the words or the length of the input, as it is written
 abbrev pub usage_of : UsageCause → List ℕ

@@ -7,15 +7,15 @@ use Rattle.graph_tool.specs.declared.streams.WriteSink.{WriteSink}
 abbrev pub reader_of : {R : Type 0} → ReadSource R → R
 reader_of s = s.reader
 
-abbrev pub read_faults : {R : Type 0} → ReadSource R → ℕ
-read_faults s = s.faults
+abbrev pub reader_faults : {R : Type 0} → ReadSource R → ℕ
+reader_faults s = s.faults
 
-abbrev pub has_ended : {R : Type 0} → ReadSource R → Bool
-has_ended s = s.ended
+abbrev pub reader_ended : {R : Type 0} → ReadSource R → Bool
+reader_ended s = s.ended
 
 -- the writer, and the count of writes that failed
 abbrev pub writer_of : {W : Type 0} → WriteSink W → W
 writer_of s = s.writer
 
-abbrev pub write_faults : {W : Type 0} → WriteSink W → ℕ
-write_faults s = s.faults
+abbrev pub writer_faults : {W : Type 0} → WriteSink W → ℕ
+writer_faults s = s.faults

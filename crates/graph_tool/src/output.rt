@@ -3,7 +3,7 @@
 ghost use Rattle.std.specs.Prelude.{All};
 ghost use Rattle.graph_kinds.specs.declared.answer.Answer.{Answer};
 ghost use Rattle.op_text.specs.Gives.{Gives};
-ghost use Rattle.op_text.specs.Text.{IsShown, answer_line, answer_lines, text};
+ghost use Rattle.op_text.specs.Text.{IsWritable, answer_line, answer_lines, text};
 
 use graph_kinds::{Answer, Sink};
 use op_text::{WriteFailed, write_outcome};
@@ -15,7 +15,7 @@ pub(crate) fn write_results<K: Sink>(
     answers: &[Answer],
     graph: &PlainGraph,
 ) -> Result<(), WriteFailed>
-    requires { All (λ (a : Answer). IsShown a.outcome a.keys a.ends) answers.now }
+    requires { All (λ (a : Answer). IsWritable a.outcome a.keys a.ends) answers.now }
     ensures { Gives K.taken K.faults sink.old sink.new (text answers.now graph.now) result }
 {
     write_answers(sink, answers)?;
@@ -24,7 +24,7 @@ pub(crate) fn write_results<K: Sink>(
 
 // Gives the sink the line of each answer.
 fn write_answers<K: Sink>(sink: &mut K, answers: &[Answer]) -> Result<(), WriteFailed>
-    requires { All (λ (a : Answer). IsShown a.outcome a.keys a.ends) answers.now }
+    requires { All (λ (a : Answer). IsWritable a.outcome a.keys a.ends) answers.now }
     ensures { Gives K.taken K.faults sink.old sink.new (answer_lines answers.now) result }
 {
     for answer in answers {
@@ -35,7 +35,7 @@ fn write_answers<K: Sink>(sink: &mut K, answers: &[Answer]) -> Result<(), WriteF
 
 // Gives the sink the line of the answer.
 fn write_answer<K: Sink>(sink: &mut K, answer: &Answer) -> Result<(), WriteFailed>
-    requires { IsShown answer.now.outcome answer.now.keys answer.now.ends }
+    requires { IsWritable answer.now.outcome answer.now.keys answer.now.ends }
     ensures { Gives K.taken K.faults sink.old sink.new (answer_line answer.now) result }
 {
     write_outcome(

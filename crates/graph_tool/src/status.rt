@@ -2,7 +2,7 @@
 
 ghost use Rattle.std.specs.Prelude.{◌≡◌, ◌≢◌};
 ghost use Rattle.std.specs.IoError.{error_kind};
-ghost use Rattle.graph_tool.specs.Status.{line_of, number_of, usage_of, cause_of};
+ghost use Rattle.graph_tool.specs.Status.{line_of, exit_number, usage_of, cause_of};
 
 use op_text::RowCause;
 use std::io::ErrorKind;
@@ -52,7 +52,7 @@ impl Status {
     /// The number that the process ends with: 0 Done, 2 Usage, 3 BadRow, 4 ReadFault, 5 WriteFault,
     /// 6 Memory. O(1).
     pub fn number(&self) -> u8
-        ensures { result ≡ number_of self.now }
+        ensures { result ≡ exit_number self.now }
     {
         match self {
             Status::Done => 0,

@@ -40,13 +40,13 @@ impl<R: io::Read> ReadSource<R> {
 }
 
 impl<R: io::Read> Source for ReadSource<R> {
-    ghost use Rattle.graph_tool.specs.Streams.{reader_of, read_faults, has_ended};
+    ghost use Rattle.graph_tool.specs.Streams.{reader_of, reader_faults, reader_ended};
 
     ghost rest = { λ _. None };
 
-    ghost ended = { has_ended };
+    ghost ended = { reader_ended };
 
-    ghost faults = { read_faults };
+    ghost faults = { reader_faults };
 
     // The clauses of the trait, and then what becomes of a reader's bytes where the library tells them: those that
     // were got came from it, a first End means that none was left, and after a fault all are there still. So
@@ -54,15 +54,15 @@ impl<R: io::Read> Source for ReadSource<R> {
     fn read(&mut self, into: &mut [u8]) -> ReadAnswer
         requires { 0 < length into.old }
         ensures some { IfGot result (λ n. (0 < n) × (n ≤ length into.old)) }
-        ensures goes_on { IfGot result (λ _. has_ended self.new ≡ has_ended self.old) }
-        ensures end { IfEnd result (has_ended self.new ≡ true) }
-        ensures failed { IfReadFailed result (has_ended self.new ≡ has_ended self.old) }
-        ensures rose { IfReadFailed result (Rose (read_faults self.old) (read_faults self.new)) }
-        ensures stays { has_ended self.old ≡ true → result ≡ ReadAnswer.End }
-        ensures faults { read_faults self.old ≤ read_faults self.new }
+        ensures goes_on { IfGot result (λ _. reader_ended self.new ≡ reader_ended self.old) }
+        ensures end { IfEnd result (reader_ended self.new ≡ true) }
+        ensures failed { IfReadFailed result (reader_ended self.new ≡ reader_ended self.old) }
+        ensures rose { IfReadFailed result (Rose (reader_faults self.old) (reader_faults self.new)) }
+        ensures stays { reader_ended self.old ≡ true → result ≡ ReadAnswer.End }
+        ensures faults { reader_faults self.old ≤ reader_faults self.new }
         ensures known { IfGot result (λ n. Consumes (R.remaining (reader_of self.old))
             (R.remaining (reader_of self.new)) (take n into.new)) }
-        ensures known_end { IfEnd result (has_ended self.old ≡ false → IsAtEnd (R.remaining (reader_of self.new))) }
+        ensures known_end { IfEnd result (reader_ended self.old ≡ false → IsAtEnd (R.remaining (reader_of self.new))) }
         ensures known_failed { IfReadFailed result (Keeps (R.remaining (reader_of self.old))
             (R.remaining (reader_of self.new))) }
     {
@@ -121,19 +121,19 @@ impl<W: io::Write> WriteSink<W> {
 }
 
 impl<W: io::Write> Sink for WriteSink<W> {
-    ghost use Rattle.graph_tool.specs.Streams.{writer_of, write_faults};
+    ghost use Rattle.graph_tool.specs.Streams.{writer_of, writer_faults};
 
     ghost taken = { λ _. None };
 
-    ghost faults = { write_faults };
+    ghost faults = { writer_faults };
 
     // The clauses of the trait, and then what a writer has where the library tells its bytes: those that were taken
     // came behind, and after a fault it has what it had.
     fn write(&mut self, from: &[u8]) -> WriteAnswer
         requires { 0 < length from.now }
         ensures some { IfTook result (λ n. (0 < n) × (n ≤ length from.now)) }
-        ensures rose { IfWriteFailed result (Rose (write_faults self.old) (write_faults self.new)) }
-        ensures faults { write_faults self.old ≤ write_faults self.new }
+        ensures rose { IfWriteFailed result (Rose (writer_faults self.old) (writer_faults self.new)) }
+        ensures faults { writer_faults self.old ≤ writer_faults self.new }
         ensures known { IfTook result (λ n. Appends (W.contents (writer_of self.old)) (W.contents (writer_of self.new))
             (take n from.now)) }
         ensures known_failed { IfWriteFailed result (Keeps (W.contents (writer_of self.old))

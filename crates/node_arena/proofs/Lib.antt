@@ -1,0 +1,5 @@
+pub mod FreeWordSeen
+pub mod NodeIsFilled
+pub mod NodeIsGivenBack
+pub mod NodeIsTaken
+pub mod RipeNodesStay

@@ -5,7 +5,6 @@ use Rattle.packed_link.specs.Link.{index_of, nowhere}
 use Rattle.packed_link.specs.declared.link.Life.{Life}
 use Rattle.core_journal.specs.declared.event.Event.{Event}
 use Rattle.core_journal.specs.Machine.{word_at}
-use Rattle.core_journal.specs.Prefix.{IsPrefix}
 use Rattle.core_lists.specs.Changed.{IsChangedByAnother}
 use Rattle.core_rule.specs.OwnEvents.{pop_event}
 use Rattle.core_rule.specs.declared.view.View.{View}

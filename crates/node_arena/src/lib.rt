@@ -7,8 +7,10 @@
 
 mod filling;
 mod giving;
+mod holding;
 mod taking;
 
 pub use filling::{fill_edge, fill_vertex};
 pub use giving::{Given, give_back};
+pub use holding::ripe_nodes_stay;
 pub use taking::{Taken, take};

@@ -1,12 +1,14 @@
 -- Numerals are decimal texts.
-use Rattle.std.proofs.Common.{◌≡◌, ◌≢◌, ℕ, ◌^◌, ◌<◌, ◌∙◌, ◌↔◌, sym, ap, refl, inl, inr, Bool, true, false, ◌&&◌, leb, cond, List, [], ◌∷◌, length, get_or, Some, None, arith}
+use Rattle.std.proofs.Common.{◌≡◌, ◌≢◌, ℕ, ◌^◌, ◌<◌, ◌∙◌, ◌↔◌, sym, ap, refl, inl, inr, Bool, true, false, ◌&&◌, leb}
+use Rattle.std.proofs.Common.{cond, List, [], ◌∷◌, length, get_or, Some, None, arith}
 use Rattle.std.specs.Char.{is_ascii_digit}
 use Rattle.std.specs.Fmt.{decimal}
 use Rattle.std.specs.List.{list_all}
 use Rattle.std.specs.Str.{all_ascii_digits}
 use Rattle.std.specs.Str.Parse.{digits_value}
 use Rattle.std.proofs.lemmas.Bool.{and_parts, cases_eq, eqb-false, leb-true, not-true}
-use Rattle.std.proofs.lemmas.Fmt.{decimal-digits_value, decimal_digit, decimal_is_IsNumeral, digits_decimal, first_decimal}
+use Rattle.std.proofs.lemmas.Fmt.{decimal-digits_value, decimal_digit, decimal_is_IsNumeral, digits_decimal}
+use Rattle.std.proofs.lemmas.Fmt.{first_decimal}
 use Rattle.std.proofs.lemmas.Str.Parse.{IsNumeralModel, numerals_by_value, tells_all_ascii_digits}
 use Rattle.op_text.specs.Rows.{is_numeral, number_of}
 use Rattle.op_text.proofs.RowNumbers.{number_of_digits}
@@ -40,10 +42,12 @@ chosen_some false v n e = cc
 -- the number that a field writes has the field as its decimal text
 number_of_is : (field : List ℕ) (n : ℕ) → number_of field ≡ Some n → (field ≡ decimal n) × (n < 2 ^ 32)
 number_of_is field n e =
-    let (tests, value) = chosen_some (is_numeral field && leb (digits_value 10 field) 4294967295) (digits_value 10 field) n e in
+    let (tests, value) = chosen_some (is_numeral field && leb (digits_value 10 field) 4294967295)
+    (digits_value 10 field) n e in
     let (numeral, fits) = and_parts (is_numeral field) (leb (digits_value 10 field) 4294967295) tests in
     let small = leb-true (digits_value 10 field) 4294967295 fits in
-    let text = decimal-digits_value model field (all_ascii_digits_is field ∙ numeral_digits field numeral) (numeral_some field numeral) (numeral_first field numeral) (omega arith) in
+    let text = decimal-digits_value model field (all_ascii_digits_is field ∙ numeral_digits field numeral)
+    (numeral_some field numeral) (numeral_first field numeral) (omega arith) in
     (sym text ∙ ap decimal value, omega arith)
 
 decimal_first : (n : ℕ) → n < 2 ^ 64 → 1 < length (decimal n) → get_or (decimal n) 0 0 ≢ 48

@@ -1,6 +1,8 @@
 -- What a field writes, by its bytes so far.
-use Rattle.std.proofs.Common.{◌≡◌, ◌≢◌, ℕ, ◌+◌, ◌-◌, ◌*◌, ◌<◌, ◌≤◌, ◌∙◌, sym, ap, true, false, not, ◌&&◌, eqb, List, [], ◌∷◌, take, length, get_or, Some, None, arith}
-use Rattle.std.proofs.lemmas.Bool.{and_from, and_left, and_parts, and_right, lt-leb, le-leb, ne_eqb, cond-true, cond-false, not_from_false}
+use Rattle.std.proofs.Common.{◌≡◌, ◌≢◌, ℕ, ◌+◌, ◌-◌, ◌*◌, ◌<◌, ◌≤◌, ◌∙◌, sym, ap, true, false, not, ◌&&◌, eqb, List, []}
+use Rattle.std.proofs.Common.{◌∷◌, take, length, get_or, Some, None, arith}
+use Rattle.std.proofs.lemmas.Bool.{and_from, and_left, and_parts, and_right, lt-leb, le-leb, ne_eqb, cond-true}
+use Rattle.std.proofs.lemmas.Bool.{cond-false, not_from_false}
 use Rattle.std.proofs.lemmas.Int.Digits.{digits_value_more}
 use Rattle.std.proofs.lemmas.Str.{digit_value_digit}
 use Rattle.std.proofs.lemmas.Str.Parse.{digits_value-take-le}
@@ -11,7 +13,8 @@ use Rattle.std.specs.Str.Parse.{digits_value}
 use Rattle.op_text.specs.Rows.{is_numeral, number_of}
 
 -- digits without a zero in front of others are a numeral
-pub is_numeral_digits : (field : List ℕ) → 0 < length field → (1 < length field → get_or field 0 0 ≢ 48) → list_all is_ascii_digit field ≡ true → is_numeral field ≡ true
+pub is_numeral_digits : (field : List ℕ) → 0 < length field → (1 < length field → get_or field 0 0 ≢ 48)
+    → list_all is_ascii_digit field ≡ true → is_numeral field ≡ true
 is_numeral_digits [] some first all = absurd (omega arith)
 is_numeral_digits (d ∷ []) some first all = (and_parts (is_ascii_digit d) true all).0
 is_numeral_digits (d ∷ e ∷ ds) some first all = and_from _ _ (not_from_false _ (ne_eqb d 48 (first (omega arith)))) all
@@ -36,9 +39,11 @@ number_of_large field i large =
     cond-false _ _ _ (and_right (is_numeral field) _ (lt-leb _ _ (omega arith)))
 
 -- digits without a zero in front of others write their value
-pub number_of_digits : (field : List ℕ) → 0 < length field → (1 < length field → get_or field 0 0 ≢ 48) → list_all is_ascii_digit field ≡ true → digits_value 10 field ≤ 4294967295
+pub number_of_digits : (field : List ℕ) → 0 < length field → (1 < length field → get_or field 0 0 ≢ 48)
+    → list_all is_ascii_digit field ≡ true → digits_value 10 field ≤ 4294967295
     → number_of field ≡ Some (digits_value 10 field)
-number_of_digits field some first all small = cond-true _ _ _ (and_from _ _ (is_numeral_digits field some first all) (le-leb _ _ small))
+number_of_digits field some first all small = cond-true _ _ _
+    (and_from _ _ (is_numeral_digits field some first all) (le-leb _ _ small))
 
 -- one more digit
 pub digits_value_digit : (field : List ℕ) (i : ℕ) → i < length field → IsInRange 48 57 (get_or field i 0)

@@ -43,8 +43,8 @@ abbrev pub on_key : List ℕ → (ℕ → Call) → Operation
 on_key name call = record { name = name; needs_second = false; needs_weight = false; call = λ a b w. call a }
 
 -- an operation on two keys
-abbrev pub on_keys : List ℕ → (ℕ → ℕ → Call) → Operation
-on_keys name call = record { name = name; needs_second = true; needs_weight = false; call = λ a b w. call a b }
+abbrev pub on_two_keys : List ℕ → (ℕ → ℕ → Call) → Operation
+on_two_keys name call = record { name = name; needs_second = true; needs_weight = false; call = λ a b w. call a b }
 
 -- the operation of each kind of call
 abbrev pub operation : CallKind → Operation
@@ -57,11 +57,11 @@ operation kind.AddEdge = record {
   needs_weight = true;
   call = λ a b w. AddEdge a b w;
 }
-operation kind.RemoveEdge = on_keys (codes "remove-edge") (λ a b. RemoveEdge a b)
-operation kind.HasEdge = on_keys (codes "has-edge") (λ a b. HasEdge a b)
-operation kind.Reach = on_keys (codes "reach") (λ a b. Reach a b)
+operation kind.RemoveEdge = on_two_keys (codes "remove-edge") (λ a b. RemoveEdge a b)
+operation kind.HasEdge = on_two_keys (codes "has-edge") (λ a b. HasEdge a b)
+operation kind.Reach = on_two_keys (codes "reach") (λ a b. Reach a b)
 operation kind.Levels = on_key (codes "levels") (λ a. Levels a)
-operation kind.Cheapest = on_keys (codes "cheapest") (λ a b. Cheapest a b)
+operation kind.Cheapest = on_two_keys (codes "cheapest") (λ a b. Cheapest a b)
 
 -- all operations that an input may name
 abbrev pub operations : List Operation

@@ -67,9 +67,9 @@ pub record AreEnds (n : ℕ) (keys ends : List ℕ) : Type 0 where
   pub none : n ≡ 0 → keys ≡ []
 
 -- what the keys and ends of an outcome must be to be written
-abbrev pub IsShown : Outcome → List ℕ → List ℕ → Type 0
-IsShown (Levels n) keys ends = AreEnds n keys ends
-IsShown _ keys ends = Unit {0}
+abbrev pub IsWritable : Outcome → List ℕ → List ℕ → Type 0
+IsWritable (Levels n) keys ends = AreEnds n keys ends
+IsWritable _ keys ends = Unit {0}
 
 -- the line of the keys, by rising key
 abbrev pub vertices_line : Graph → List ℕ

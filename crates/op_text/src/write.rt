@@ -7,7 +7,7 @@ ghost use Rattle.std.specs.Prelude.{ℕ, ◌<◌, ◌≤◌, [], ◌∷◌, ◌+
 ghost use Rattle.std.specs.Fmt.{decimal};
 ghost use Rattle.graph_kinds.specs.Stream.{Rose, Puts, PutsSome};
 ghost use Rattle.op_text.specs.Gives.{Gives};
-ghost use Rattle.op_text.specs.Text.{AreEnds, IsShown, outcome_text, line, spaced, barred, levels_by, with_weight};
+ghost use Rattle.op_text.specs.Text.{AreEnds, IsWritable, outcome_text, line, spaced, barred, levels_by, with_weight};
 
 use crate::number::give_number;
 use graph_kinds::{Outcome, Sink, WriteAnswer};
@@ -40,7 +40,7 @@ pub fn write_outcome<K: Sink>(
     keys: &[u32],
     ends: &[u32],
 ) -> Result<(), WriteFailed>
-    requires { IsShown outcome keys.now ends.now }
+    requires { IsWritable outcome keys.now ends.now }
     ensures ok { OnOk result (Puts (K.taken sink.old) (K.taken sink.new)
         (line (outcome_text outcome keys.now ends.now))) }
     ensures prefix { OnErr result (PutsSome (K.taken sink.old) (K.taken sink.new)
@@ -59,7 +59,7 @@ fn give_outcome<K: Sink>(
     keys: &[u32],
     ends: &[u32],
 ) -> Result<(), WriteFailed>
-    requires { IsShown outcome keys.now ends.now }
+    requires { IsWritable outcome keys.now ends.now }
     ensures { Gives K.taken K.faults sink.old sink.new (outcome_text outcome keys.now ends.now) result }
 {
     match outcome {

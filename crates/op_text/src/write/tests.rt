@@ -1,6 +1,6 @@
 //! The line of each outcome, and a sink that fails in the middle of one.
 
-ghost use Rattle.op_text.specs.Text.{IsShown};
+ghost use Rattle.op_text.specs.Text.{IsWritable};
 
 use super::*;
 use graph_kinds::MemSink;
@@ -14,7 +14,7 @@ fn shows<R: AllocGlobal + Abort>(
     ends: &[u32],
     line: &str,
 ) -> Result<(), Fail>
-    requires { IsShown outcome keys.now ends.now }
+    requires { IsWritable outcome keys.now ends.now }
 {
     let mut sink = MemSink::new(rt.alloc(), 100, 7, Vec::new(rt.alloc()))?;
     write_outcome(&mut sink, outcome, keys, ends)?;

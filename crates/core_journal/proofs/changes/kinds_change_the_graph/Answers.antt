@@ -1,4 +1,6 @@
-use Rattle.core_journal.proofs.GraphRows.{new_vertex_graph, removed_vertex_graph, new_edge_graph, no_edge_graph, removed_edge_graph, hidden_graph, replaced_edge_graph, hidden_replaced_graph, frozen_graph, idle_graph}
+use Rattle.core_journal.proofs.GraphRows.{new_vertex_graph, removed_vertex_graph, new_edge_graph, no_edge_graph}
+use Rattle.core_journal.proofs.GraphRows.{removed_edge_graph, hidden_graph, replaced_edge_graph, hidden_replaced_graph}
+use Rattle.core_journal.proofs.GraphRows.{frozen_graph, idle_graph}
 use Rattle.core_journal.proofs.changes.kinds_change_the_graph.Goals as goal
 
 pub returns-clause-link_vertex : goal.returns-clause-link_vertex

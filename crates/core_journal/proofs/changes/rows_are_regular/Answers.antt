@@ -1,4 +1,6 @@
-use Rattle.core_journal.proofs.Regular.{new_vertex_regular, removed_vertex_regular, new_edge_regular, no_edge_regular, removed_edge_regular, replaced_edge_regular, hidden_replaced_regular, hidden_regular, idle_regular, regular_snoc}
+use Rattle.core_journal.proofs.Regular.{new_vertex_regular, removed_vertex_regular, new_edge_regular, no_edge_regular}
+use Rattle.core_journal.proofs.Regular.{removed_edge_regular, replaced_edge_regular, hidden_replaced_regular}
+use Rattle.core_journal.proofs.Regular.{hidden_regular, idle_regular, regular_snoc}
 use Rattle.core_journal.proofs.changes.rows_are_regular.Goals as goal
 
 pub returns-clause-link_vertex : goal.returns-clause-link_vertex

@@ -1,4 +1,5 @@
-use Rattle.core_journal.proofs.EachIsCounted.{passing-nil, passing_one, passing_other, passing_grows, passing_some, passing_none, passing_only}
+use Rattle.core_journal.proofs.EachIsCounted.{passing-nil, passing_one, passing_other, passing_grows, passing_some}
+use Rattle.core_journal.proofs.EachIsCounted.{passing_none, passing_only}
 use Rattle.core_journal.proofs.passing.passing_events_are_counted.Goals as goal
 
 pub returns-clause-opening : goal.returns-clause-opening

@@ -1,4 +1,5 @@
-use Rattle.core_journal.proofs.WorkedList.{list_closed, bucket_closed, mode_closing, mode_closed, who_closed, ended_closed, end_closed}
+use Rattle.core_journal.proofs.WorkedList.{list_closed, bucket_closed, mode_closing, mode_closed, who_closed}
+use Rattle.core_journal.proofs.WorkedList.{ended_closed, end_closed}
 use Rattle.core_journal.proofs.worked.a_closed_list_is_handed_over.Goals as goal
 
 pub returns-clause-edges : goal.returns-clause-edges

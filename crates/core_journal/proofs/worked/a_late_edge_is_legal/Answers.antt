@@ -1,4 +1,5 @@
-use Rattle.core_journal.proofs.CallersBooks.{callers_regular, callers_apart, late_right, callers_true, callers_closed, callers_graph, callers_items, callers_legal}
+use Rattle.core_journal.proofs.CallersBooks.{callers_regular, callers_apart, late_right, callers_true, callers_closed}
+use Rattle.core_journal.proofs.CallersBooks.{callers_graph, callers_items, callers_legal}
 use Rattle.core_journal.proofs.WorkedReuse.{callers_reuse}
 use Rattle.core_journal.proofs.WorkedWords.{words_callers, free_callers, bucket_callers, edges_callers}
 use Rattle.core_journal.proofs.worked.a_late_edge_is_legal.Goals as goal

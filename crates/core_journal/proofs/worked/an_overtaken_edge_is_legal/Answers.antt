@@ -1,4 +1,5 @@
-use Rattle.core_journal.proofs.WorkedBooks.{worked_regular, worked_apart, worked_true, worked_closed, worked_graph, worked_items, worked_legal}
+use Rattle.core_journal.proofs.WorkedBooks.{worked_regular, worked_apart, worked_true, worked_closed, worked_graph}
+use Rattle.core_journal.proofs.WorkedBooks.{worked_items, worked_legal}
 use Rattle.core_journal.proofs.worked.an_overtaken_edge_is_legal.Goals as goal
 
 pub returns-clause-regular : goal.returns-clause-regular

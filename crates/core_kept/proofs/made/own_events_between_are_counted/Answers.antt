@@ -5,7 +5,8 @@ pub returns-clause-grows : goal.returns-clause-grows
 returns-clause-grows c = λ test caller front journal p. made_grows test caller front journal p
 
 pub returns-clause-none : goal.returns-clause-none
-returns-clause-none c = λ test caller front journal p same n e far at by. none_between test caller front journal p same n e far at by
+returns-clause-none c = λ test caller front journal p same n e far at by. none_between test caller front journal p same
+    n e far at by
 
 pub returns-clause-only : goal.returns-clause-only
 returns-clause-only c = λ test caller front journal p one m n d e. one_between test caller front journal p one m n d e

@@ -12,7 +12,8 @@ pub returns-clause-next_life : goal.returns-clause-next_life
 returns-clause-next_life c = λ sizes z past e kept ok. (taken sizes z past e kept ok).tag
 
 pub returns-clause-again : goal.returns-clause-again
-returns-clause-again c = λ sizes z seen next there first second journal p q kept was link is. (pop_again sizes z seen next there first second journal p q kept was link is).0
+returns-clause-again c = λ sizes z seen next there first second journal p q kept was link is.
+    (pop_again sizes z seen next there first second journal p q kept was link is).0
 
 pub returns-clause-first : goal.returns-clause-first
 returns-clause-first c = λ sizes z journal kept. first_leads sizes z journal kept

@@ -5,7 +5,8 @@ pub returns-clause-words : goal.returns-clause-words
 returns-clause-words c = λ sizes z journal kept. link_words sizes z journal kept
 
 pub returns-clause-linked : goal.returns-clause-linked
-returns-clause-linked c = λ sizes z journal kept x t free fresh live. unmarked_linked sizes z journal kept x t free fresh live
+returns-clause-linked c = λ sizes z journal kept x t free fresh live. unmarked_linked sizes z journal kept x t free
+    fresh live
 
 pub returns-clause-life : goal.returns-clause-life
 returns-clause-life c = λ sizes z journal kept x t used. used_link sizes z journal kept x t used

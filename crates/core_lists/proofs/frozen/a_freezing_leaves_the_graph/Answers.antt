@@ -1,4 +1,4 @@
-use Rattle.core_lists.proofs.FreezingLeaves.{frozen_leaves}
+use Rattle.core_lists.proofs.EffectOfKinds.{frozen_leaves}
 use Rattle.core_lists.proofs.frozen.a_freezing_leaves_the_graph.Goals as goal
 
 pub returns : goal.returns

@@ -15,7 +15,11 @@ pub returns-clause-lists : goal.returns-clause-lists
 returns-clause-lists c = λ sizes z journal kept. edge_lists sizes z journal kept
 
 pub returns-clause-lives : goal.returns-clause-lives
-returns-clause-lives c = λ sizes z journal kept x has l. (edge_of sizes z journal kept x has l, of_edge sizes z journal kept x has l)
+returns-clause-lives c = λ sizes z journal kept x has l. (
+  edge_of sizes z journal kept x has l,
+  of_edge sizes z journal
+      kept x has l,
+)
 
 pub returns-clause-linked : goal.returns-clause-linked
 returns-clause-linked c = λ sizes z journal kept x there l. record {
@@ -43,11 +47,13 @@ returns-clause-unclosed c = λ sizes z journal kept x there used vertex live. re
   there = there;
   used = used;
   vertex = vertex;
-  unfinished = λ f. let m = (((contents sizes z journal kept).each x there).vertex used vertex).second_mark ∙ ap mark_bit f.head in absurd (omega (arith, m, live));
+  unfinished = λ f. let m = (((contents sizes z journal kept).each x there).vertex used vertex).second_mark
+      ∙ ap mark_bit f.head in absurd (omega (arith, m, live));
 }
 
 pub returns-clause-key : goal.returns-clause-key
 returns-clause-key c = λ sizes z journal kept x y k on link is. listed_key sizes z journal kept x y k on link is
 
 pub returns-clause-listed_linked : goal.returns-clause-listed_linked
-returns-clause-listed_linked c = λ sizes z journal kept x y there l on. listed_linked sizes z journal kept x y there l.linked l.vertex on
+returns-clause-listed_linked c = λ sizes z journal kept x y there l on. listed_linked sizes z journal kept x y there
+    l.linked l.vertex on

@@ -5,4 +5,5 @@ pub returns-clause-vertex : goal.returns-clause-vertex
 returns-clause-vertex c = λ sizes z journal kept x m key h is. mark_gone sizes z journal kept x m key h is
 
 pub returns-clause-edge : goal.returns-clause-edge
-returns-clause-edge c = λ sizes z journal kept x m link a b cut is from to. pair_cut sizes z journal kept x m link a b cut is from to
+returns-clause-edge c = λ sizes z journal kept x m link a b cut is from to. pair_cut sizes z journal kept x m link a b
+    cut is from to

@@ -1,4 +1,6 @@
-use Rattle.core_lists.proofs.EventKeepsRest.{written, event_life, node_taken, node_filled, vertex_joined, edge_joined, edge_replaced, vertex_spent, edge_spent, link_stored, pass_opened, pass_closed}
+use Rattle.core_lists.proofs.EventKeepsRest.{written, event_life, node_taken, node_filled, vertex_joined, edge_joined}
+use Rattle.core_lists.proofs.EventKeepsRest.{edge_replaced, vertex_spent, edge_spent, link_stored, pass_opened}
+use Rattle.core_lists.proofs.EventKeepsRest.{pass_closed}
 use Rattle.core_lists.proofs.own.each_event_changes_its_node.Goals as goal
 
 pub returns-clause-written : goal.returns-clause-written

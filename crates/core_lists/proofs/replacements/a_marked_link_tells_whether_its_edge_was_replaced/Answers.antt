@@ -6,7 +6,8 @@ pub returns-clause-told : goal.returns-clause-told
 returns-clause-told c = λ sizes z journal kept x there tag edge r d. told sizes z journal kept x there tag r d edge
 
 pub returns-clause-same_key : goal.returns-clause-same_key
-returns-clause-same_key c = λ sizes z journal kept x there r some same. same_key_marked sizes z journal kept x there r some same
+returns-clause-same_key c = λ sizes z journal kept x there r some same. same_key_marked sizes z journal kept x there r
+    some same
 
 pub returns-clause-leads : goal.returns-clause-leads
 returns-clause-leads c = λ sizes z journal kept x new tag r b. old_leads sizes z journal kept x new tag r b

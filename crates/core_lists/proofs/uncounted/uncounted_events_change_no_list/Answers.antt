@@ -5,4 +5,5 @@ pub returns-clause-stays : goal.returns-clause-stays
 returns-clause-stays c = λ sizes z front journal p kept none. stays_uncounted sizes z front journal p kept none
 
 pub returns-clause-quiet : goal.returns-clause-quiet
-returns-clause-quiet c = λ front journal p caller last quiet old none. quiet_uncounted front journal p caller last quiet old none
+returns-clause-quiet c = λ front journal p caller last quiet old none. quiet_uncounted front journal p caller last quiet
+    old none

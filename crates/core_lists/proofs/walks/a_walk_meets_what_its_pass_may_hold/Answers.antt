@@ -9,7 +9,8 @@ pub returns-clause-link : goal.returns-clause-link
 returns-clause-link c = λ sizes z journal kept caller x there m. walk_link sizes z journal kept caller x there m
 
 pub returns-clause-list : goal.returns-clause-list
-returns-clause-list c = λ sizes z journal kept caller x there m vertex. walk_list sizes z journal kept caller x there m vertex
+returns-clause-list c = λ sizes z journal kept caller x there m vertex. walk_list sizes z journal kept caller x there m
+    vertex
 
 pub returns-clause-linked : goal.returns-clause-linked
 returns-clause-linked c = λ sizes journal caller x open_ linked. linked_met sizes journal caller open_ x linked

@@ -9,4 +9,5 @@ pub returns-clause-mark : goal.returns-clause-mark
 returns-clause-mark c = λ v z x m journal r live. lift_mark_vertex v z journal r x m live
 
 pub returns-clause-unlink : goal.returns-clause-unlink
-returns-clause-unlink c = λ v z place seen next x m journal r is. lift_unlink_vertex v z journal r place seen next x m is
+returns-clause-unlink c = λ v z place seen next x m journal r is. lift_unlink_vertex v z journal r place seen next x m
+    is

@@ -17,13 +17,16 @@ pub returns-clause-leads : goal.returns-clause-leads
 returns-clause-leads c = λ sizes z journal kept x place k f. kept_leads sizes z journal kept x place k f
 
 pub returns-clause-stays : goal.returns-clause-stays
-returns-clause-stays c = λ sizes z caller last x front journal p kept quiet old spent k. own_list_stays sizes z caller last x front journal p kept quiet old spent k
+returns-clause-stays c = λ sizes z caller last x front journal p kept quiet old spent k. own_list_stays sizes z caller
+    last x front journal p kept quiet old spent k
 
 pub returns-clause-next : goal.returns-clause-next
-returns-clause-next c = λ sizes z journal kept x place y k f leads some t. frozen_next sizes z journal kept x place k f y leads some t
+returns-clause-next c = λ sizes z journal kept x place y k f leads some t. frozen_next sizes z journal kept x place k f
+    y leads some t
 
 pub returns-clause-end : goal.returns-clause-end
 returns-clause-end c = λ sizes z journal kept x place k f none. frozen_finished sizes z journal kept x place k f none
 
 pub returns-clause-own : goal.returns-clause-own
-returns-clause-own c = λ sizes z past e caller x kept unstored unpushed spent k. list_steps sizes z past e caller x kept unstored unpushed spent k
+returns-clause-own c = λ sizes z past e caller x kept unstored unpushed spent k. list_steps sizes z past e caller x kept
+    unstored unpushed spent k

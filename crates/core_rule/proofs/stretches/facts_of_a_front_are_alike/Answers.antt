@@ -1,4 +1,8 @@
-use Rattle.core_rule.proofs.AlikeViews.{retired_alike, spent_since_alike, target_shown_alike, life_at_alike, met_vertex_alike, met_edge_alike, vertex_below_alike, before_vertex_alike, vertex_above_alike, vertex_link_alike, leads_to_vertex_alike, edge_below_alike, before_edge_alike, edge_above_alike, edge_link_alike, leads_to_edge_alike, has_no_fresh_alike}
+use Rattle.core_rule.proofs.AlikeViews.{retired_alike, spent_since_alike, target_shown_alike, life_at_alike}
+use Rattle.core_rule.proofs.AlikeViews.{met_vertex_alike, met_edge_alike, vertex_below_alike, before_vertex_alike}
+use Rattle.core_rule.proofs.AlikeViews.{vertex_above_alike, vertex_link_alike, leads_to_vertex_alike, edge_below_alike}
+use Rattle.core_rule.proofs.AlikeViews.{before_edge_alike, edge_above_alike, edge_link_alike, leads_to_edge_alike}
+use Rattle.core_rule.proofs.AlikeViews.{has_no_fresh_alike}
 use Rattle.core_rule.proofs.stretches.facts_of_a_front_are_alike.Goals as goal
 
 pub returns-clause-life_at : goal.returns-clause-life_at

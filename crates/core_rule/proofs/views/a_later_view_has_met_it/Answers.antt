@@ -1,4 +1,7 @@
-use Rattle.core_rule.proofs.ViewShows.{vertex_still, edge_still, key_still, dead_still, below_still, above_still, edge_below_still, edge_above_still, raise_still, raised_still, before_vertex_still, before_edge_still, leads_to_vertex_still, leads_to_edge_still}
+use Rattle.core_rule.proofs.ViewShows.{vertex_still, edge_still, key_still, dead_still, below_still, above_still}
+use Rattle.core_rule.proofs.ViewShows.{edge_below_still, edge_above_still, raise_still, raised_still}
+use Rattle.core_rule.proofs.ViewShows.{before_vertex_still, before_edge_still, leads_to_vertex_still}
+use Rattle.core_rule.proofs.ViewShows.{leads_to_edge_still}
 use Rattle.core_rule.proofs.views.a_later_view_has_met_it.Goals as goal
 
 pub returns-clause-vertex : goal.returns-clause-vertex

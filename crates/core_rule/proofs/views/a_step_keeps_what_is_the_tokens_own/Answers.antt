@@ -1,4 +1,6 @@
-use Rattle.core_rule.proofs.OwnByView.{own_fresh_kept, own_none_kept, own_spent_still, own_spent_kept, own_stamp_still, own_ripe_still, own_list_still, own_word_still, own_end_still, own_ends_still, own_made_same}
+use Rattle.core_rule.proofs.OwnByView.{own_fresh_kept, own_none_kept, own_spent_still, own_spent_kept, own_stamp_still}
+use Rattle.core_rule.proofs.OwnByView.{own_ripe_still, own_list_still, own_word_still, own_end_still, own_ends_still}
+use Rattle.core_rule.proofs.OwnByView.{own_made_same}
 use Rattle.core_rule.proofs.views.a_step_keeps_what_is_the_tokens_own.Goals as goal
 
 pub returns-clause-fresh : goal.returns-clause-fresh
@@ -23,7 +25,8 @@ pub returns-clause-list : goal.returns-clause-list
 returns-clause-list c = λ v w own z t x spares f k. own_list_still v w own z t x spares f k
 
 pub returns-clause-frozen_word : goal.returns-clause-frozen_word
-returns-clause-frozen_word c = λ v w own z t x place spares f k frozen. own_word_still v w own z t x place spares f k frozen
+returns-clause-frozen_word c = λ v w own z t x place spares f k frozen. own_word_still v w own z t x place spares f k
+    frozen
 
 pub returns-clause-finished : goal.returns-clause-finished
 returns-clause-finished c = λ v w own z t x there spares f done. own_end_still v w own z t x there spares f done

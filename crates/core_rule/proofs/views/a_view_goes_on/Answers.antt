@@ -1,4 +1,5 @@
-use Rattle.core_rule.proofs.ViewShows.{look_steps, reply_steps, meet_steps, win_steps, store_steps, step_view, step_last, step_goes_on, goes_further}
+use Rattle.core_rule.proofs.ViewShows.{look_steps, reply_steps, meet_steps, win_steps, store_steps, step_view}
+use Rattle.core_rule.proofs.ViewShows.{step_last, step_goes_on, goes_further}
 use Rattle.core_rule.proofs.views.a_view_goes_on.Goals as goal
 
 pub returns-clause-look : goal.returns-clause-look

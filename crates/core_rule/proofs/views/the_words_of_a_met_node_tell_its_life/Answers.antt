@@ -1,4 +1,5 @@
-use Rattle.core_rule.proofs.ViewShows.{life_shown, second_shown, key_shown, present_shown, absent_shown, edge_shown, edge_live_shown, edge_dead_shown, may_raise}
+use Rattle.core_rule.proofs.ViewShows.{life_shown, second_shown, key_shown, present_shown, absent_shown, edge_shown}
+use Rattle.core_rule.proofs.ViewShows.{edge_live_shown, edge_dead_shown, may_raise}
 use Rattle.core_rule.proofs.views.the_words_of_a_met_node_tell_its_life.Goals as goal
 
 pub returns-clause-life : goal.returns-clause-life

@@ -1,5 +1,5 @@
 use Rattle.core_journal.specs.Worked.{small}
-use Rattle.core_worked.specs.Replacing.{replacing}
+use Rattle.core_worked.specs.Replacing.{replacing_journal}
 use Rattle.core_worked.proofs.TwoLivesShown.{small_layout}
 use Rattle.core_worked.proofs.Replacing.{replacing_kept}
 use Rattle.core_worked.proofs.ReplacingBooks.{replacing_regular, replacing_apart, replacing_true, replacing_closed, replacing_items, replacing_legal}
@@ -56,7 +56,7 @@ pub returns-clause-words : goal.returns-clause-words
 returns-clause-words c = words_end
 
 pub returns-clause-reuse : goal.returns-clause-reuse
-returns-clause-reuse c = reuses_safely small small_layout replacing replacing_kept
+returns-clause-reuse c = reuses_safely small small_layout replacing_journal replacing_kept
 
 pub returns-clause-regular : goal.returns-clause-regular
 returns-clause-regular c = replacing_regular

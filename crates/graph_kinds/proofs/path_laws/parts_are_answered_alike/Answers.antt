@@ -1,4 +1,5 @@
-use Rattle.graph_kinds.proofs.PathsPart.{part_law, only_part_law, graph_law, levels_law, reach_law, cost_law, cheapest_law}
+use Rattle.graph_kinds.proofs.PathsPart.{part_law, only_part_law, graph_law, levels_law, reach_law, cost_law}
+use Rattle.graph_kinds.proofs.PathsPart.{cheapest_law}
 use Rattle.graph_kinds.proofs.path_laws.parts_are_answered_alike.Goals as goal
 
 pub returns : goal.returns

@@ -1,4 +1,5 @@
-use Rattle.graph_kinds.proofs.PathsWorked.{two_ways_levels, two_ways_reach, detour_reach, detour_cost, detour_cheapest, tie_cost, tie_cheapest, dead_end_levels, dead_end_reach, dead_end_cost}
+use Rattle.graph_kinds.proofs.PathsWorked.{two_ways_levels, two_ways_reach, detour_reach, detour_cost, detour_cheapest}
+use Rattle.graph_kinds.proofs.PathsWorked.{tie_cost, tie_cheapest, dead_end_levels, dead_end_reach, dead_end_cost}
 use Rattle.graph_kinds.proofs.path_laws.worked_graphs_are_answered.Goals as goal
 
 pub returns : goal.returns

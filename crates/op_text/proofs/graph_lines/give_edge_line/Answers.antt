@@ -10,13 +10,15 @@ returns-in_err-give_text g c = gives-as (edge_line-pieces c.args.from c.args.to 
 pub returns-in_err-give_spaced : goal.returns-in_err-give_spaced
 returns-in_err-give_spaced g c = gives-as (edge_line-pieces c.args.from c.args.to c.args.weight)
     (gives-then c.in_ok-give_text.ensures
-    (gives-stop (behind_from c.args.to c.args.weight) c.from_residual-in_err-give_spaced.ensures.0 c.in_err-give_spaced.ensures))
+    (gives-stop (behind_from c.args.to c.args.weight) c.from_residual-in_err-give_spaced.ensures.0
+    c.in_err-give_spaced.ensures))
 
 pub returns-in_err-give_spaced-2 : goal.returns-in_err-give_spaced-2
 returns-in_err-give_spaced-2 g c = gives-as (edge_line-pieces c.args.from c.args.to c.args.weight)
     (gives-then c.in_ok-give_text.ensures
     (gives-then c.in_ok-give_spaced.ensures
-    (gives-stop (behind_to c.args.weight) c.from_residual-in_err-give_spaced-2.ensures.0 c.in_err-give_spaced-2.ensures)))
+    (gives-stop (behind_to c.args.weight) c.from_residual-in_err-give_spaced-2.ensures.0
+    c.in_err-give_spaced-2.ensures)))
 
 pub returns-in_err-give_spaced-3 : goal.returns-in_err-give_spaced-3
 returns-in_err-give_spaced-3 g c = gives-as (edge_line-pieces c.args.from c.args.to c.args.weight)

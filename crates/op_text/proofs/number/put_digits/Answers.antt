@@ -10,7 +10,8 @@ loop-rest-init c = record {
   small = c.ranges.number.fits;
   inside = omega arith;
   fits = length-decimal-le 20 c.args.number (omega arith) (omega arith) (omega arith);
-  whole = ap (λ ds. decimal c.args.number ++ ds) (drop_of_length-le c.args.digits.now {i = 20} (omega arith)) ∙ append-nil (decimal c.args.number);
+  whole = ap (λ ds. decimal c.args.number ++ ds) (drop_of_length-le c.args.digits.now {i = 20} (omega arith))
+      ∙ append-nil (decimal c.args.number);
   room = c.told-digits;
 }
 
@@ -28,7 +29,8 @@ loop-rest-preserved c =
       small = omega arith;
       inside = omega arith;
       fits = omega (arith, length-decimal-step c.loop-rest.rest c.loop-rest-test.true l.small);
-      whole = decimal-last c.loop-rest.rest c.loop-rest.start c.loop-rest.digits (decimal c.args.number) c.loop-rest-test.true l.small some (omega arith) l.whole;
+      whole = decimal-last c.loop-rest.rest c.loop-rest.start c.loop-rest.digits
+          (decimal c.args.number) c.loop-rest-test.true l.small some (omega arith) l.whole;
       room = length-set c.loop-rest.digits _ _ ∙ l.room;
     }
 
@@ -38,5 +40,6 @@ returns c =
     let some : 0 < c.loop-rest.start = omega (arith, decimal_nonempty c.loop-rest.rest l.small) in
     record {
       bound = omega arith;
-      value = decimal-first c.loop-rest.rest c.loop-rest.start c.loop-rest.digits (decimal c.args.number) c.loop-rest-test.false some (omega arith) l.whole;
+      value = decimal-first c.loop-rest.rest c.loop-rest.start c.loop-rest.digits
+          (decimal c.args.number) c.loop-rest-test.false some (omega arith) l.whole;
     }

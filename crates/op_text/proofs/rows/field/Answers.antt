@@ -5,4 +5,5 @@ use Rattle.op_text.proofs.rows.field.Goals as goal
 
 -- the record has a field at this place
 pub unreachable-requires : goal.unreachable-requires
-unreachable-requires c = field-there (fields_of c.args.csv_record.now) c.args.place c.requires (sym c.in_default.ensures.value)
+unreachable-requires c = field-there (fields_of c.args.csv_record.now) c.args.place c.requires
+    (sym c.in_default.ensures.value)

@@ -7,7 +7,8 @@ use Rattle.op_text.proofs.write.give_all_spaced.Goals as goal
 pub returns-in_err-give_spaced : goal.returns-in_err-give_spaced
 returns-in_err-give_spaced g c =
     gives-as (spaced-split c.args.numbers.now c.loop-number.number-index (omega arith))
-    (gives-then c.loop-number.invariant (gives-stop (spaced (drop (c.loop-number.number-index + 1) c.args.numbers.now)) c.from_residual.ensures.0 c.in_err-give_spaced.ensures))
+    (gives-then c.loop-number.invariant (gives-stop (spaced (drop (c.loop-number.number-index + 1) c.args.numbers.now))
+    c.from_residual.ensures.0 c.in_err-give_spaced.ensures))
 
 pub loop-number-preserved : goal.loop-number-preserved
 loop-number-preserved g c =
@@ -15,4 +16,5 @@ loop-number-preserved g c =
     (gives-then c.loop-number.invariant c.in_ok-give_spaced.ensures)
 
 pub returns : goal.returns
-returns g c = gives-as (ap spaced (take_all c.loop-number.number-index c.args.numbers.now (omega arith))) c.loop-number.invariant
+returns g c = gives-as (ap spaced (take_all c.loop-number.number-index c.args.numbers.now (omega arith)))
+    c.loop-number.invariant

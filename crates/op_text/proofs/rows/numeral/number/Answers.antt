@@ -11,20 +11,26 @@ use Rattle.op_text.proofs.rows.numeral.number.Goals as goal
 -- one more digit makes the value too large
 pub returns-in_err-checked_mul : goal.returns-in_err-checked_mul
 returns-in_err-checked_mul c =
-    let more = digits_value_digit c.args.field.now c.loop-byte.byte-index c.loop-byte-test.true c.if-not-is_ascii_digit.ensures.cases in
-    c.from_residual.ensures ∙ sym (number_of_large c.args.field.now (c.loop-byte.byte-index + 1) (omega (arith, c.in_err-checked_mul.ensures)))
+    let more = digits_value_digit c.args.field.now c.loop-byte.byte-index c.loop-byte-test.true
+    c.if-not-is_ascii_digit.ensures.cases in
+    c.from_residual.ensures ∙ sym (number_of_large c.args.field.now (c.loop-byte.byte-index + 1)
+    (omega (arith, c.in_err-checked_mul.ensures)))
 
 pub returns-in_err-value : goal.returns-in_err-value
 returns-in_err-value c =
-    let more = digits_value_digit c.args.field.now c.loop-byte.byte-index c.loop-byte-test.true c.if-not-is_ascii_digit.ensures.cases in
+    let more = digits_value_digit c.args.field.now c.loop-byte.byte-index c.loop-byte-test.true
+    c.if-not-is_ascii_digit.ensures.cases in
     c.from_residual-in_err-value.ensures
-    ∙ sym (number_of_large c.args.field.now (c.loop-byte.byte-index + 1) (omega (arith, c.in_ok-checked_mul.ensures, c.in_err-value.ensures)))
+    ∙ sym (number_of_large c.args.field.now (c.loop-byte.byte-index + 1)
+    (omega (arith, c.in_ok-checked_mul.ensures, c.in_err-value.ensures)))
 
 pub loop-byte-preserved : goal.loop-byte-preserved
 loop-byte-preserved c =
-    let more = digits_value_digit c.args.field.now c.loop-byte.byte-index c.loop-byte-test.true c.if-not-is_ascii_digit.ensures.cases in
+    let more = digits_value_digit c.args.field.now c.loop-byte.byte-index c.loop-byte-test.true
+    c.if-not-is_ascii_digit.ensures.cases in
     record {
-      digits = list_all_more is_ascii_digit c.args.field.now c.loop-byte.byte-index 0 c.loop-byte-test.true ∙ and_from _ _ c.loop-byte.invariant.digits (search rules);
+      digits = list_all_more is_ascii_digit c.args.field.now c.loop-byte.byte-index 0 c.loop-byte-test.true
+          ∙ and_from _ _ c.loop-byte.invariant.digits (search rules);
       value = omega (arith, c.in_ok-checked_mul.ensures, c.in_ok-value.ensures);
       fits = omega (arith, c.in_ok-value.ensures);
     }
@@ -32,7 +38,8 @@ loop-byte-preserved c =
 -- the whole field is read, and no zero stands in front of other digits
 pub returns : goal.returns
 returns c =
-    let first : 1 < length c.args.field.now → get_or c.args.field.now 0 0 ≢ 48 = λ long zero. false≢true (c.if-has_leading_zero.ensures.1 (long, zero)) in
+    let first : 1 < length c.args.field.now → get_or c.args.field.now 0 0 ≢ 48 = λ long zero. false≢true
+    (c.if-has_leading_zero.ensures.1 (long, zero)) in
     let all = take_all c.loop-byte.byte-index c.args.field.now (omega arith) in
     let digits = ap (list_all is_ascii_digit) (sym all) ∙ c.loop-byte.invariant.digits in
     let value = ap (digits_value 10) (sym all) ∙ sym c.loop-byte.invariant.value in
