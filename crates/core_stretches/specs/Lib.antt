@@ -1,3 +1,4 @@
 pub mod Makes
 pub mod Moments
 pub mod Holdings
+pub mod LoadedWords

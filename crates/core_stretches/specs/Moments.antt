@@ -1,10 +1,11 @@
 -- Moments between two fronts and what may hold there, and the event with which a front ends.
-use Rattle.std.specs.Prelude.{◌≡◌, ℕ, true, List, [], ◌∷◌, ◌++◌, Some}
+use Rattle.std.specs.Prelude.{◌≡◌, ℕ, true, false, List, [], ◌∷◌, ◌++◌, Some}
 use Rattle.graph_kinds.specs.Answer.{alters, after}
 use Rattle.graph_kinds.specs.declared.call.Call.{Call}
 use Rattle.packed_link.specs.declared.link.Life.{Life}
 use Rattle.core_journal.specs.declared.event.Event.{Event}
 use Rattle.core_journal.specs.GraphOf.{graph_of, present_key}
+use Rattle.core_journal.specs.Life.{link_of, edge_marked}
 use Rattle.core_journal.specs.Prefix.{IsPrefix}
 use Rattle.core_rule.specs.declared.view.View.{View}
 
@@ -34,3 +35,8 @@ pub record Carries (call : Call) (e : Event) (w : View) : Type 0 where
   pub by : e.caller ≡ w.number
   pub alters : alters (graph_of past) call ≡ true
   pub leads : graph_of w.front ≡ after (graph_of past) call
+
+-- no edge of a source with a key is linked and unmarked
+pub record LacksEdge (source : Life) (key : ℕ) (journal : List Event) : Type 0 where
+  pub none : (x : Life) (link : Event) → link_of journal x ≡ Some link → edge_marked journal x ≡ false
+      → link.source ≡ source → link.key ≡ key → ⊥

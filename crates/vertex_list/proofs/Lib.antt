@@ -1,0 +1,4 @@
+pub mod ChangesTell
+pub mod PositionsGoOn
+pub mod UnlinksTell
+pub mod WalksTell

@@ -1,5 +1,5 @@
 -- What linking, marking and unlinking a vertex tell.
-use Rattle.std.specs.Prelude.{◌≡◌, ℕ, ◌<◌, Bool, true, List, [], ◌∷◌}
+use Rattle.std.specs.Prelude.{◌≡◌, ℕ, ◌<◌, Bool, true, [], ◌∷◌}
 use Rattle.graph_kinds.specs.declared.call.Call.TheVariants.{AddVertex, RemoveVertex}
 use Rattle.packed_link.specs.Layout.{link_at}
 use Rattle.packed_link.specs.Link.{pack, index_of, tag_of}

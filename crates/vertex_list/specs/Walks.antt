@@ -1,5 +1,5 @@
 -- What a walk of a bucket's list tells, and a step through it.
-use Rattle.std.specs.Prelude.{◌≡◌, ℕ, ◌<◌, Bool, true, false, List}
+use Rattle.std.specs.Prelude.{◌≡◌, ◌<◌, Bool, true, false}
 use Rattle.packed_link.specs.Layout.{link_at}
 use Rattle.packed_link.specs.Link.{index_of, nowhere}
 use Rattle.packed_link.specs.declared.link.Life.{Life}

@@ -7,9 +7,11 @@
 #![tactic(auto)]
 
 mod changes;
+mod laws;
 mod position;
 mod walks;
 
 pub use changes::{Linked, Marked, Unlinked, link, mark, unlink};
+pub use laws::positions_go_on;
 pub use position::Position;
 pub use walks::{Found, Sighting, Stepped, start, step, walk};

@@ -81,7 +81,6 @@ pub fn walk(table: &GraphTable, token: &mut Token, position: Position) -> Found
         mut word,
         mut moment,
     } = position;
-    let mut low = 0u64;
     loop {
         let next = Link(word).index();
         if next == 16_777_215 {
@@ -123,7 +122,6 @@ pub fn walk(table: &GraphTable, token: &mut Token, position: Position) -> Found
         place = layout.link_at(next);
         word = link;
         moment = here;
-        low = found + 1;
     }
 }
 

@@ -1,0 +1,11 @@
+use Rattle.vertex_list.proofs.PositionsGoOn.{position_makes, gap_makes, dead_makes}
+use Rattle.vertex_list.proofs.laws.positions_go_on.Goals as goal
+
+pub returns-clause-position : goal.returns-clause-position
+returns-clause-position c = position_makes
+
+pub returns-clause-gap : goal.returns-clause-gap
+returns-clause-gap c = gap_makes
+
+pub returns-clause-dead : goal.returns-clause-dead
+returns-clause-dead c = dead_makes
