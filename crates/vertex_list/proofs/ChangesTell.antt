@@ -92,7 +92,7 @@ linked v w p x z has s f won_by_key =
     record {
       makes = makes_won v w p.place p.word e has s refl won;
       carries = carries v w e (AddVertex p.key) number refl t effect_is.graph call;
-      none = λ _. record {
+      none = record {
         none = λ y there fresh. joined.1 y (subst (λ (s : Sizes). y < s.nodes) sizes there)
             (subst (λ (j : List Event). IsFreshWith v.sizes j v.number y) t.front (subst (λ (n : ℕ). IsFreshWith v.sizes w.front n y) number (subst (λ (s : Sizes). IsFreshWith s w.front w.number y) sizes fresh)));
       };

@@ -1,13 +1,16 @@
 -- Positions as loaded words: a walk's word stands before its key, and a step's anywhere on the list.
-use Rattle.std.proofs.Common.{◌≡◌, ◌≢◌, ℕ, ◌%◌, ◌<◌, Bool, true, false, List, [], inl, inr, sym, ap, ◌∙◌, subst, arith, ⊎_elim}
+use Rattle.std.proofs.Common.{◌≡◌, ◌≢◌, ℕ, ◌+◌, ◌%◌, ◌<◌, Bool, true, false, List, [], inl, inr, sym, ap, ◌∙◌, subst, arith, ⊎_elim}
 use Rattle.graph_kinds.specs.History.{Every}
 use Rattle.packed_link.specs.Link.{index_of, mark_of, nowhere}
-use Rattle.packed_link.specs.Layout.{Sizes, IsLayout, bucket_at, link_at}
+use Rattle.packed_link.specs.Layout.{Sizes, IsLayout, bucket_at, key_at, link_at}
 use Rattle.packed_link.specs.declared.link.Life.{Life}
 use Rattle.core_journal.specs.declared.event.Event.{Event}
 use Rattle.core_journal.specs.Machine.{word_at}
 use Rattle.core_kept.specs.Kept.{IsKept}
 use Rattle.core_kept.proofs.BucketWords.{bucket_unmarked}
+use Rattle.core_journal.specs.State.{Fresh}
+use Rattle.core_kept.specs.Facts.{HasMet}
+use Rattle.core_kept.specs.Nodes.{node_in}
 use Rattle.core_lists.specs.Chains.{life_in}
 use Rattle.core_rule.specs.Fronts.{IsVertexBelow, LeadsToVertex, MetVertex}
 use Rattle.core_rule.specs.Plays.{IsSound, Looked}
@@ -16,6 +19,7 @@ use Rattle.core_rule.specs.Views.{GoesOn}
 use Rattle.core_rule.specs.declared.view.View.{View}
 use Rattle.core_rule.proofs.OwnStretch.{goes_opened}
 use Rattle.core_rule.proofs.ViewShows.{above_still, before_vertex_still, dead_still, key_still, vertex_still}
+use Rattle.core_stretches.specs.Holdings.{IsHeldFresh}
 use Rattle.core_stretches.specs.Makes.{Makes, StaysInPass}
 use Rattle.core_stretches.specs.LoadedWords.{IsLoadedWord}
 use Rattle.core_stretches.proofs.MakesAddUp.{makes_look}
@@ -101,6 +105,16 @@ gap_makes v w own p z stays apart h = gap_goes v w p z (makes_goes v w own stays
 
 pub dead_makes : (v w : View) (own : List Event) (p : PositionValue) → IsLayout v.sizes → Every StaysInPass own → Makes v own w → LeadsToDead v p → LeadsToDead w p
 dead_makes v w own p z stays h = dead_goes v w p z (makes_goes v w own stays h)
+
+-- no word of a fresh node is the place of a position, so filling it leaves the position
+pub place_apart : (passed : Bool) (v : View) (p : PositionValue) (x : Life) (field : ℕ) → IsLayout v.sizes → field < 4 → IsHeldFresh v x → IsPosition passed v p → key_at v.sizes x.index + field ≢ p.place
+place_apart passed v p x field z low f h same = ⊎_elim
+    (λ (b : (j : ℕ) × (j < v.sizes.buckets) × (p.place ≡ bucket_at v.sizes j)). let small = b.1 in absurd (omega (arith, small, b.2, same)))
+    (λ (b : (y : ℕ) × (other : ℕ) × (other < 4) × HasMet v.sizes v.front v.number y × (p.place ≡ key_at v.sizes y + other)).
+    let small = b.2 in
+    let is : x.index ≡ b.0 = omega (arith, low, small, b.4, same) in
+    b.3.fresh (subst (λ (i : ℕ). (node_in v.sizes v.front i).mode ≡ Fresh) is f.fresh.fresh))
+    (place_counted passed p.key v z p.place (place_still passed p.key h.then v (subst IsLayout (goes_sizes h.then v h.goes) z) h.goes p.place h.stands))
 
 -- the position at the word of a bucket
 pub started : (v w : View) (key at found : ℕ) → IsLayout w.sizes → v.numbered ≡ true → IsSound v → HasPass v → Looked v at found w → at ≡ bucket_at w.sizes (key % w.sizes.buckets) → IsPosition false w (record { key = key; place = at; word = found; moment = w.front })

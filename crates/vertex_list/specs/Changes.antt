@@ -1,12 +1,12 @@
 -- What linking, marking and unlinking a vertex tell.
-use Rattle.std.specs.Prelude.{◌≡◌, ℕ, ◌<◌, Bool, true, [], ◌∷◌}
+use Rattle.std.specs.Prelude.{◌≡◌, ℕ, Bool, true, [], ◌∷◌}
 use Rattle.graph_kinds.specs.declared.call.Call.TheVariants.{AddVertex, RemoveVertex}
 use Rattle.packed_link.specs.Layout.{link_at}
 use Rattle.packed_link.specs.Link.{pack, index_of, tag_of}
 use Rattle.packed_link.specs.declared.link.Life.{Life}
 use Rattle.core_journal.specs.Life.{vertex_marked}
 use Rattle.core_journal.specs.Machine.{word_at}
-use Rattle.core_kept.specs.Nodes.{IsFreshWith, IsSpentWith}
+use Rattle.core_kept.specs.Nodes.{IsSpentWith}
 use Rattle.core_lists.specs.Changed.{IsChangedByAnother}
 use Rattle.core_rule.specs.Fronts.{key_in}
 use Rattle.core_rule.specs.OwnEvents.{link_vertex_event, mark_vertex_event, unlink_vertex_event}
@@ -48,12 +48,12 @@ abbrev pub MatchUnlinked : Unlinked → PositionValue → View → View → Type
 MatchUnlinked (UnlinkDone x q) p v w = IsUnlinked p v w x q
 MatchUnlinked UnlinkLost p v w = IsLost p v w
 
--- the vertex is linked by the last event of the front, which adds its key to the graph; where it was the only fresh node
--- of the token, the token holds none
+-- the vertex is linked by the last event of the front, which adds its key to the graph; it was the only fresh node of the
+-- token, which holds none now
 pub record IsLinked (p : PositionValue) (x : Life) (v w : View) : Type 0 where
   pub makes : Makes v (link_vertex_event v p.place p.word p.key x ∷ []) w
   pub carries : Carries (AddVertex p.key) (link_vertex_event v p.place p.word p.key x) w
-  pub none : ((y : ℕ) → y < v.sizes.nodes → IsFreshWith v.sizes v.front v.number y → y ≡ x.index) → HasNoFresh w
+  pub none : HasNoFresh w
 
 abbrev pub MatchLinked : Linked → PositionValue → Life → View → View → Type 0
 MatchLinked (LinkDone life) p x v w = (life ≡ x) × IsLinked p x v w
