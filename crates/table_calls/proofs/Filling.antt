@@ -12,17 +12,19 @@ use Rattle.core_kept.specs.Vertices.{IsFilledVertex}
 use Rattle.core_rule.specs.OwnEvents.{store_event}
 use Rattle.core_rule.specs.Plays.{IsSound, Stored}
 use Rattle.core_rule.specs.Stretches.{IsHeldBut}
+use Rattle.core_rule.specs.Views.{GoesOn}
 use Rattle.core_rule.specs.declared.view.View.{View}
 use Rattle.core_rule.proofs.OwnByKind.{own_stored}
 use Rattle.core_rule.proofs.ViewShows.{store_steps, step_view, step_goes_on}
-use Rattle.table_calls.specs.Resting.{IsFilling}
+use Rattle.table_calls.specs.Resting.{IsHolding, uses_of}
+use Rattle.table_calls.proofs.Known.{same_uses}
 
 -- what a store to a fresh node left
 pub record Wrote (z : Sizes) (x : ℕ) (front journal : List Event) (place word : ℕ) : Type 0 where
   pub here : word_at z journal place ≡ word
   pub but : IsHeldBut z front journal x place
 
-pub filling : (v w : View) (x : Life) (field word : ℕ) → IsLayout v.sizes → IsSound v → IsFilling v x → Stored v (store_event v x field word) w → IsFilling w x
+pub filling : (v w : View) (x : Life) (field word : ℕ) → IsLayout v.sizes → IsSound v → IsHolding v x → Stored v (store_event v x field word) w → IsHolding w x
 filling v w x field word z s h st =
     let e = store_event v x field word in
     let t = store_steps v e w h.numbered s st in
@@ -31,6 +33,7 @@ filling v w x field word z s h st =
     let same : w.sizes ≡ v.sizes = (step_view v w (Some e) t).0 in
     record {
       numbered = (step_view v w (Some e) t).2 ∙ h.numbered;
+      there = subst (λ (u : View). u.number < u.sizes.callers) (sym t.view) h.there;
       pass = ap (λ (u : View). (pass_in u.sizes u.front u.number).is_open) g.view ∙ (ap (λ (p : Pass). p.is_open) g.pass ∙ h.pass);
       held = record {
         life = record {
@@ -41,7 +44,15 @@ filling v w x field word z s h st =
       };
     }
 
-pub wrote : (y : Sizes) (v w : View) (x : Life) (field word : ℕ) → v.sizes ≡ y → IsLayout v.sizes → IsSound v → IsFilling v x → Stored v (store_event v x field word) w → Wrote y x.index v.front w.front (key_at y x.index + field) word
+-- such a store leaves the pass
+pub filling_goes : (v w : View) (x : Life) (field word : ℕ) → IsSound v → IsHolding v x → Stored v (store_event v x field word) w → GoesOn v w
+filling_goes v w x field word s h st = let e = store_event v x field word in step_goes_on v w (Some e) (store_steps v e w h.numbered s st) ((λ y. absurd (cc)), (λ y. absurd (cc)))
+
+-- such a store counts towards no limit
+pub filling_uses : (v w : View) (x : Life) (field word : ℕ) → IsSound v → IsHolding v x → Stored v (store_event v x field word) w → uses_of w ≡ uses_of v
+filling_uses v w x field word s h st = let e = store_event v x field word in same_uses v w (Some e) (store_steps v e w h.numbered s st) refl refl refl
+
+pub wrote : (y : Sizes) (v w : View) (x : Life) (field word : ℕ) → v.sizes ≡ y → IsLayout v.sizes → IsSound v → IsHolding v x → Stored v (store_event v x field word) w → Wrote y x.index v.front w.front (key_at y x.index + field) word
 wrote y v w x field word is z s h st =
     let e = store_event v x field word in
     let t = store_steps v e w h.numbered s st in

@@ -1,2 +1,4 @@
-pub mod Known
 pub mod Filling
+pub mod Known
+pub mod Linking
+pub mod Loaded

@@ -1,1 +1,4 @@
+pub mod Causes
+pub mod Loads
 pub mod Resting
+pub mod Vertices

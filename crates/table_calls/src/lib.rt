@@ -6,7 +6,11 @@
 mod calls;
 #[cfg(test)]
 mod tests;
+mod vertices;
 
 pub use calls::{
     check_callers, close_pass, enter, fill_last, open_pass, see_free, split_off, store_key, take,
+};
+pub use vertices::{
+    Dead, Gap, find_first, link_in, mark_first, prepare_behind, prepare_first, see_dead, see_end,
 };
