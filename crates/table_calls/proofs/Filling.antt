@@ -1,5 +1,5 @@
 -- How a fresh node is filled, and linked as the only vertex of its bucket.
-use Rattle.std.proofs.Common.{◌≡◌, ℕ, ◌+◌, ◌<◌, ◌^◌, List, Some, refl, sym, ap, ◌∙◌, subst, arith}
+use Rattle.std.proofs.Common.{◌≡◌, ℕ, ◌+◌, ◌<◌, ◌≤◌, ◌^◌, List, Some, refl, sym, ap, ◌∙◌, subst, arith}
 use Rattle.packed_link.specs.Link.{pack, nowhere}
 use Rattle.packed_link.specs.Layout.{Sizes, IsLayout, key_at}
 use Rattle.packed_link.specs.declared.link.Life.{Life}
@@ -8,6 +8,7 @@ use Rattle.core_journal.specs.Machine.{word_at}
 use Rattle.core_journal.specs.Reuse.{pass_in}
 use Rattle.core_journal.specs.State.{Node, Pass}
 use Rattle.core_kept.specs.Nodes.{node_in}
+use Rattle.core_kept.specs.Edges.{IsFilledEdge}
 use Rattle.core_kept.specs.Vertices.{IsFilledVertex}
 use Rattle.core_rule.specs.OwnEvents.{store_event}
 use Rattle.core_rule.specs.Plays.{IsSound, Stored}
@@ -74,4 +75,19 @@ filled y x key f0 f1 f2 f3 f4 fits tag a b c d = record {
   link_word = d.but.link (λ e. omega (arith, e)) ∙ (c.but.link (λ e. omega (arith, e)) ∙ (b.here ∙ ap (pack nowhere 0) tag));
   second_word = d.but.second (λ e. omega (arith, e)) ∙ (c.here ∙ ap (pack nowhere 0) tag);
   third_word = d.here;
+}
+
+-- behind the four stores of an edge the node is filled
+pub filled_edge : (y : Sizes) (x : Life) (key next : ℕ) (to : Life) (weight : ℕ) (f0 f1 f2 f3 f4 : List Event) → key < 2 ^ 32 → 1 ≤ weight → weight < 2 ^ 32 → x.tag ≡ (node_in y f4 x.index).tag
+    → Wrote y x.index f0 f1 (key_at y x.index + 0) key → Wrote y x.index f1 f2 (key_at y x.index + 1) (pack next 0 x.tag)
+    → Wrote y x.index f2 f3 (key_at y x.index + 2) (pack to.index 0 to.tag) → Wrote y x.index f3 f4 (key_at y x.index + 3) weight
+    → IsFilledEdge y f4 x.index key next to weight
+filled_edge y x key next to weight f0 f1 f2 f3 f4 fits some small tag a b c d = record {
+  key_word = d.but.key (λ e. omega (arith, e)) ∙ (c.but.key (λ e. omega (arith, e)) ∙ (b.but.key (λ e. omega (arith, e)) ∙ (ap (word_at y f1) (omega arith) ∙ a.here)));
+  key_fits = fits;
+  link_word = d.but.link (λ e. omega (arith, e)) ∙ (c.but.link (λ e. omega (arith, e)) ∙ (b.here ∙ ap (pack next 0) tag));
+  second_word = d.but.second (λ e. omega (arith, e)) ∙ c.here;
+  third_word = d.here;
+  some = some;
+  weight_fits = small;
 }

@@ -1,4 +1,5 @@
 pub mod Filling
 pub mod Known
 pub mod Linking
+pub mod ListWords
 pub mod Loaded

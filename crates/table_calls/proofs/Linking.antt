@@ -5,14 +5,16 @@ use Rattle.packed_link.specs.Layout.{Sizes, IsLayout, key_at, link_at}
 use Rattle.packed_link.specs.declared.link.Life.{Life}
 use Rattle.core_journal.specs.Event.{pops, moves, raises}
 use Rattle.core_journal.specs.declared.event.Event.{Event}
-use Rattle.core_journal.specs.declared.event.Kind.TheVariants.{Announce, LinkVertex, PopFree, Withdraw}
+use Rattle.core_journal.specs.declared.event.Kind.TheVariants.{Announce, LinkVertex, PopFree, UnlinkVertex, Withdraw}
 use Rattle.core_journal.specs.Machine.{word_at}
 use Rattle.core_kept.specs.Kept.{IsKept}
-use Rattle.core_kept.specs.Nodes.{IsFreshWith}
+use Rattle.core_kept.specs.Freezing.{IsSpentVertex}
+use Rattle.core_kept.specs.Nodes.{IsFreshWith, node_in}
 use Rattle.core_kept.specs.Vertices.{IsFilledVertex}
-use Rattle.core_lists.specs.Chains.{life_in}
+use Rattle.core_lists.specs.Chains.{KeepsList, life_in}
+use Rattle.core_lists.proofs.FrozenToEndIsList.{has_keeps}
 use Rattle.core_lists.specs.Walks.{LeadsTo}
-use Rattle.core_lists.proofs.EventKeepsRest.{vertex_joined}
+use Rattle.core_lists.proofs.EventKeepsRest.{event_life, vertex_joined, vertex_spent}
 use Rattle.core_rule.specs.Fronts.{MayLinkVertex, MayUnlinkVertex, MetVertex, IsBeforeVertex, IsVertexBelow, LeadsToVertex, key_in}
 use Rattle.core_rule.specs.Plays.{IsSound, Looked}
 use Rattle.core_rule.specs.Stretches.{HasPass}
@@ -20,13 +22,15 @@ use Rattle.core_rule.specs.Views.{Spares, Steps}
 use Rattle.core_rule.specs.declared.view.View.{View}
 use Rattle.core_rule.proofs.ViewShows.{win_steps, step_view, leads_to_vertex_still}
 use Rattle.graph_table.specs.Filled.{MayLinkFilledVertex}
-use Rattle.graph_table.specs.Table.{Marked, MatchLink}
+use Rattle.graph_table.specs.Table.{Marked, MatchLink, MatchUnlink}
 use Rattle.graph_table.specs.declared.answers.LinkTried.{LinkTried}
 use Rattle.graph_table.specs.declared.answers.LinkTried.TheVariants.{Won as LinkWon, Lost as LinkLost}
+use Rattle.graph_table.specs.declared.answers.UnlinkTried.{UnlinkTried}
+use Rattle.graph_table.specs.declared.answers.UnlinkTried.TheVariants.{Won as UnlinkWon, Lost as UnlinkLost}
 use Rattle.table_calls.specs.Resting.{IsResting, IsHolding, uses_of}
-use Rattle.table_calls.specs.Vertices.{IsFound, MatchHeld, word_in}
+use Rattle.table_calls.specs.Vertices.{IsUnlinked, MatchHeld, MatchSpent}
 use Rattle.table_calls.proofs.Known.{rests_on, same_pass, same_uses}
-use Rattle.table_calls.proofs.Loaded.{loaded, loaded_goes, loaded_holding, loaded_numbered, loaded_pass, loaded_sizes, loaded_uses, life_loaded, leads_there, marked_steps, place_leads, word_is}
+use Rattle.table_calls.proofs.Loaded.{loaded, loaded_goes, loaded_holding, loaded_resting, loaded_numbered, loaded_pass, loaded_sizes, loaded_uses, life_loaded, leads_there, marked_steps, place_leads, word_is}
 
 -- a node that was filled for an end may be linked there
 pub may_link : (v : View) (place seen key : ℕ) (x : Life) → IsHolding v x → IsBeforeVertex v key place → mark_of seen ≡ 0 → index_of seen ≡ nowhere → IsFilledVertex v.sizes v.front x.index key nowhere → MayLinkFilledVertex v place seen x
@@ -107,3 +111,35 @@ module _ (v m : View) (place word index : ℕ) (z : IsLayout v.sizes) (z' : IsLa
         dead = ap mark_of (sym link_is) ∙ dead;
         next_is = next_is ∙ ap index_of link_is;
       }
+
+-- the same of a front
+record IsUnlinkedIn (z : Sizes) (front : List Event) (caller : ℕ) (x : Life) : Type 0 where
+  pub there : x.index < z.nodes
+  pub tag : x.tag ≡ (node_in z front x.index).tag
+  pub spent : IsSpentVertex z front caller x.index
+  pub list : KeepsList z front x.index
+
+-- behind an unlink a token rests on
+pub unlinked_rests : (r : UnlinkTried) (v w : View) (place seen : ℕ) (x : Life) (e : Event) → IsSound v → e.kind ≢ PopFree → (e.kind ≢ Announce) × (e.kind ≢ Withdraw) → IsResting true v → MatchUnlink r v place seen x e w → IsResting true w
+unlinked_rests (UnlinkWon y) v w place seen x e s takes spares n m = rests_on true v w (Some e) (win_steps v place seen e w n.numbered s m.1) takes spares n
+unlinked_rests (UnlinkLost found) v w place seen x e s takes spares n m = loaded_resting v w n.numbered s (loaded v place found w m.looked) true n
+
+pub unlinked_uses : (r : UnlinkTried) (v w : View) (place seen : ℕ) (x : Life) (e : Event) → v.numbered ≡ true → IsSound v → pops e.kind ≡ false → moves e.kind ≡ false → raises e.kind ≡ false → MatchUnlink r v place seen x e w → uses_of w ≡ uses_of v
+unlinked_uses (UnlinkWon y) v w place seen x e has s p q r m = same_uses v w (Some e) (win_steps v place seen e w has s m.1) p q r
+unlinked_uses (UnlinkLost found) v w place seen x e has s p q r m = loaded_uses v w has s (loaded v place found w m.looked)
+
+-- a vertex that the token unlinked is spent with it, and its list is one still
+pub unlinked_spent : (r : UnlinkTried) (v w : View) (place seen : ℕ) (x : Life) (e : Event) → IsLayout v.sizes → IsSound v → v.numbered ≡ true → e.kind ≡ UnlinkVertex → e.caller ≡ v.number → e.life ≡ x → x.index < v.sizes.nodes → MatchUnlink r v place seen x e w → MatchSpent r w
+unlinked_spent (UnlinkLost found) v w place seen x e z s has is by of there m = tt
+unlinked_spent (UnlinkWon y) v w place seen x e z s has is by of there m =
+    let t = win_steps v place seen e w has s m.1 in
+    let kept : IsKept v.sizes (t.grown ++ e ∷ []) = subst (λ (j : List Event). IsKept v.sizes j) t.front t.kept in
+    let spent = vertex_spent v.sizes t.grown e kept z is in
+    let list = has_keeps v.sizes z (t.grown ++ e ∷ []) kept e.life.index spent.1 in
+    let there' : e.life.index < v.sizes.nodes = subst (λ (l : Life). l.index < v.sizes.nodes) (sym of) there in
+    let tag = event_life v.sizes t.grown e kept z there' in
+    let vertex : IsSpentVertex v.sizes (t.grown ++ e ∷ []) v.number e.life.index = subst (λ (n : ℕ). IsSpentVertex v.sizes (t.grown ++ e ∷ []) n e.life.index) by spent.0 in
+    let far : IsUnlinkedIn v.sizes (t.grown ++ e ∷ []) v.number e.life = record { there = there'; tag = tag; spent = vertex; list = list } in
+    let here : IsUnlinkedIn v.sizes w.front v.number e.life = subst (λ (j : List Event). IsUnlinkedIn v.sizes j v.number e.life) (sym t.front) far in
+    let now : IsUnlinkedIn w.sizes w.front w.number e.life = subst (λ (u : View). IsUnlinkedIn u.sizes u.front u.number e.life) (sym t.view) here in
+    subst (λ (l : Life). IsUnlinked w l) (of ∙ sym m.0) (record { life = record { there = now.there; tag = now.tag }; spent = now.spent; list = now.list })

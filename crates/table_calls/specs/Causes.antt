@@ -22,8 +22,8 @@ pub record IsHeldBack (v w : View) : Type 0 where
   pub low : word_at w.sizes w.front (announce_at w.sizes caller) ≤ word_at w.sizes loaded (epoch_at w.sizes)
 
 -- the free list leads to no node
-abbrev pub IsEmptyList : View → Type 0
-IsEmptyList w = w.sizes.nodes ≤ index_of (word_at w.sizes w.front (free_at w.sizes))
+abbrev pub IsEmptyFree : View → Type 0
+IsEmptyFree w = w.sizes.nodes ≤ index_of (word_at w.sizes w.front (free_at w.sizes))
 
 -- taking a node came to its event, or the free list's word was another one
 abbrev pub MatchTaken : Option Life → (v : View) (seen next : ℕ) (w : View) → Type 0

@@ -1,4 +1,5 @@
 pub mod Causes
+pub mod Edges
 pub mod Loads
 pub mod Resting
 pub mod Vertices

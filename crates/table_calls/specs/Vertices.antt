@@ -5,12 +5,16 @@ use Rattle.packed_link.specs.Layout.{bucket_at, link_at}
 use Rattle.packed_link.specs.declared.link.Life.{Life}
 use Rattle.core_journal.specs.Machine.{word_at}
 use Rattle.core_journal.specs.Prefix.{IsPrefix}
+use Rattle.core_kept.specs.Freezing.{IsSpentVertex}
+use Rattle.core_lists.specs.Chains.{KeepsList}
 use Rattle.core_rule.specs.Fronts.{IsLifeAt, MetVertex, key_in}
 use Rattle.core_rule.specs.OwnEvents.{mark_vertex_event}
 use Rattle.core_rule.specs.declared.view.View.{View}
 use Rattle.graph_table.specs.Table.{Marked}
 use Rattle.graph_table.specs.declared.answers.LinkTried.{LinkTried}
 use Rattle.graph_table.specs.declared.answers.LinkTried.TheVariants.{Won as LinkWon, Lost as LinkLost}
+use Rattle.graph_table.specs.declared.answers.UnlinkTried.{UnlinkTried}
+use Rattle.graph_table.specs.declared.answers.UnlinkTried.TheVariants.{Won as UnlinkWon, Lost as UnlinkLost}
 use Rattle.table_calls.specs.Loads.{HasLoaded}
 use Rattle.table_calls.specs.Resting.{IsHolding, IsResting}
 
@@ -44,6 +48,17 @@ IsNoGap v bucket key = IsEmptyBucket v bucket ⊎ ((x : Life) × IsNoGapBehind v
 abbrev pub MatchHeld : LinkTried → View → Type 0
 MatchHeld (LinkWon x) w = IsResting true w
 MatchHeld (LinkLost x found) w = IsHolding w x
+
+-- the token unlinked the vertex, whose list is one still
+pub record IsUnlinked (v : View) (x : Life) : Type 0 where
+  pub life : IsLifeAt v x
+  pub spent : IsSpentVertex v.sizes v.front v.number x.index
+  pub list : KeepsList v.sizes v.front x.index
+
+-- unlinking a vertex came to a vertex that is spent with the token
+abbrev pub MatchSpent : UnlinkTried → View → Type 0
+MatchSpent (UnlinkWon x) w = IsUnlinked w x
+MatchSpent (UnlinkLost found) w = Unit {0}
 
 -- a vertex of the bucket was found, and marked where it wasn't yet
 pub record MarksVertex (v : View) (bucket found : ℕ) (w : View) : Type 0 where

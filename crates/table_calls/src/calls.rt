@@ -11,7 +11,7 @@ ghost use Rattle.core_rule.specs.OwnEvents.{store_event};
 ghost use Rattle.core_rule.specs.Plays.{Drew, Stored, newcomer};
 ghost use Rattle.core_rule.specs.Views.{GoesOn};
 ghost use Rattle.graph_table.specs.Tokens.{IsOf};
-ghost use Rattle.table_calls.specs.Causes.{IsEmptyList, IsHeldBack, MatchTaken};
+ghost use Rattle.table_calls.specs.Causes.{IsEmptyFree, IsHeldBack, MatchTaken};
 ghost use Rattle.table_calls.specs.Resting.{IsHolding, IsResting, uses_of};
 
 use graph_table::{Field, Fresh, GraphTable, Popped, Token};
@@ -109,7 +109,7 @@ pub fn see_free(table: &GraphTable, token: &mut Token) -> Option<(Link, Link)>
     requires few { uses_of token.old.view < most_pops }
     ensures table { IsOf table.now token.new }
     ensures may { IfSome result (λ both. MayPopFree token.new.view both.0.0 both.1.0) }
-    ensures empty { IsNone result → IsEmptyList token.new.view }
+    ensures empty { IsNone result → IsEmptyFree token.new.view }
     ensures resting { IsResting true token.new.view }
     ensures uses { uses_of token.new.view ≡ uses_of token.old.view }
 {

@@ -4,6 +4,7 @@
 #![tactic(auto)]
 
 mod calls;
+mod edges;
 #[cfg(test)]
 mod tests;
 mod vertices;
@@ -11,6 +12,10 @@ mod vertices;
 pub use calls::{
     check_callers, close_pass, enter, fill_last, open_pass, see_free, split_off, store_key, take,
 };
+pub use edges::{
+    Edge, fill_edge, find_edge, link_edge_in, mark_in, prepare_edge, raise_first,
+};
 pub use vertices::{
     Dead, Gap, find_first, link_in, mark_first, prepare_behind, prepare_first, see_dead, see_end,
+    unlink_in,
 };

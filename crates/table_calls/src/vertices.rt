@@ -14,7 +14,7 @@ ghost use Rattle.graph_table.specs.Table.{MatchLink, MatchUnlink};
 ghost use Rattle.table_calls.specs.Loads.{HasLoaded};
 ghost use Rattle.table_calls.specs.Resting.{IsHolding, IsResting, uses_of};
 ghost use Rattle.table_calls.specs.Vertices.{IsEmptyBucket, IsFound, IsNoEnd, IsNoGap, IsNoneDead};
-ghost use Rattle.table_calls.specs.Vertices.{MarksVertex, MatchHeld, word_in};
+ghost use Rattle.table_calls.specs.Vertices.{MarksVertex, MatchHeld, MatchSpent, word_in};
 
 use crate::calls::fill_last;
 use graph_table::{Fresh, GraphTable, LinkTried, Token, UnlinkTried};
@@ -215,4 +215,19 @@ pub fn see_dead(table: &GraphTable, token: &mut Token, place: u32) -> Option<Dea
         life,
         next,
     })
+}
+
+/// Unlinks a vertex that was seen dead. `Lost` comes where another word is there.
+pub fn unlink_in(table: &GraphTable, token: &mut Token, dead: Dead) -> UnlinkTried
+    requires table { IsOf table.now token.old }
+    requires resting { IsResting true token.old.view }
+    requires may { MayUnlinkVertex token.old.view dead.place dead.seen.0 dead.next dead.life }
+    ensures table { IsOf table.now token.new }
+    ensures resting { IsResting true token.new.view }
+    ensures tried { MatchUnlink result token.old.view dead.place dead.seen.0 dead.life
+        (unlink_vertex_event token.old.view dead.place dead.seen.0 dead.next dead.life) token.new.view }
+    ensures spent { MatchSpent result token.new.view }
+    ensures uses { uses_of token.new.view ≡ uses_of token.old.view }
+{
+    table.unlink_vertex(token, dead.place, dead.seen, dead.life, dead.next)
 }
