@@ -1,33 +1,39 @@
 -- How edges are found, linked, marked and replaced by what was met before.
-use Rattle.std.proofs.Common.{◌≡◌, ◌≢◌, ◌⊎◌, ℕ, ◌+◌, ◌^◌, ◌<◌, ◌≤◌, Bool, true, false, List, [], ◌∷◌, ◌++◌, Option, None, Some, inl, inr, refl, sym, ap, ◌∙◌, subst, arith, ⊎_elim}
+use Rattle.std.proofs.Common.{◌≡◌, ◌≢◌, ◌⊎◌, ℕ, ◌+◌, ◌^◌, ◌<◌, ◌≤◌, Bool, true, false, List, [], ◌∷◌, ◌++◌, Option, None, Some, inl, inr, refl, sym, ap, ◌∙◌, subst, arith, ⊎_elim, true≢false}
 use Rattle.packed_link.specs.Link.{index_of, mark_of, tag_of, nowhere}
-use Rattle.packed_link.specs.Layout.{Sizes, IsLayout, link_at, second_at}
+use Rattle.packed_link.specs.Layout.{Sizes, IsLayout, link_at, second_at, third_at}
 use Rattle.packed_link.specs.declared.link.Life.{Life}
 use Rattle.core_journal.specs.Event.{pops, moves, raises}
 use Rattle.core_journal.specs.declared.event.Event.{Event}
-use Rattle.core_journal.specs.declared.event.Kind.TheVariants.{Announce, LinkEdge, ReplaceEdge, Withdraw}
+use Rattle.core_journal.specs.declared.event.Kind.TheVariants.{Announce, LinkEdge, ReplaceEdge, UnlinkEdge, Withdraw}
 use Rattle.core_journal.specs.Machine.{word_at}
 use Rattle.core_kept.specs.Edges.{IsFilledEdge, IsRaisedFor}
 use Rattle.core_kept.specs.Kept.{IsKept}
-use Rattle.core_kept.specs.Nodes.{IsFreshWith}
+use Rattle.core_journal.specs.State.{state}
+use Rattle.core_kept.specs.Nodes.{IsFreshWith, IsSpentWith, is_listed}
+use Rattle.core_kept.proofs.Named.{life_is}
 use Rattle.core_kept.proofs.Contents.{contents}
 use Rattle.core_kept.proofs.MetWords.{met_used}
 use Rattle.core_kept.proofs.OwnFacts.{pass_stays}
 use Rattle.core_lists.specs.Chains.{life_in}
 use Rattle.core_lists.specs.Walks.{LeadsTo}
-use Rattle.core_lists.proofs.EventKeepsRest.{edge_joined, edge_replaced}
-use Rattle.core_rule.specs.Fronts.{MayLinkEdge, MetEdge, MetVertex, key_in}
+use Rattle.core_lists.proofs.EventKeepsRest.{edge_joined, edge_replaced, edge_spent}
+use Rattle.core_rule.specs.Fronts.{MayLinkEdge, MayReplaceEdge, MetEdge, MetVertex, key_in}
 use Rattle.core_rule.specs.OwnEvents.{raise_event}
 use Rattle.core_rule.specs.Plays.{IsSound, Looked, Won}
 use Rattle.core_rule.specs.Views.{GoesOn, IsEdgeIn, Steps}
 use Rattle.core_rule.specs.declared.view.View.{View}
 use Rattle.core_rule.proofs.OwnByView.{own_made_same}
-use Rattle.core_rule.proofs.ViewShows.{edge_shown, edge_still, life_shown, list_shown, raise_is_for, vertex_still, win_steps}
-use Rattle.graph_table.specs.Filled.{MayLinkFilledEdge}
-use Rattle.graph_table.specs.Table.{MatchLink}
+use Rattle.core_rule.proofs.ViewShows.{edge_shown, edge_still, life_shown, list_shown, raise_is_for, step_goes_on, vertex_still, win_steps}
+use Rattle.core_rule.proofs.ShownTargets.{target_shown}
+use Rattle.graph_table.specs.Filled.{MayLinkFilledEdge, MayReplaceByFilled}
+use Rattle.graph_table.specs.Table.{MatchLink, MatchUnlink}
 use Rattle.graph_table.specs.declared.answers.LinkTried.{LinkTried}
 use Rattle.graph_table.specs.declared.answers.LinkTried.TheVariants.{Won as LinkWon, Lost as LinkLost}
-use Rattle.graph_table.proofs.FilledNodes.{link_filled}
+use Rattle.graph_table.proofs.FilledNodes.{link_filled, replace_filled}
+use Rattle.graph_table.specs.declared.answers.UnlinkTried.{UnlinkTried}
+use Rattle.graph_table.specs.declared.answers.UnlinkTried.TheVariants.{Won as UnlinkWon, Lost as UnlinkLost}
+use Rattle.table_calls.specs.Edges.{IsDone, MatchCut}
 use Rattle.table_calls.specs.Resting.{IsHolding, uses_of}
 use Rattle.table_calls.specs.Vertices.{MatchHeld}
 use Rattle.table_calls.proofs.Known.{made_next}
@@ -115,3 +121,64 @@ raised_uses v w source place found has s won =
     let e = raise_event v source found in
     let t = win_steps v place found e w has s won in
     omega (arith, made_next raises v w e t refl refl, own_made_same v w (Some e) t pops refl, own_made_same v w (Some e) t moves refl)
+
+-- the key of an edge that was met fits
+pub edge_key_low : (v : View) → IsLayout v.sizes → IsSound v → (source x : Life) → MetEdge v source x → key_in v x.index < 2 ^ 32
+edge_key_low v z s source x m =
+    let used = met_used v.sizes v.front v.number x.index m.met in
+    let c = ((contents v.sizes z v.front s.kept).each x.index m.life.there).edge used m.edge in
+    omega (arith, c.key_word, c.key_fits)
+
+-- a node that was filled with an edge's key and target and another weight may replace it
+pub may_replace : (v : View) → IsLayout v.sizes → IsSound v → (seen key : ℕ) (source to : Life) (amount weight : ℕ) (old x : Life) → IsHolding v x → MetEdge v source old → IsRaisedFor v.sizes v.front v.number old source → mark_of seen ≡ 0 → key_in v old.index ≡ key
+    → to.index ≡ index_of (word_at v.sizes v.front (second_at v.sizes old.index)) → to.tag ≡ tag_of (word_at v.sizes v.front (second_at v.sizes old.index)) → to.index < 2 ^ 24
+    → word_at v.sizes v.front (third_at v.sizes old.index) ≡ amount → amount ≢ weight → IsFilledEdge v.sizes v.front x.index key (index_of seen) to weight → MayReplaceByFilled v seen old x
+may_replace v z s seen key source to amount weight old x h m raised live key_is index_is tag_is fits amount_is other f =
+    let e = edge_shown v z s.kept source old m in
+    let t = target_shown v z s.kept source old m in
+    let same : e.link ≡ t.link = some_is e.link t.link (sym e.is ∙ t.is) in
+    let target : t.link.target ≡ to = life_is t.link.target to.index to.tag (sym (index_is ∙ t.index)) (sym (tag_is ∙ t.tag)) in
+    let may : MayReplaceEdge v seen key source to weight old x = record {
+      life = h.held.life;
+      edge = m;
+      raised = raised;
+      unmarked = live;
+      fresh = h.held.fresh;
+      filled = f;
+      link = t.link;
+      link_is = t.is;
+      same_key = ap (λ (l : Event). l.key) (sym same) ∙ (e.key ∙ key_is);
+      same_target = target;
+      other_weight = λ is. other (sym amount_is ∙ (sym e.weight ∙ (ap (λ (l : Event). l.weight) same ∙ is)));
+    } in
+    (replace_filled v seen key source to weight old x fits may).0
+  where
+    some_is : (a b : Event) → Some a ≡ Some b → a ≡ b
+    some_is a b h = cc
+
+-- a node is spent with a caller, and stands on no list
+record IsCutIn (z : Sizes) (front : List Event) (caller x : ℕ) : Type 0 where
+  pub spent : IsSpentWith z front caller x
+  pub off : (y : ℕ) → is_listed (state z front) y x ≡ false
+
+-- an edge that the token unlinked is spent with it, and stands on no list
+pub cut_done : (r : UnlinkTried) (v w : View) (place seen : ℕ) (source x : Life) (e : Event) → IsLayout v.sizes → IsSound v → v.numbered ≡ true → e.kind ≡ UnlinkEdge → e.caller ≡ v.number → e.life ≡ x → MetEdge v source x → MatchUnlink r v place seen x e w → MatchCut r w
+cut_done (UnlinkLost found) v w place seen source x e z s has is by of met m = tt
+cut_done (UnlinkWon y) v w place seen source x e z s has is by of met m =
+    let t = win_steps v place seen e w has s m.1 in
+    let kept : IsKept v.sizes (t.grown ++ e ∷ []) = subst (λ (j : List Event). IsKept v.sizes j) t.front t.kept in
+    let spent = edge_spent v.sizes t.grown e kept is in
+    let mine : IsSpentWith v.sizes (t.grown ++ e ∷ []) v.number e.life.index = subst (λ (n : ℕ). IsSpentWith v.sizes (t.grown ++ e ∷ []) n e.life.index) by spent.0 in
+    let met' = edge_still v w z (step_goes_on v w (Some e) t ((λ h. absurd (cc)), (λ h. absurd (cc)))) source x met in
+    let far : IsCutIn v.sizes (t.grown ++ e ∷ []) v.number e.life.index = record { spent = mine; off = spent.1 } in
+    let here : IsCutIn v.sizes w.front v.number e.life.index = subst (λ (j : List Event). IsCutIn v.sizes j v.number e.life.index) (sym t.front) far in
+    let now : IsCutIn w.sizes w.front w.number e.life.index = subst (λ (u : View). IsCutIn u.sizes u.front u.number e.life.index) (sym t.view) here in
+    let its : IsCutIn w.sizes w.front w.number x.index = subst (λ (l : Life). IsCutIn w.sizes w.front w.number l.index) of now in
+    let vertex = met'.edge in
+    let done : IsDone w x = record {
+      life = met'.life;
+      spent = its.spent;
+      own_list = λ yes. absurd (true≢false (sym yes ∙ vertex));
+      list = λ y there on. absurd (true≢false (sym on ∙ its.off y));
+    } in
+    subst (λ (l : Life). IsDone w l) (sym m.0) done

@@ -1,12 +1,16 @@
 -- What the calls on edges tell, and why they answer none.
-use Rattle.std.specs.Prelude.{◌≡◌, ℕ, ◌≤◌, ◌⊎◌, true}
+use Rattle.std.specs.Prelude.{◌≡◌, ℕ, ◌<◌, ◌⊎◌, true}
 use Rattle.packed_link.specs.Link.{index_of, mark_of, nowhere}
 use Rattle.packed_link.specs.Layout.{link_at, second_at, third_at}
 use Rattle.packed_link.specs.declared.link.Life.{Life}
-use Rattle.core_rule.specs.Fronts.{MetEdge, MetVertex}
+use Rattle.core_journal.specs.State.{state}
+use Rattle.core_kept.specs.Nodes.{node_in, is_listed, IsFrozenToEnd, IsSpentWith}
+use Rattle.core_rule.specs.Fronts.{IsLifeAt, MetEdge}
 use Rattle.core_rule.specs.OwnEvents.{raise_event}
 use Rattle.core_rule.specs.Plays.{Won}
 use Rattle.core_rule.specs.declared.view.View.{View}
+use Rattle.graph_table.specs.declared.answers.UnlinkTried.{UnlinkTried}
+use Rattle.graph_table.specs.declared.answers.UnlinkTried.TheVariants.{Won as UnlinkWon, Lost as UnlinkLost}
 use Rattle.table_calls.specs.Loads.{HasLoaded}
 use Rattle.table_calls.specs.Vertices.{IsEmptyBucket, IsFound, IsNoEnd, word_in}
 
@@ -44,3 +48,23 @@ pub record IsCutFirst (v : View) (bucket : ℕ) : Type 0 where
 -- the bucket has no vertex, or its first one has no edge, or the first edge of that is marked
 abbrev pub IsNoEdge : View → ℕ → Type 0
 IsNoEdge v bucket = IsEmptyBucket v bucket ⊎ ((x : Life) × IsFound v bucket x × IsEmptyList v x) ⊎ IsCutFirst v bucket
+
+-- an edge that was met has this weight
+pub record IsSameWeight (v : View) (weight : ℕ) : Type 0 where
+  pub source : Life
+  pub life : Life
+  pub edge : MetEdge v source life
+  pub same : word_in v (third_at v.sizes life.index) ≡ weight
+
+-- a life is spent with the token, and all lists that may lead to it are frozen to their ends
+pub record IsDone (v : View) (x : Life) : Type 0 where
+  pub life : IsLifeAt v x
+  pub spent : IsSpentWith v.sizes v.front v.number x.index
+  pub own_list : (node_in v.sizes v.front x.index).vertex ≡ true → IsFrozenToEnd v.sizes v.front x.index
+  pub list : (y : ℕ) → y < v.sizes.nodes → is_listed (state v.sizes v.front) y x.index ≡ true
+      → IsFrozenToEnd v.sizes v.front y
+
+-- unlinking an edge came to an edge that is spent with the token, and stands on no list
+abbrev pub MatchCut : UnlinkTried → View → Type 0
+MatchCut (UnlinkWon x) w = IsDone w x
+MatchCut (UnlinkLost found) w = Unit {0}

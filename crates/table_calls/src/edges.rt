@@ -3,6 +3,7 @@
 //! The first edge leads from that vertex to itself, so that its target is met too.
 
 ghost use Rattle.std.specs.Prelude.{◌≡◌, ◌<◌, ◌≤◌, ◌+◌, ◌^◌, true, IfSome, IsNone};
+ghost use Rattle.packed_link.specs.Link.{mark_of};
 ghost use Rattle.packed_link.specs.Layout.{link_at};
 ghost use Rattle.packed_link.specs.declared.link.Life.{Life};
 ghost use Rattle.core_kept.specs.Counts.{most_raises};
@@ -141,15 +142,18 @@ pub fn find_edge(table: &GraphTable, token: &mut Token, source: Life) -> Option<
 }
 
 /// Raises the counter of the first vertex of a bucket for its first edge, which isn't marked. `None` comes where there
-/// is no such edge.
-pub fn raise_first(table: &GraphTable, token: &mut Token, bucket: u32) -> Option<Edge>
+/// is no such edge. A fresh node that the token holds is held still.
+pub fn raise_for(table: &GraphTable, token: &mut Token, bucket: u32) -> Option<Edge>
     requires table { IsOf table.now token.old }
-    requires resting { IsResting true token.old.view }
+    requires number { token.old.view.numbered ≡ true }
+    requires pass { HasPass token.old.view }
     requires bucket { bucket < table.now.sizes.buckets }
     requires few { uses_of token.old.view < most_raises }
     ensures table { IsOf table.now token.new }
-    ensures resting { IsResting true token.new.view }
+    ensures resting { IsResting true token.old.view → IsResting true token.new.view }
+    ensures holding { (x : Life) → IsHolding token.old.view x → IsHolding token.new.view x }
     ensures may { IfSome result (λ edge. MayMarkEdge token.new.view edge.source edge.life) }
+    ensures live { IfSome result (λ edge. mark_of edge.seen.0 ≡ 0) }
     ensures raises { IfSome result (λ edge.
         RaisesFor token.old.view bucket edge.source edge.life edge.seen.0 token.new.view) }
     ensures none { IsNone result → IsNoEdge token.new.view bucket }
@@ -167,6 +171,24 @@ pub fn raise_first(table: &GraphTable, token: &mut Token, bucket: u32) -> Option
     }
     table.raise(token, source);
     Some(edge)
+}
+
+/// Raises the counter of the first vertex of a bucket for its first edge, which isn't marked. `None` comes where there
+/// is no such edge.
+pub fn raise_first(table: &GraphTable, token: &mut Token, bucket: u32) -> Option<Edge>
+    requires table { IsOf table.now token.old }
+    requires resting { IsResting true token.old.view }
+    requires bucket { bucket < table.now.sizes.buckets }
+    requires few { uses_of token.old.view < most_raises }
+    ensures table { IsOf table.now token.new }
+    ensures resting { IsResting true token.new.view }
+    ensures may { IfSome result (λ edge. MayMarkEdge token.new.view edge.source edge.life) }
+    ensures raises { IfSome result (λ edge.
+        RaisesFor token.old.view bucket edge.source edge.life edge.seen.0 token.new.view) }
+    ensures none { IsNone result → IsNoEdge token.new.view bucket }
+    ensures uses { uses_of token.new.view ≤ uses_of token.old.view + 1 }
+{
+    raise_for(table, token, bucket)
 }
 
 /// Marks an edge for which the token raised the counter, and answers the link that was found.

@@ -4,6 +4,7 @@
 #![tactic(auto)]
 
 mod calls;
+mod cut_edges;
 mod edges;
 #[cfg(test)]
 mod tests;
@@ -12,8 +13,9 @@ mod vertices;
 pub use calls::{
     check_callers, close_pass, enter, fill_last, open_pass, see_free, split_off, store_key, take,
 };
+pub use cut_edges::{cut_in, prepare_replace, replace_in, see_cut};
 pub use edges::{
-    Edge, fill_edge, find_edge, link_edge_in, mark_in, prepare_edge, raise_first,
+    Edge, fill_edge, find_edge, link_edge_in, mark_in, prepare_edge, raise_first, raise_for,
 };
 pub use vertices::{
     Dead, Gap, find_first, link_in, mark_first, prepare_behind, prepare_first, see_dead, see_end,
