@@ -4,7 +4,7 @@ use Rattle.packed_link.specs.Link.{index_of}
 use Rattle.packed_link.specs.Layout.{Sizes, IsLayout, announce_at, epoch_at, free_at, link_at}
 use Rattle.core_journal.specs.Event.{pops, moves, raises}
 use Rattle.core_journal.specs.declared.event.Event.{Event}
-use Rattle.core_journal.specs.declared.event.Kind.TheVariants.{Announce, PopFree, Withdraw}
+use Rattle.core_journal.specs.declared.event.Kind.TheVariants.{Announce, PopFree, PushFree, Withdraw}
 use Rattle.core_journal.specs.Machine.{word_at}
 use Rattle.core_journal.specs.Prefix.{IsPrefix}
 use Rattle.core_journal.specs.Reuse.{pass_in}
@@ -31,7 +31,10 @@ use Rattle.core_rule.proofs.ViewShows.{look_steps, store_steps, win_steps, step_
 use Rattle.core_kept.proofs.Callers.{made_one, made_quiet}
 use Rattle.core_kept.specs.Counts.{most_pops, most_moves}
 use Rattle.core_journal.specs.declared.event.Kind.{Kind}
+use Rattle.core_rule.proofs.RetiredStays.{retired_still}
+use Rattle.packed_link.specs.declared.link.Life.{Life}
 use Rattle.table_calls.specs.Causes.{IsHeldBack}
+use Rattle.table_calls.specs.Closing.{KeepsRetired}
 use Rattle.table_calls.specs.Resting.{IsResting, IsHolding, IsHeldFresh, uses_of}
 
 -- a token that drew its number
@@ -80,6 +83,20 @@ same_uses v w own t p m r = omega (arith, own_made_same v w own t pops p, own_ma
 pub looked_uses : (v : View) (place found : ℕ) (w : View) → v.numbered ≡ true → IsSound v → Looked v place found w → uses_of w ≡ uses_of v
 looked_uses v place found w has s l = same_uses v w None (look_steps v place found w has s l) tt tt tt
 
+-- what a token retired is so behind each of its steps that gives none back
+pub keeps_on : (v w : View) (own : Option Event) → IsLayout v.sizes → Steps v own w → Spares (λ (e : Event). e.kind ≢ PushFree) own → KeepsRetired v w
+keeps_on v w own z t spares = record { each = λ x stamp r. retired_still v w own z t None x stamp (by own spares x) r }
+  where
+    by : (o : Option Event) → Spares (λ (e : Event). e.kind ≢ PushFree) o → (x : Life) → Spares (λ (e : Event). e.kind ≡ PushFree → e.life.index ≢ x.index) o
+    by None h x = tt
+    by (Some e) h x = λ is. absurd (h is)
+
+pub keeps_chain : (u v w : View) → KeepsRetired u v → KeepsRetired v w → KeepsRetired u w
+keeps_chain u v w a b = record { each = λ x stamp r. b.each x stamp (a.each x stamp r) }
+
+pub looked_keeps : (v : View) (place found : ℕ) (w : View) → IsLayout v.sizes → v.numbered ≡ true → IsSound v → Looked v place found w → KeepsRetired v w
+looked_keeps v place found w z has s l = keeps_on v w None z (look_steps v place found w has s l) tt
+
 -- one more event that counts
 pub made_next : (test : Kind → Bool) (v w : View) (e : Event) → Steps v (Some e) w → e.caller ≡ v.number → test e.kind ≡ true → made test w.number w.front ≡ made test v.number v.front + 1
 made_next test v w e t by is =
@@ -99,6 +116,9 @@ announced v w epoch s n st =
     let e = announce_event v epoch in
     let t = store_steps v e w n.numbered s st in
     (stepped true v w (Some e) t (λ y. absurd (cc)) false n (pass_is true v w e t (pass_opened v.sizes t.grown e (kept_is v w e t) refl).0), same_uses v w (Some e) t refl refl refl)
+
+pub withdrawn_keeps : (v w : View) → IsLayout v.sizes → IsSound v → IsResting true v → Stored v (withdraw_event v) w → KeepsRetired v w
+withdrawn_keeps v w z s n st = let e = withdraw_event v in keeps_on v w (Some e) z (store_steps v e w n.numbered s st) (λ y. absurd (cc))
 
 pub withdrawn : (v w : View) → IsSound v → IsResting true v → Stored v (withdraw_event v) w → IsResting false w × (uses_of w ≡ uses_of v)
 withdrawn v w s n st =
@@ -124,6 +144,7 @@ pub record Checking (g : TableValue) (v : View) (epoch checked : ℕ) (t : Token
   pub of : IsOf g t
   pub resting : IsResting false t.view
   pub uses : uses_of t.view ≡ uses_of v
+  pub keeps : KeepsRetired v t.view
   pub loaded : List Event
   pub after : IsPrefix v.front loaded
   pub before : IsPrefix loaded t.view.front
@@ -134,7 +155,7 @@ pub checks_begin : (g : TableValue) (t u : TokenValue) (at epoch : ℕ) → IsOf
 checks_begin g t u at epoch of of' n l at_is =
     let same : u.view.sizes ≡ t.view.sizes = ap (λ (v : View). v.sizes) l.view in
     let word : word_at u.view.sizes u.view.front (epoch_at u.view.sizes) ≡ epoch = ap (λ (z : Sizes). word_at z u.view.front (epoch_at z)) same ∙ (ap (word_at t.view.sizes u.view.front) (sym at_is) ∙ sym l.word) in
-    record { of = of'; resting = looked false t.view at epoch u.view of.sound n l; uses = looked_uses t.view at epoch u.view n.numbered of.sound l; loaded = u.view.front; after = l.grows; before = prefix_refl u.view.front; word = word; each = λ i low. absurd (omega (arith, low)) }
+    record { of = of'; resting = looked false t.view at epoch u.view of.sound n l; uses = looked_uses t.view at epoch u.view n.numbered of.sound l; keeps = looked_keeps t.view at epoch u.view of.layout n.numbered of.sound l; loaded = u.view.front; after = l.grows; before = prefix_refl u.view.front; word = word; each = λ i low. absurd (omega (arith, low)) }
 
 pub checks_more : (g : TableValue) (v : View) (t u : TokenValue) (at word epoch n : ℕ) → Checking g v epoch n t → IsOf g u → Looked t.view at word u.view → at ≡ announce_at t.view.sizes n → (word ≡ 0) ⊎ (epoch + 1 ≤ word) → Checking g v epoch (n + 1) u
 checks_more g v t u at word epoch n c of l at_is clear =
@@ -144,6 +165,7 @@ checks_more g v t u at word epoch n c of l at_is clear =
       of = of;
       resting = looked false t.view at word u.view c.of.sound c.resting l;
       uses = looked_uses t.view at word u.view c.resting.numbered c.of.sound l ∙ c.uses;
+      keeps = keeps_chain v t.view u.view c.keeps (looked_keeps t.view at word u.view c.of.layout c.resting.numbered c.of.sound l);
       loaded = c.loaded;
       after = c.after;
       before = long;

@@ -1,3 +1,4 @@
+pub mod ClosedWords
 pub mod Filling
 pub mod Known
 pub mod Linking

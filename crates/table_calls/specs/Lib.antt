@@ -1,4 +1,5 @@
 pub mod Causes
+pub mod Closing
 pub mod Edges
 pub mod Loads
 pub mod Resting

@@ -12,6 +12,7 @@ ghost use Rattle.core_rule.specs.Plays.{Drew, Stored, newcomer};
 ghost use Rattle.core_rule.specs.Views.{GoesOn};
 ghost use Rattle.graph_table.specs.Tokens.{IsOf};
 ghost use Rattle.table_calls.specs.Causes.{IsEmptyFree, IsHeldBack, MatchTaken};
+ghost use Rattle.table_calls.specs.Closing.{KeepsRetired};
 ghost use Rattle.table_calls.specs.Resting.{IsHolding, IsResting, uses_of};
 
 use graph_table::{Field, Fresh, GraphTable, Popped, Token};
@@ -63,6 +64,7 @@ pub fn close_pass(table: &GraphTable, token: &mut Token)
     requires resting { IsResting true token.old.view }
     ensures table { IsOf table.now token.new }
     ensures resting { IsResting false token.new.view }
+    ensures keeps { KeepsRetired token.old.view token.new.view }
     ensures uses { uses_of token.new.view ≡ uses_of token.old.view }
 {
     table.withdraw(token);
@@ -77,6 +79,7 @@ pub fn check_callers(table: &GraphTable, token: &mut Token) -> Option<u64>
     ensures table { IsOf table.now token.new }
     ensures may { IfSome result (λ seen. MayMoveEpoch token.new.view seen) }
     ensures held { IsNone result → IsHeldBack token.old.view token.new.view }
+    ensures keeps { KeepsRetired token.old.view token.new.view }
     ensures resting { IsResting false token.new.view }
     ensures uses { uses_of token.new.view ≡ uses_of token.old.view }
 {

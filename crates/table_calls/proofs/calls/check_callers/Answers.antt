@@ -1,7 +1,7 @@
 use Rattle.std.proofs.Common.{false, rules, arith, ap, sym, subst, ◌∙◌, ◌≡◌, ◌<◌, ℕ}
 use Rattle.std.specs.Prelude.{IsTrue}
 use Rattle.packed_link.specs.Layout.{Sizes, announce_at}
-use Rattle.table_calls.proofs.Known.{checks_begin, checks_more, checks_end, held_back, looked, looked_uses}
+use Rattle.table_calls.proofs.Known.{checks_begin, checks_more, checks_end, held_back, keeps_chain, looked, looked_keeps, looked_uses}
 use Rattle.table_calls.proofs.calls.check_callers.Goals as goal
 
 pub loop-checked-init : goal.loop-checked-init
@@ -49,3 +49,11 @@ returns-clause-resting c = c.loop-checked.invariant.resting
 
 pub returns-clause-uses : goal.returns-clause-uses
 returns-clause-uses c = c.loop-checked.invariant.uses
+
+pub returns-then-not-is_clear-clause-keeps : goal.returns-then-not-is_clear-clause-keeps
+returns-then-not-is_clear-clause-keeps c =
+    let i = c.loop-checked.invariant in
+    keeps_chain c.args.token.now.view c.loop-checked.token.view c.load-word.new.token.view i.keeps (looked_keeps c.loop-checked.token.view c.announce_at.result c.load-word.result c.load-word.new.token.view i.of.layout i.resting.numbered i.of.sound c.load-word.ensures.looked)
+
+pub returns-clause-keeps : goal.returns-clause-keeps
+returns-clause-keeps c = c.loop-checked.invariant.keeps
