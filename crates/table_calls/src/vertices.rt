@@ -217,6 +217,23 @@ pub fn see_dead(table: &GraphTable, token: &mut Token, place: u32) -> Option<Dea
     })
 }
 
+/// The same at the word of a bucket.
+pub fn see_dead_first(table: &GraphTable, token: &mut Token, bucket: u32) -> Option<Dead>
+    requires table { IsOf table.now token.old }
+    requires resting { IsResting true token.old.view }
+    requires bucket { bucket < table.now.sizes.buckets }
+    ensures table { IsOf table.now token.new }
+    ensures resting { IsResting true token.new.view }
+    ensures may { IfSome result (λ dead.
+        MayUnlinkVertex token.new.view dead.place dead.seen.0 dead.next dead.life) }
+    ensures none { IsNone result → IsNoneDead token.old.view (bucket_at table.now.sizes bucket) token.new.view }
+    ensures uses { uses_of token.new.view ≡ uses_of token.old.view }
+{
+    let layout = table.layout();
+    let place = layout.bucket_at(bucket);
+    see_dead(table, token, place)
+}
+
 /// Unlinks a vertex that was seen dead. `Lost` comes where another word is there.
 pub fn unlink_in(table: &GraphTable, token: &mut Token, dead: Dead) -> UnlinkTried
     requires table { IsOf table.now token.old }
