@@ -79,12 +79,7 @@ fn vertices_are_linked(rt: &impl Abort, table: &GraphTable, one: &mut Token, two
 }
 
 /// Vertex 5 gets an edge, and is marked and unlinked.
-fn a_vertex_is_unlinked(
-    rt: &impl Abort,
-    table: &GraphTable,
-    one: &mut Token,
-    two: &mut Token,
-)
+fn a_vertex_is_unlinked(rt: &impl Abort, table: &GraphTable, one: &mut Token, two: &mut Token)
     requires first { IsOf table.now one.old }
     requires second { IsOf table.now two.old }
     requires bucket { table.now.sizes.buckets ≡ 1 }
@@ -308,7 +303,13 @@ fn every_kind_is_won_and_each_that_can_lose_is_lost(rt: HostRuntime) {
     let spent = cut(&rt, &table, &mut one);
     nodes_are_given_back(&rt, &table, &mut one, &mut two, spent, spent_too);
     // The epoch and the free list; the bucket leads to vertex 7, whose list is empty and whose counter was raised.
-    assert_eq!(rt; [table.load(&mut one, 2), table.load(&mut one, 3)], [2, 6 + (8 << 25)]);
+    assert_eq!(rt;
+        [table.load(&mut one, 2), table.load(&mut one, 3)],
+        [2, 6 + (8 << 25)]
+    );
     assert_eq!(rt; [table.load(&mut one, 6), table.load(&mut one, 11)], [1, 7]);
-    assert_eq!(rt; [table.load(&mut one, 13), table.load(&mut one, 14)], [NONE + FIRST, 6]);
+    assert_eq!(rt;
+        [table.load(&mut one, 13), table.load(&mut one, 14)],
+        [NONE + FIRST, 6]
+    );
 }

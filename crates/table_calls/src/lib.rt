@@ -7,9 +7,9 @@ mod calls;
 mod closing;
 mod cut_edges;
 mod edges;
-mod giving;
 #[cfg(test)]
 mod every_kind;
+mod giving;
 #[cfg(test)]
 mod tests;
 mod vertices;
@@ -24,6 +24,6 @@ pub use edges::{
 };
 pub use giving::{move_on, retire, store_ripe};
 pub use vertices::{
-    Dead, Gap, find_first, link_in, mark_first, prepare_behind, prepare_first, see_dead, see_dead_first, see_end,
-    unlink_in,
+    Dead, Gap, find_first, link_in, mark_first, prepare_behind, prepare_first, see_dead,
+    see_dead_first, see_end, unlink_in,
 };

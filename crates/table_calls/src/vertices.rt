@@ -85,12 +85,7 @@ pub fn see_end(table: &GraphTable, token: &mut Token, place: u32) -> Option<Link
 }
 
 /// Fills a node as the only vertex of its bucket. `None` comes where the bucket has a vertex.
-pub fn prepare_first(
-    table: &GraphTable,
-    token: &mut Token,
-    fresh: &Fresh,
-    key: u32,
-) -> Option<Gap>
+pub fn prepare_first(table: &GraphTable, token: &mut Token, fresh: &Fresh, key: u32) -> Option<Gap>
     requires table { IsOf table.now token.old }
     requires holding { IsHolding token.old.view fresh.now }
     ensures table { IsOf table.now token.new }
@@ -113,12 +108,7 @@ pub fn prepare_first(
 
 /// Fills a node as the vertex behind the first one of its bucket, where that has a smaller key and is the last one.
 /// `None` comes where it isn't so.
-pub fn prepare_behind(
-    table: &GraphTable,
-    token: &mut Token,
-    fresh: &Fresh,
-    key: u32,
-) -> Option<Gap>
+pub fn prepare_behind(table: &GraphTable, token: &mut Token, fresh: &Fresh, key: u32) -> Option<Gap>
     requires table { IsOf table.now token.old }
     requires holding { IsHolding token.old.view fresh.now }
     ensures table { IsOf table.now token.new }
