@@ -25,7 +25,8 @@ use Rattle.core_worked.proofs.TwoLivesShown.{small_layout}
 abbrev first : ℕ → List Event
 first n = take n target_anew
 
-next : (n : ℕ) → IsKept small (first n) → Allowed small (first n) (get_or target_anew n blank) → IsKept small (first n ++ get_or target_anew n blank ∷ [])
+next : (n : ℕ) → IsKept small (first n) → Allowed small (first n) (get_or target_anew n blank) → IsKept small
+    (first n ++ get_or target_anew n blank ∷ [])
 next n = kept_snoc small (first n) (get_or target_anew n blank)
 
 kept_26 : IsKept small (first 26)
@@ -37,7 +38,18 @@ kept_27 = next 26 kept_26 (announced (first 26) 0 (lit< tt) refl refl)
 
 kept_28 : IsKept small (first 28)
 unfolding machine word_at state
-kept_28 = next 27 kept_27 (record { by = λ _. lit< tt; as_kind = record { life = refl; there = lit< tt; place = refl; linked = record { linked = refl; vertex = refl }; unmarked = refl; word = refl; pass = refl } })
+kept_28 = next 27 kept_27 (record {
+  by = λ _. lit< tt;
+  as_kind = record {
+    life = refl;
+    there = lit< tt;
+    place = refl;
+    linked = record { linked = refl; vertex = refl };
+    unmarked = refl;
+    word = refl;
+    pass = refl;
+  };
+})
 
 kept_29 : IsKept small (first 29)
 unfolding machine word_at state
@@ -69,23 +81,39 @@ kept_31 = next 30 kept_30 (announced (first 30) 0 (lit< tt) refl refl)
 
 kept_32 : IsKept small (first 32)
 unfolding machine word_at state
-kept_32 = next 31 kept_31 (record { by = λ _. lit< tt; as_kind = record { life = refl; there = lit< tt; place = refl; seen = refl; word = refl; holds_none = none_fresh (first 31) refl; limit = lit< tt } })
+kept_32 = next 31 kept_31 (record {
+  by = λ _. lit< tt;
+  as_kind = record {
+    life = refl;
+    there = lit< tt;
+    place = refl;
+    seen = refl;
+    word = refl;
+    holds_none = none_fresh
+        (first 31) refl;
+    limit = lit< tt;
+  };
+})
 
 kept_33 : IsKept small (first 33)
 unfolding state
-kept_33 = next 32 kept_32 (filled (first 32) 3 0 2 (lit< tt) (lit< tt) (lit< tt) (lit< tt) (λ h. absurd (omega (arith, h))) refl (record { fresh = refl; mine = refl }))
+kept_33 = next 32 kept_32 (filled (first 32) 3 0 2 (lit< tt) (lit< tt) (lit< tt) (lit< tt)
+    (λ h. absurd (omega (arith, h))) refl (record { fresh = refl; mine = refl }))
 
 kept_34 : IsKept small (first 34)
 unfolding state
-kept_34 = next 33 kept_33 (filled (first 33) 3 1 (pack nowhere 0 1) (lit< tt) (lit< tt) (lit< tt) (lit< tt) (λ _. (refl, refl)) refl (record { fresh = refl; mine = refl }))
+kept_34 = next 33 kept_33 (filled (first 33) 3 1 (pack nowhere 0 1) (lit< tt) (lit< tt) (lit< tt) (lit< tt)
+    (λ _. (refl, refl)) refl (record { fresh = refl; mine = refl }))
 
 kept_35 : IsKept small (first 35)
 unfolding state
-kept_35 = next 34 kept_34 (filled (first 34) 3 2 (pack nowhere 0 1) (lit< tt) (lit< tt) (lit< tt) (lit< tt) (λ h. absurd (omega (arith, h))) refl (record { fresh = refl; mine = refl }))
+kept_35 = next 34 kept_34 (filled (first 34) 3 2 (pack nowhere 0 1) (lit< tt) (lit< tt) (lit< tt) (lit< tt)
+    (λ h. absurd (omega (arith, h))) refl (record { fresh = refl; mine = refl }))
 
 kept_36 : IsKept small (first 36)
 unfolding state
-kept_36 = next 35 kept_35 (filled (first 35) 3 3 0 (lit< tt) (lit< tt) (lit< tt) (lit< tt) (λ h. absurd (omega (arith, h))) refl (record { fresh = refl; mine = refl }))
+kept_36 = next 35 kept_35 (filled (first 35) 3 3 0 (lit< tt) (lit< tt) (lit< tt) (lit< tt)
+    (λ h. absurd (omega (arith, h))) refl (record { fresh = refl; mine = refl }))
 
 pub anew_kept : IsKept small target_anew
 unfolding machine word_at state
@@ -114,4 +142,6 @@ anew_kept = next 36 kept_36 (record {
 
 pub no_pair_anew : weight_of (graph_of target_anew) 1 2 ≡ None
 unfolding key_of link_of
-no_pair_anew = other_target_no_pair small small_layout target_anew anew_kept (first_life 0) (first_life 3) (first_life 2) (links_new 2 5) 1 2 refl refl refl refl refl refl (λ same. let h : 1 ≡ 3 = ap (λ (l : Life). l.index) same in omega (arith, h))
+no_pair_anew = other_target_no_pair small small_layout target_anew anew_kept (first_life 0) (first_life 3)
+    (first_life 2) (links_new 2 5) 1 2 refl refl refl refl refl refl
+    (λ same. let h : 1 ≡ 3 = ap (λ (l : Life). l.index) same in omega (arith, h))

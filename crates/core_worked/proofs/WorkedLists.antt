@@ -1,6 +1,7 @@
 -- The laws of chains and lists on the worked journals.
 use Rattle.std.specs.Prelude.{AllPairs}
-use Rattle.std.proofs.Common.{◌≡◌, ◌≢◌, ℕ, zero, suc, ◌<◌, ◌≤◌, ◌^◌, true, false, Some, [], ◌∷◌, length, drop, refl, sym, ap, ⊎_elim, inl, inr, arith, lit<, lit≤, All, true≢false}
+use Rattle.std.proofs.Common.{◌≡◌, ◌≢◌, ℕ, zero, suc, ◌<◌, ◌≤◌, ◌^◌, true, false, Some, [], ◌∷◌, length, drop, refl}
+use Rattle.std.proofs.Common.{sym, ap, ⊎_elim, inl, inr, arith, lit<, lit≤, All, true≢false}
 use Rattle.packed_link.specs.Link.{index_of, mark_of, pack}
 use Rattle.packed_link.specs.Layout.{key_at, link_at, second_at, third_at}
 use Rattle.packed_link.specs.declared.link.Life.{Life}
@@ -57,19 +58,22 @@ reach_2 = inl (0, list_35, refl)
 
 pub leads_2 : LeadsToItsKey small (first 35) 2
 unfolding machine word_at
-leads_2 = same_key_marked small small_layout (first 35) kept_35 2 (lit< tt) reach_2 (λ h. absurd (omega (arith, h))) refl
+leads_2 = same_key_marked small small_layout (first 35) kept_35 2 (lit< tt) reach_2
+    (λ h. absurd (omega (arith, h))) refl
 
 pub told_2 : IsReplacedBy (first 35) (first_life 2) (first_life 3)
 unfolding machine word_at state
 told_2 = told small small_layout (first 35) kept_35 (first_life 2) (lit< tt) refl reach_2 leads_2 refl
 
-pub word_2 : (index_of (word_at small (first 35) (link_at small 2)) ≡ 3) × (mark_of (word_at small (first 35) (link_at small 2)) ≡ 1)
+pub word_2 : (index_of (word_at small (first 35) (link_at small 2)) ≡ 3) ×
+    (mark_of (word_at small (first 35) (link_at small 2)) ≡ 1)
 unfolding state
 word_2 = old_word small small_layout (first 35) kept_35 (first_life 2) (first_life 3) refl refl told_2
 
 pub older_2 : IsOlder small (first 35) (first_life 2) (first_life 3)
 unfolding link_of
-older_2 = ⊎_elim (λ (same : first_life 3 ≡ first_life 2). let h : 3 ≡ 2 = ap (λ (l : Life). l.index) same in absurd (omega (arith, h))) (λ (o : IsOlder small (first 35) (first_life 2) (first_life 3)). o)
+older_2 = ⊎_elim (λ (same : first_life 3 ≡ first_life 2). let h : 3 ≡ 2 = ap (λ (l : Life). l.index) same in absurd
+    (omega (arith, h))) (λ (o : IsOlder small (first 35) (first_life 2) (first_life 3)). o)
     (one_unmarked small small_layout (first 35) kept_35 (first_life 0) (first_life 3) (first_life 2) new old refl refl)
   where
     new : IsEdgeOf (first 35) (first_life 0) (first_life 3)
@@ -80,11 +84,13 @@ older_2 = ⊎_elim (λ (same : first_life 3 ≡ first_life 2). let h : 3 ≡ 2 =
 
 pub lower_2 : IsLinkedLower small replacing_journal 33 (links_new 2 5)
 unfolding link_of
-lower_2 = marked_lower small small_layout replacing_journal replacing_kept 33 (event 33) (links_new 2 5) refl refl refl refl
+lower_2 = marked_lower small small_layout replacing_journal replacing_kept 33 (event 33)
+    (links_new 2 5) refl refl refl refl
 
 raised_2 : IsLinkedLower small (first 33) 33 (links_new 2 5) × ((node_in small (first 33) 0).stored ≡ false)
 unfolding link_of state
-raised_2 = raised_in_pass small small_layout (first 33) kept_33 0 (first_life 2) (links_new 2 5) refl refl (may_replace.raised)
+raised_2 = raised_in_pass small small_layout (first 33) kept_33 0 (first_life 2) (links_new 2 5) refl refl
+    (may_replace.raised)
 
 pub lower_raised : IsLinkedLower small (first 33) 33 (links_new 2 5)
 lower_raised = raised_2.0
@@ -94,7 +100,8 @@ source_unstored = raised_2.1
 
 pub counter_higher : word_at small (first 26) (third_at small 0) ≤ word_at small (first 35) (third_at small 0)
 unfolding state
-counter_higher = counter_rises small small_layout 0 (first 26) (first 35) (record { rest = drop 26 (first 35); whole = refl }) kept_35 (λ h. absurd (cc)) refl
+counter_higher = counter_rises small small_layout 0 (first 26) (first 35)
+    (record { rest = drop 26 (first 35); whole = refl }) kept_35 (λ h. absurd (cc)) refl
 
 pub edges_of_nodes : made links_edge 0 replacing_journal ≤ made pops 0 replacing_journal
 edges_of_nodes = edges_paid small replacing_journal replacing_kept 0
@@ -115,7 +122,8 @@ pub two_links : length {A = Life} (first_life 2 ∷ first_life 3 ∷ []) ≤ all
 two_links = edges_are_links replacing_journal (first_life 2 ∷ first_life 3 ∷ []) two_apart two_linked
 
 pub two_few : length {A = Life} (first_life 2 ∷ first_life 3 ∷ []) ≤ 2 ^ 36
-two_few = edges_few small small_layout replacing_journal replacing_kept (first_life 2 ∷ first_life 3 ∷ []) two_apart two_linked
+two_few = edges_few small small_layout replacing_journal replacing_kept
+    (first_life 2 ∷ first_life 3 ∷ []) two_apart two_linked
 
 -- a closed list
 
@@ -137,11 +145,13 @@ part_frozen = part_stays small small_layout 0 3 (before 44) (before 47) (longer 
 
 pub listed_before : is_listed (state small (before 38)) 0 3 ≡ true
 unfolding state
-listed_before = (old_lists small small_layout 3 (before 38) (before 44) (longer 38 44 refl) (kept 44) (λ h. absurd (cc)) refl 0 refl).0
+listed_before = (old_lists small small_layout 3 (before 38) (before 44) (longer 38 44 refl) (kept 44)
+    (λ h. absurd (cc)) refl 0 refl).0
 
 pub all_ended : (x : ℕ) → x < 8 → is_listed (state small (before 47)) x 3 ≡ true → IsFrozenToEnd small (before 47) x
 unfolding state
-all_ended = old_finished small small_layout 3 (before 44) (before 47) (longer 44 47 refl) (kept 47) (λ h. absurd (cc)) refl (on_one (before 44) 3 end_44 refl)
+all_ended = old_finished small small_layout 3 (before 44) (before 47) (longer 44 47 refl) (kept 47)
+    (λ h. absurd (cc)) refl (on_one (before 44) 3 end_44 refl)
 
 pub part_of_spender : ((node_in small (before 44) 3).mode ≡ Spent) × ((node_in small (before 44) 3).who ≡ 0)
 unfolding state
@@ -204,7 +214,8 @@ unstored_44 = unstored_met small small_layout (before 44) (kept 44) 0 3 (lit< tt
 
 pub link_44 : word_at small (before 44) (link_at small 0) ≡ pack 1 1 1
 unfolding machine word_at state
-link_44 = marked_link_stays small small_layout 0 (before 41) (before 44) (longer 41 44 refl) (kept 44) (λ h. absurd (cc)) refl refl refl
+link_44 = marked_link_stays small small_layout 0 (before 41) (before 44) (longer 41 44 refl) (kept 44)
+    (λ h. absurd (cc)) refl refl refl
 
 -- how a spent node becomes ripe
 
@@ -213,7 +224,8 @@ unfolding machine word_at state
 stamp_45 = stamped small (before 45) 0 2 0 (record { spent = refl; mine = refl }) (lit≤ tt)
 
 pub stamp_47 : IsStamped small (before 47) 0 2 0
-stamp_47 = stamp_beyond small small_layout 0 45 2 0 (before 45) (before 47) (longer 45 47 refl) (kept 47) (quiet_from 0 45 (before 47) refl) (lit≤ tt) stamp_45
+stamp_47 = stamp_beyond small small_layout 0 45 2 0 (before 45) (before 47) (longer 45 47 refl) (kept 47)
+    (quiet_from 0 45 (before 47) refl) (lit≤ tt) stamp_45
 
 pub ripe_47 : IsRipe small (before 47) 0 2
 unfolding machine word_at
@@ -221,10 +233,13 @@ ripe_47 = ripens small (before 47) (before 47) (longer 47 47 refl) 0 2 0 stamp_4
 
 moved_kept : IsKept small (before 47 ++ moves_epoch 3 ∷ [])
 unfolding machine word_at state
-moved_kept = kept_snoc small (before 47) (moves_epoch 3) (kept 47) (moved (before 47) 2 (lit< tt) refl (inl refl) refl refl (lit< tt))
+moved_kept = kept_snoc small (before 47) (moves_epoch 3) (kept 47)
+    (moved (before 47) 2 (lit< tt) refl (inl refl) refl refl (lit< tt))
 
 pub ripe_moved : IsRipe small (before 47 ++ moves_epoch 3 ∷ []) 0 2
-ripe_moved = ripe_beyond small small_layout 0 45 2 (before 47) (before 47 ++ moves_epoch 3 ∷ []) (record { rest = moves_epoch 3 ∷ []; whole = refl }) moved_kept (quiet_from 0 45 (before 47 ++ moves_epoch 3 ∷ []) refl) (lit≤ tt) ripe_47
+ripe_moved = ripe_beyond small small_layout 0 45 2 (before 47) (before 47 ++ moves_epoch 3 ∷ [])
+    (record { rest = moves_epoch 3 ∷ []; whole = refl }) moved_kept
+    (quiet_from 0 45 (before 47 ++ moves_epoch 3 ∷ []) refl) (lit≤ tt) ripe_47
 
 pub stamp_48 : IsStamped small (before 48) 0 2 0
 stamp_48 = stamp_behind small small_layout (before 47) (lives.event 47) (kept 48) 0 2 0 (λ h. absurd (cc)) stamp_47

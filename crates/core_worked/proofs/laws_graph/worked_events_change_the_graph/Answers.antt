@@ -1,4 +1,7 @@
-use Rattle.core_worked.proofs.WorkedGraph.{replacing_is_regular, hidden_is_regular, none_replaced_then, none_frozen_then, vertex_linked_then, vertex_marked_then, edge_linked_then, none_linked_then, edge_marked_then, none_marked_then, edge_replaced_then, unlinked_then, mark_is_regular, removal_is_regular, freezing_is_regular}
+use Rattle.core_worked.proofs.WorkedGraph.{replacing_is_regular, hidden_is_regular, none_replaced_then}
+use Rattle.core_worked.proofs.WorkedGraph.{none_frozen_then, vertex_linked_then, vertex_marked_then, edge_linked_then}
+use Rattle.core_worked.proofs.WorkedGraph.{none_linked_then, edge_marked_then, none_marked_then, edge_replaced_then}
+use Rattle.core_worked.proofs.WorkedGraph.{unlinked_then, mark_is_regular, removal_is_regular, freezing_is_regular}
 use Rattle.core_worked.proofs.laws_graph.worked_events_change_the_graph.Goals as goal
 
 pub returns-clause-link_vertex : goal.returns-clause-link_vertex

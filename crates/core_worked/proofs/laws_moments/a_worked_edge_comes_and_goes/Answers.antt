@@ -1,5 +1,6 @@
 use Rattle.core_worked.proofs.TargetAnew.{anew_kept, no_pair_anew}
-use Rattle.core_worked.proofs.MomentsShown.{worked_is_graph, pair_of_edge, no_pair_left, cut_found, edge_gone, edge_replaced, one_cut}
+use Rattle.core_worked.proofs.MomentsShown.{worked_is_graph, pair_of_edge, no_pair_left, cut_found, edge_gone}
+use Rattle.core_worked.proofs.MomentsShown.{edge_replaced, one_cut}
 use Rattle.core_worked.proofs.laws_moments.a_worked_edge_comes_and_goes.Goals as goal
 
 pub returns-clause-graph : goal.returns-clause-graph

@@ -1,4 +1,5 @@
-use Rattle.core_worked.proofs.WorkedTokens.{change_allowed, word_closed, new_ruled, draw_allowed, store_allowed, last_ruled, last_whole, last_word, all_quiet}
+use Rattle.core_worked.proofs.WorkedTokens.{change_allowed, word_closed, new_ruled, draw_allowed, store_allowed}
+use Rattle.core_worked.proofs.WorkedTokens.{last_ruled, last_whole, last_word, all_quiet}
 use Rattle.core_worked.proofs.laws_tokens.worked_tables_keep_the_rule.Goals as goal
 
 pub returns-clause-new : goal.returns-clause-new
