@@ -1,5 +1,5 @@
--- Words of a list that a token loaded in its pass, and nodes whose key and link it loaded there. A walk goes from one to
--- the next, on the list of a bucket as on that of a source.
+-- Words of a list that a token loaded in its pass, and nodes whose key and link it loaded there. A walk goes from one
+-- to the next, on the list of a bucket as on that of a source.
 use Rattle.std.specs.Prelude.{◌≡◌, ◌≢◌, ◌<◌, ℕ, List}
 use Rattle.packed_link.specs.Layout.{link_at}
 use Rattle.packed_link.specs.Link.{index_of, mark_of, nowhere}

@@ -10,7 +10,7 @@ use Rattle.core_journal.specs.Prefix.{IsPrefix}
 use Rattle.core_rule.specs.declared.view.View.{View}
 
 -- a moment between two fronts at which something holds
-pub record Moment (old new : List Event) (P : List Event → Type 0) (at : List Event) : Type 0 where
+pub record HoldsBetween (old new : List Event) (P : List Event → Type 0) (at : List Event) : Type 0 where
   pub since : IsPrefix old at
   pub until : IsPrefix at new
   pub holds : P at

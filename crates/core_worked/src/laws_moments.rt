@@ -21,8 +21,8 @@ ghost use Rattle.core_worked.specs.TwoLives.{links_new, marks_first, two_lives};
 
 /// In the journal with two lives an edge of weight 5 is added and removed: its pair is in the graph with that weight,
 /// and gone right after its mark. The mark is the one that its caller made in between. In the journal in which that
-/// edge is replaced, the pair has the new weight right after its mark. In the one in which its target is removed and added
-/// anew, the pair isn't there, though the edge is unmarked (`a_pair_is_the_one_edge_between_two_lives#other`).
+/// edge is replaced, the pair has the new weight right after its mark. In the one in which its target is removed and
+/// added anew, the pair isn't there, though the edge is unmarked (`a_pair_is_the_one_edge_between_two_lives#other`).
 pub fn a_worked_edge_comes_and_goes()
     ensures graph { IsGraph (graph_of two_lives) }
     ensures there { weight_of (graph_of (take 26 two_lives)) 1 2 ≡ Some 5 }

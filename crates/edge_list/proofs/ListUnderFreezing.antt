@@ -30,7 +30,7 @@ use Rattle.core_stretches.specs.Holdings.{IsUnlinkedVertex}
 use Rattle.core_stretches.specs.Makes.{Makes, marking}
 use Rattle.core_stretches.proofs.MakesAddUp.{makes_look, makes_won}
 use Rattle.graph_table.specs.Table.{Marked}
-use Rattle.edge_list.specs.Freezing.{FrozenValue, IsFreezing, IsClosed, IsHandedTo}
+use Rattle.edge_list.specs.Freezing.{FrozenValue, IsFreezing, IsHeadClosed, IsHandedTo}
 use Rattle.edge_list.proofs.FrozenWords.{makes_word, vertex_on}
 
 -- a mark is 0 or 1
@@ -60,7 +60,7 @@ makes_marking v w place found event has s by m = ⊎_elim
 pub head_closed : (v w : View) (x : Life) (f : FrozenValue) (place found : ℕ) → IsLayout v.sizes → IsLayout w.sizes
     → v.numbered ≡ true → IsSound v → IsUnlinkedVertex v x → place ≡ second_at v.sizes x.index
     → f ≡ record { from = x; place = place } → Marked v place found (freeze_head_event v x found) w
-    → IsClosed x v w f
+    → IsHeadClosed x v w f
 head_closed v w x f place found z z' has s u at is marked =
     let sizes_at : (own : Event) → Steps v (Some own) w → w.sizes ≡ v.sizes = λ own t. (step_view v w (Some own) t).0 in
     let made = makes_marking v w place found (freeze_head_event v x) has s refl marked in

@@ -29,7 +29,7 @@ pub record KeepsFrozen (x : Life) (v w : View) : Type 0 where
       × (word_at w.sizes w.front place ≡ word_at v.sizes v.front place)
 
 -- the list is closed at its head, by an event where the second word that was found had no mark
-pub record IsClosed (x : Life) (v w : View) (f : FrozenValue) : Type 0 where
+pub record IsHeadClosed (x : Life) (v w : View) (f : FrozenValue) : Type 0 where
   pub from : f.from ≡ x
   pub place : f.place ≡ second_at w.sizes x.index
   pub found : ℕ

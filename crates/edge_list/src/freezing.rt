@@ -2,7 +2,7 @@
 
 ghost use Rattle.std.specs.Prelude.{◌≡◌, true};
 ghost use Rattle.core_stretches.specs.Holdings.{IsUnlinkedVertex};
-ghost use Rattle.edge_list.specs.Freezing.{IsClosed, IsFreezing, MatchFrozen};
+ghost use Rattle.edge_list.specs.Freezing.{IsHeadClosed, IsFreezing, MatchFrozen};
 ghost use Rattle.graph_table.specs.Tokens.{IsOf};
 
 use graph_table::{GraphTable, Spent, Token};
@@ -32,7 +32,7 @@ pub fn freeze_head(table: &GraphTable, token: &mut Token, from: &Spent) -> Froze
     requires number { token.old.view.numbered ≡ true }
     requires vertex { IsUnlinkedVertex token.old.view from.now }
     ensures table { IsOf table.now token.new }
-    ensures closed { IsClosed from.now token.old.view token.new.view result }
+    ensures closed { IsHeadClosed from.now token.old.view token.new.view result }
 {
     let life = from.life();
     let layout = table.layout();
@@ -41,8 +41,8 @@ pub fn freeze_head(table: &GraphTable, token: &mut Token, from: &Spent) -> Froze
     Frozen { from: life, place }
 }
 
-/// Freezes the next edge of the list and hands it over, in O(1): two loads and one step. `None` comes exactly at the end
-/// of the list, which is frozen to its end then.
+/// Freezes the next edge of the list and hands it over, in O(1): two loads and one step. `None` comes exactly at the
+/// end of the list, which is frozen to its end then.
 pub fn freeze_next(table: &GraphTable, token: &mut Token, frozen: &mut Frozen) -> Option<Spent>
     requires table { IsOf table.now token.old }
     requires number { token.old.view.numbered ≡ true }

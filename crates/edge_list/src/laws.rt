@@ -28,9 +28,9 @@ pub fn frozen_words_stay_over_stretches()
         → Makes v own w → KeepsFrozen x v w }
 {}
 
-/// Along a path of frozen words each edge is handed over once: where the last word of the path leads to an edge, that is
-/// none of those before it (`new`); an edge stands on one list (`one`); and where the last word leads to none, all edges
-/// of the frozen part were handed over (`all`). So a limbo takes each of them once, and lacks none at the end.
+/// Along a path of frozen words each edge is handed over once: where the last word of the path leads to an edge, that
+/// is none of those before it (`new`); an edge stands on one list (`one`); and where the last word leads to none, all
+/// edges of the frozen part were handed over (`all`). So a limbo takes each of them once, and lacks none at the end.
 pub fn edges_are_handed_over_once()
     ensures new { (sizes : Sizes) → IsLayout sizes → (journal : List Event) → IsKept sizes journal → (x : ℕ)
         → KeepsList sizes journal x → (ys : List ℕ) (place y : ℕ) → FrozenPath sizes journal x Head ys place

@@ -7,7 +7,7 @@ use Rattle.core_kept.specs.Passes.{IsChecked}
 use Rattle.core_rule.specs.OwnEvents.{move_event}
 use Rattle.core_rule.specs.declared.view.View.{View}
 use Rattle.core_stretches.specs.Makes.{Makes}
-use Rattle.core_stretches.specs.Moments.{Moment, EndsBy}
+use Rattle.core_stretches.specs.Moments.{HoldsBetween, EndsBy}
 use Rattle.epoch_limbo.specs.Passes.{EpochIs}
 use Rattle.epoch_limbo.specs.declared.advancing.Advanced.{Advanced}
 use Rattle.epoch_limbo.specs.declared.advancing.Advanced.TheVariants.{Moved, Held, Lost}
@@ -16,7 +16,7 @@ use Rattle.epoch_limbo.specs.declared.advancing.Advanced.TheVariants.{Moved, Hel
 pub record IsMoved (v w : View) : Type 0 where
   pub epoch : ℕ
   pub loaded : List Event
-  pub found : Moment v.front w.front (EpochIs v epoch) loaded
+  pub found : HoldsBetween v.front w.front (EpochIs v epoch) loaded
   pub checked : (i : ℕ) → i < v.sizes.callers → IsChecked v.sizes loaded w.front epoch i
   pub makes : Makes v (move_event v epoch ∷ []) w
   pub last : EndsBy (move_event v epoch) w
@@ -26,7 +26,7 @@ pub record IsMoved (v w : View) : Type 0 where
 pub record IsHeldBy (v w : View) (caller : ℕ) : Type 0 where
   pub epoch : ℕ
   pub loaded : List Event
-  pub found : Moment v.front w.front (EpochIs v epoch) loaded
+  pub found : HoldsBetween v.front w.front (EpochIs v epoch) loaded
   pub makes : Makes v [] w
   pub there : caller < v.sizes.callers
   pub before : (i : ℕ) → i < caller → IsChecked v.sizes loaded w.front epoch i
@@ -37,7 +37,7 @@ pub record IsHeldBy (v w : View) (caller : ℕ) : Type 0 where
 pub record IsAdvanceLost (v w : View) : Type 0 where
   pub epoch : ℕ
   pub loaded : List Event
-  pub found : Moment v.front w.front (EpochIs v epoch) loaded
+  pub found : HoldsBetween v.front w.front (EpochIs v epoch) loaded
   pub makes : Makes v [] w
   pub moved : word_at v.sizes w.front (epoch_at v.sizes) ≢ epoch
 

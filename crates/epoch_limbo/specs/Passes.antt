@@ -7,7 +7,7 @@ use Rattle.core_rule.specs.OwnEvents.{announce_event}
 use Rattle.core_rule.specs.Stretches.{HasPass}
 use Rattle.core_rule.specs.declared.view.View.{View}
 use Rattle.core_stretches.specs.Makes.{Makes}
-use Rattle.core_stretches.specs.Moments.{Moment, EndsBy}
+use Rattle.core_stretches.specs.Moments.{HoldsBetween, EndsBy}
 
 -- the epoch is this one
 abbrev pub EpochIs : View → ℕ → List Event → Type 0
@@ -17,7 +17,7 @@ EpochIs v epoch journal = word_at v.sizes journal (epoch_at v.sizes) ≡ epoch
 pub record IsOpened (v w : View) : Type 0 where
   pub epoch : ℕ
   pub loaded : List Event
-  pub found : Moment v.front w.front (EpochIs v epoch) loaded
+  pub found : HoldsBetween v.front w.front (EpochIs v epoch) loaded
   pub makes : Makes v (announce_event v epoch ∷ []) w
   pub last : EndsBy (announce_event v epoch) w
   pub opened : HasPass w

@@ -37,7 +37,7 @@ use Rattle.core_stretches.specs.Makes.{GivesNone, GivesOther, Makes, marking}
 use Rattle.core_stretches.proofs.HoldingsStay.{makes_got, makes_keeps, makes_retired}
 use Rattle.core_stretches.proofs.MakesAddUp.{makes_chain}
 use Rattle.core_stretches.proofs.MakesTell.{makes_later}
-use Rattle.edge_list.specs.Freezing.{FrozenValue, IsFreezing, IsClosed, IsHandedTo, IsFrozenWhole, KeepsFrozen}
+use Rattle.edge_list.specs.Freezing.{FrozenValue, IsFreezing, IsHeadClosed, IsHandedTo, IsFrozenWhole, KeepsFrozen}
 use Rattle.edge_list.proofs.FrozenWords.{makes_frozen, makes_unlinked}
 use Rattle.edge_list.proofs.HandedEdges.{all_handed, next_is_new, one_list}
 use Rattle.epoch_limbo.specs.Limbos.{LimboValue, IsLimboOf, IsOut, IsRetiredInto, index_in}
@@ -140,7 +140,7 @@ no_push e g = g.1
 
 -- the list is closed at its head
 pub buries_first : (v m : View) (x : Life) (old : LimboValue) (f : FrozenValue) → IsLayout v.sizes → IsToBury old v x
-    → IsClosed x v m f → Buries v x old old m f
+    → IsHeadClosed x v m f → Buries v x old old m f
 buries_first v m x old f z h c =
     let own = marking (freeze_head_event v x) c.found in
     let gives : Every GivesNone own = of_mark GivesNone (freeze_head_event v x) c.found

@@ -18,8 +18,8 @@ use Rattle.epoch_limbo.specs.Limbos.{LimboValue, IsLimboOf, IsOut, index_in}
 abbrev pub IsIn : List RipeValue → ℕ → Type 0
 IsIn nodes y = is_among (map index_in nodes) y ≡ true
 
--- the token unlinked the vertex, whose list is open at its head; the limbo is of the token, has every other node that the
--- token spent, and room for all nodes
+-- the token unlinked the vertex, whose list is open at its head; the limbo is of the token, has every other node that
+-- the token spent, and room for all nodes
 pub record IsToBury (limbo : LimboValue) (v : View) (x : Life) : Type 0 where
   pub vertex : IsUnlinkedVertex v x
   pub unclosed : (state v.sizes v.front).frozen x.index ≡ false
@@ -34,8 +34,8 @@ FreezesOf v x edges e =
     ((e.kind ≡ FreezeHead) × (e.place ≡ second_at v.sizes x.index))
     ⊎ ((e.kind ≡ FreezeEdge) × ((y : ℕ) × (is_among edges y ≡ true) × (e.place ≡ link_at v.sizes y)))
 
--- the vertex's list is frozen to its end; its edges and then the vertex were put behind the others in the limbo, which is
--- of the token and has every node that the token spent; and the token made no other events than those of freezing
+-- the vertex's list is frozen to its end; its edges and then the vertex were put behind the others in the limbo, which
+-- is of the token and has every node that the token spent; and the token made no other events than those of freezing
 pub record IsBuried (old new : LimboValue) (v w : View) (x : Life) : Type 0 where
   pub edges : List RipeValue
   pub stamp : ℕ

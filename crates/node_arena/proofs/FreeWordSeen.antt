@@ -13,7 +13,7 @@ use Rattle.core_lists.proofs.ChangedByAnother.{free_changed}
 use Rattle.core_rule.specs.Plays.{IsSound, Looked}
 use Rattle.core_rule.specs.declared.view.View.{View}
 use Rattle.core_stretches.specs.Makes.{IsLater, Makes}
-use Rattle.core_stretches.specs.Moments.{Moment}
+use Rattle.core_stretches.specs.Moments.{HoldsBetween}
 use Rattle.core_stretches.proofs.MakesAddUp.{makes_look}
 use Rattle.core_stretches.proofs.MakesTell.{makes_later, makes_own}
 use Rattle.graph_table.specs.Table.{Missed}
@@ -54,7 +54,7 @@ leads_to_node v m seen z h some = ⊎_elim
     (leads_somewhere v m seen z h)
 
 -- the moment of the load
-pub seen_then : (v m w : View) (seen : ℕ) → HasSeen v m seen → IsPrefix m.front w.front → Moment v.front w.front
+pub seen_then : (v m w : View) (seen : ℕ) → HasSeen v m seen → IsPrefix m.front w.front → HoldsBetween v.front w.front
     (FreeWordIs v seen) m.front
 seen_then v m w seen h grows = record { since = h.later.grows; until = grows; holds = h.word }
 

@@ -11,7 +11,7 @@ use Rattle.core_rule.specs.OwnEvents.{push_event, store_free_event}
 use Rattle.core_rule.specs.declared.view.View.{View}
 use Rattle.core_stretches.specs.Holdings.{IsGivable}
 use Rattle.core_stretches.specs.Makes.{Makes}
-use Rattle.core_stretches.specs.Moments.{Moment, EndsBy}
+use Rattle.core_stretches.specs.Moments.{HoldsBetween, EndsBy}
 use Rattle.graph_table.specs.Tokens.{RipeValue}
 use Rattle.node_arena.specs.Taking.{FreeWordIs}
 use Rattle.node_arena.specs.declared.giving.Given.{Given}
@@ -22,7 +22,7 @@ use Rattle.node_arena.specs.declared.giving.Given.TheVariants.{Done, Lost}
 pub record IsGiven (v w : View) (x : Life) : Type 0 where
   pub seen : ℕ
   pub loaded : List Event
-  pub found : Moment v.front w.front (FreeWordIs v seen) loaded
+  pub found : HoldsBetween v.front w.front (FreeWordIs v seen) loaded
   pub makes : Makes v (store_free_event v (index_of seen) x ∷ push_event v seen x ∷ []) w
   pub last : EndsBy (push_event v seen x) w
   pub free : (node_in w.sizes w.front x.index).mode ≡ Free
@@ -32,7 +32,7 @@ pub record IsGiven (v w : View) (x : Life) : Type 0 where
 pub record IsGiveLost (v w : View) (x : Life) : Type 0 where
   pub seen : ℕ
   pub loaded : List Event
-  pub found : Moment v.front w.front (FreeWordIs v seen) loaded
+  pub found : HoldsBetween v.front w.front (FreeWordIs v seen) loaded
   pub makes : Makes v (store_free_event v (index_of seen) x ∷ []) w
   pub changed : IsChangedByAnother loaded w.front w.number (free_at w.sizes)
   pub givable : IsGivable w x

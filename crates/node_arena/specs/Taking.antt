@@ -10,7 +10,7 @@ use Rattle.core_rule.specs.OwnEvents.{pop_event}
 use Rattle.core_rule.specs.declared.view.View.{View}
 use Rattle.core_stretches.specs.Holdings.{IsHeldFresh}
 use Rattle.core_stretches.specs.Makes.{Makes}
-use Rattle.core_stretches.specs.Moments.{Moment, EndsBy}
+use Rattle.core_stretches.specs.Moments.{HoldsBetween, EndsBy}
 use Rattle.node_arena.specs.declared.taking.Taken.{Taken}
 use Rattle.node_arena.specs.declared.taking.Taken.TheVariants.{Node, Empty, Lost}
 
@@ -23,7 +23,7 @@ pub record IsTaken (v w : View) (x : Life) : Type 0 where
   pub seen : ℕ
   pub next : ℕ
   pub loaded : List Event
-  pub found : Moment v.front w.front (FreeWordIs v seen) loaded
+  pub found : HoldsBetween v.front w.front (FreeWordIs v seen) loaded
   pub some : index_of seen < v.sizes.nodes
   pub life : x ≡ (pop_event v seen next).life
   pub makes : Makes v (pop_event v seen next ∷ []) w
@@ -40,7 +40,7 @@ pub record IsTakeLost (v w : View) : Type 0 where
   pub makes : Makes v [] w
   pub seen : ℕ
   pub loaded : List Event
-  pub found : Moment v.front w.front (FreeWordIs v seen) loaded
+  pub found : HoldsBetween v.front w.front (FreeWordIs v seen) loaded
   pub some : index_of seen < v.sizes.nodes
   pub changed : IsChangedByAnother loaded w.front w.number (free_at w.sizes)
 

@@ -26,7 +26,7 @@ use Rattle.core_stretches.proofs.MakesAddUp.{makes_look}
 use Rattle.core_stretches.proofs.MakesTell.{makes_goes, makes_later, makes_own}
 use Rattle.core_stretches.proofs.VertexWords.{vertex_words, vertex_life_still, link_leads}
 use Rattle.core_stretches.proofs.WordsLeadOn.{WordLaws, IsCountedWord, goes_sizes, word_goes, word_here}
-use Rattle.vertex_list.specs.Positions.{PositionValue, IsBehindVertex, IsGap, IsPosition, LeadsToDead, StandsAt}
+use Rattle.vertex_list.specs.Positions.{PositionValue, IsBehindVertex, IsGap, IsPosition, LeadsToDead, IsPlaceFor}
 
 -- a vertex that was met
 abbrev pub IsVertexAt : View → ℕ → Type 0
@@ -34,7 +34,7 @@ IsVertexAt v x = MetVertex v (life_in v.sizes v.front x)
 
 -- where the word of a position stands
 abbrev pub IsPlaceOf : Bool → ℕ → View → ℕ → Type 0
-IsPlaceOf passed key v place = StandsAt passed v key place
+IsPlaceOf passed key v place = IsPlaceFor passed v key place
 
 abbrev pub as_word : (passed : Bool) (v : View) (p : PositionValue) → IsPosition passed v p → IsLoadedWord (IsPlaceOf passed p.key) p.place p.word p.moment v
 as_word passed v p h = record { then = h.then; at = h.at; goes = h.goes; own = h.own; pass = h.pass; stands = h.stands; word = h.word; unmarked = h.unmarked }

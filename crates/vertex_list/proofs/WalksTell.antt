@@ -18,7 +18,7 @@ use Rattle.core_rule.specs.declared.view.View.{View}
 use Rattle.core_rule.proofs.ViewShows.{life_shown, present_shown}
 use Rattle.core_stretches.specs.LoadedWords.{IsLoadedNode}
 use Rattle.core_stretches.specs.Makes.{Makes}
-use Rattle.core_stretches.specs.Moments.{Has, Lacks, Moment}
+use Rattle.core_stretches.specs.Moments.{Has, Lacks, HoldsBetween}
 use Rattle.core_stretches.proofs.MakesAddUp.{makes_look}
 use Rattle.core_stretches.proofs.MakesTell.{makes_goes}
 use Rattle.core_stretches.proofs.VertexWords.{IsOfBucket, IsBefore, vertex_walks, vertex_words, link_leads}
@@ -128,8 +128,8 @@ found_here v w from p found link s here z kept since seen_is live is index_is ta
     let life : s.life ≡ life_in w.sizes w.front x = seen_life w x found link s.life.index s.life.tag z kept seen_is.node index_is tag_is in
     record {
       met = subst (λ (y : Life). MetVertex w y) (sym life) seen_is.node.met;
-      there = subst (λ (y : Life). Moment from.moment w.front (Has from.key y) s.moment.value.view.front) (sym life)
-          (subst (λ (f : List Event). Moment from.moment w.front (Has from.key (life_in w.sizes w.front x)) f) (sym same)
+      there = subst (λ (y : Life). HoldsBetween from.moment w.front (Has from.key y) s.moment.value.view.front) (sym life)
+          (subst (λ (f : List Event). HoldsBetween from.moment w.front (Has from.key (life_in w.sizes w.front x)) f) (sym same)
           (record { since = prefix_trans from.moment p.moment w.front since (until false w p seen_is.position); until = prefix_refl w.front; holds = record { there = subst (λ (k : ℕ). present_key w.front (life_in w.sizes w.front x) ≡ Some k) is (seen_present w x found link z kept seen_is.node live) } }));
     }
 

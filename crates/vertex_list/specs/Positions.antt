@@ -26,9 +26,9 @@ pub record IsBehindVertex (v : View) (key place : ℕ) : Type 0 where
 
 -- where the word stands: before the vertices from the key on, at which a walk for the key may stop; or right behind the
 -- vertex of the key, which a step through the list has passed
-abbrev pub StandsAt : (passed : Bool) → View → (key place : ℕ) → Type 0
-StandsAt false v key place = IsBeforeVertex v key place
-StandsAt true v key place = IsBehindVertex v key place
+abbrev pub IsPlaceFor : (passed : Bool) → View → (key place : ℕ) → Type 0
+IsPlaceFor false v key place = IsBeforeVertex v key place
+IsPlaceFor true v key place = IsBehindVertex v key place
 
 -- in its open pass the token loaded this word at this place, unmarked, and made no event at the place since then
 pub record IsPosition (passed : Bool) (v : View) (p : PositionValue) : Type 0 where
@@ -37,7 +37,7 @@ pub record IsPosition (passed : Bool) (v : View) (p : PositionValue) : Type 0 wh
   pub goes : GoesOn then v
   pub own : Own (Elsewhere p.place) then v
   pub pass : HasPass then
-  pub stands : StandsAt passed then p.key p.place
+  pub stands : IsPlaceFor passed then p.key p.place
   pub word : word_at then.sizes then.front p.place ≡ p.word
   pub unmarked : mark_of p.word ≡ 0
 

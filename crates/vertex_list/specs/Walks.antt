@@ -6,7 +6,7 @@ use Rattle.packed_link.specs.declared.link.Life.{Life}
 use Rattle.core_journal.specs.Prefix.{IsPrefix}
 use Rattle.core_rule.specs.Fronts.{MetVertex, key_in}
 use Rattle.core_rule.specs.declared.view.View.{View}
-use Rattle.core_stretches.specs.Moments.{Moment, Has, Lacks}
+use Rattle.core_stretches.specs.Moments.{HoldsBetween, Has, Lacks}
 use Rattle.vertex_list.specs.Positions.{PositionValue, IsPosition, IsGap, LeadsToDead}
 use Rattle.vertex_list.specs.declared.walks.Found.{Found}
 use Rattle.vertex_list.specs.declared.walks.Found.TheVariants.{Here, Gone, Dead}
@@ -18,13 +18,13 @@ use Rattle.vertex_list.specs.declared.walks.Stepped.TheVariants.{Dead as StepDea
 -- the vertex of the position's key was found: at a moment since the position's load it was present
 pub record IsHere (p : PositionValue) (w : View) (s : Sighting) : Type 0 where
   pub met : MetVertex w s.life
-  pub there : Moment p.moment w.front (Has p.key s.life) s.moment.value.view.front
+  pub there : HoldsBetween p.moment w.front (Has p.key s.life) s.moment.value.view.front
 
 -- the key is missing: at the moment of the new position's load no vertex was present with it
 pub record IsGone (p : PositionValue) (w : View) (q : PositionValue) : Type 0 where
   pub key : q.key ≡ p.key
   pub gap : IsGap w q
-  pub there : Moment p.moment w.front (Lacks p.key) q.moment
+  pub there : HoldsBetween p.moment w.front (Lacks p.key) q.moment
 
 -- the new position, loaded no earlier, leads to a marked vertex
 pub record IsDeadEnd (p : PositionValue) (w : View) (q : PositionValue) : Type 0 where
@@ -38,15 +38,15 @@ MatchFound (Here s) p w = IsHere p w s
 MatchFound (Gone q) p w = IsGone p w q
 MatchFound (Dead q) p w = IsDeadEnd p w q
 
--- a step came to the vertex to which the position's word leads: when its link was loaded it was present, with the key of
--- the new position, which stands behind it. Behind a position that was passed, that key is greater
+-- a step came to the vertex to which the position's word leads: when its link was loaded it was present, with the key
+-- of the new position, which stands behind it. Behind a position that was passed, that key is greater
 pub record IsAt (p : PositionValue) (v w : View) (x : Life) (q : PositionValue) : Type 0 where
   pub leads : index_of p.word ≡ x.index
   pub met : MetVertex w x
   pub key : q.key ≡ key_in w x.index
   pub place : q.place ≡ link_at w.sizes x.index
   pub position : IsPosition true w q
-  pub there : Moment p.moment w.front (Has q.key x) q.moment
+  pub there : HoldsBetween p.moment w.front (Has q.key x) q.moment
   pub rises : IsPosition true v p → p.key < q.key
 
 -- the position leads to a marked vertex, and is a position still
