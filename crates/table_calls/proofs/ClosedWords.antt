@@ -1,5 +1,5 @@
 -- How the list of an unlinked vertex is closed, and how a node is given back.
-use Rattle.std.proofs.Common.{◌≡◌, ◌≢◌, ◌⊎◌, ℕ, ◌+◌, ◌^◌, ◌<◌, ◌≤◌, Bool, true, false, List, [], ◌∷◌, ◌++◌, Option, None, Some, inl, inr, refl, sym, ap, ◌∙◌, subst, arith, ⊎_elim}
+use Rattle.std.proofs.Common.{◌≡◌, ◌≢◌, ℕ, ◌+◌, ◌<◌, ◌≤◌, Bool, true, false, List, [], ◌∷◌, ◌++◌, Option, None, Some, inl, inr, refl, sym, ap, ◌∙◌, subst, arith, ⊎_elim}
 use Rattle.packed_link.specs.Link.{index_of, mark_bit, mark_of, nowhere, pack, tag_of}
 use Rattle.packed_link.specs.Layout.{Sizes, IsLayout, epoch_at, free_at, link_at, second_at}
 use Rattle.packed_link.specs.declared.link.Life.{Life}
@@ -9,7 +9,7 @@ use Rattle.core_journal.specs.declared.event.Event.{Event}
 use Rattle.core_journal.specs.declared.event.Kind.TheVariants.{PushFree, StoreFree}
 use Rattle.core_journal.specs.Machine.{word_at}
 use Rattle.core_journal.specs.State.{state}
-use Rattle.core_journal.proofs.Lists.{prefix_refl, prefix_trans}
+use Rattle.core_journal.proofs.Lists.{prefix_refl}
 use Rattle.core_kept.specs.Freezing.{IsFrozenWord}
 use Rattle.core_kept.specs.Kept.{IsKept}
 use Rattle.core_kept.specs.Nodes.{node_in, is_listed, IsRipe, IsSpentWith}
@@ -23,10 +23,10 @@ use Rattle.core_lists.proofs.EventKeepsRest.{link_stored, written}
 use Rattle.core_lists.proofs.FrozenToEndIsList.{edge_on, kept_leads}
 use Rattle.core_lists.proofs.ListHoldsKept.{listing}
 use Rattle.core_lists.proofs.RipeningNodes.{ripens, stamped}
-use Rattle.core_rule.specs.Fronts.{IsLifeAt, MayFreezeEdge, MayPushFree, MayStoreFree}
+use Rattle.core_rule.specs.Fronts.{MayFreezeEdge, MayPushFree, MayStoreFree}
 use Rattle.core_rule.specs.OwnEvents.{freeze_head_event, move_event, store_free_event}
 use Rattle.core_rule.specs.Plays.{IsSound, Looked, Stored}
-use Rattle.core_rule.specs.Retired.{IsRetired, IsShown}
+use Rattle.core_rule.specs.Retired.{IsRetired}
 use Rattle.core_rule.specs.Views.{Spares, Steps}
 use Rattle.core_rule.specs.declared.view.View.{View}
 use Rattle.core_rule.proofs.FrozenWordStays.{head_frozen_word}
@@ -38,11 +38,10 @@ use Rattle.graph_table.specs.declared.answers.Tried.{Tried}
 use Rattle.graph_table.specs.declared.answers.Tried.TheVariants.{Won as TriedWon, Lost as TriedLost}
 use Rattle.table_calls.specs.Closing.{IsClosed, KeepsRetired}
 use Rattle.table_calls.specs.Edges.{IsDone}
-use Rattle.table_calls.specs.Loads.{HasLoaded}
 use Rattle.table_calls.specs.Resting.{IsResting, uses_of}
 use Rattle.table_calls.specs.Vertices.{IsUnlinked, word_in}
 use Rattle.table_calls.proofs.Known.{keeps_on, looked_keeps, looked_uses, looked, made_next, rests_on}
-use Rattle.table_calls.proofs.Loaded.{bit, loaded_sizes, loaded_steps, word_is}
+use Rattle.table_calls.proofs.Loaded.{bit, word_is}
 
 -- an own event that gives no node back
 abbrev Calm : Event → Type 0

@@ -35,7 +35,7 @@ use Rattle.core_rule.proofs.RetiredStays.{retired_still}
 use Rattle.packed_link.specs.declared.link.Life.{Life}
 use Rattle.table_calls.specs.Causes.{IsHeldBack}
 use Rattle.table_calls.specs.Closing.{KeepsRetired}
-use Rattle.table_calls.specs.Resting.{IsResting, IsHolding, IsHeldFresh, uses_of}
+use Rattle.table_calls.specs.Resting.{IsResting, IsHolding, uses_of}
 
 -- a token that drew its number
 pub drawn : (v w : View) (found : ℕ) → v.drawn < v.sizes.callers → Drew v found w → IsResting false w × (uses_of w ≡ 0)

@@ -1,7 +1,7 @@
 -- How vertices are linked, marked and unlinked by what was met before.
-use Rattle.std.proofs.Common.{◌≡◌, ◌≢◌, ◌⊎◌, ℕ, ◌%◌, ◌<◌, ◌≤◌, Bool, true, false, List, [], ◌∷◌, ◌++◌, Option, None, Some, inl, inr, refl, sym, ap, ◌∙◌, subst, arith, ⊎_elim}
+use Rattle.std.proofs.Common.{◌≡◌, ◌≢◌, ℕ, ◌<◌, true, false, List, [], ◌∷◌, ◌++◌, None, Some, sym, ap, ◌∙◌, subst, ⊎_elim}
 use Rattle.packed_link.specs.Link.{index_of, mark_of, tag_of, nowhere}
-use Rattle.packed_link.specs.Layout.{Sizes, IsLayout, key_at, link_at}
+use Rattle.packed_link.specs.Layout.{Sizes, IsLayout, link_at}
 use Rattle.packed_link.specs.declared.link.Life.{Life}
 use Rattle.core_journal.specs.Event.{pops, moves, raises}
 use Rattle.core_journal.specs.declared.event.Event.{Event}
@@ -15,10 +15,10 @@ use Rattle.core_lists.specs.Chains.{KeepsList, life_in}
 use Rattle.core_lists.proofs.FrozenToEndIsList.{has_keeps}
 use Rattle.core_lists.specs.Walks.{LeadsTo}
 use Rattle.core_lists.proofs.EventKeepsRest.{event_life, vertex_joined, vertex_spent}
-use Rattle.core_rule.specs.Fronts.{MayLinkVertex, MayUnlinkVertex, MetVertex, IsBeforeVertex, IsVertexBelow, LeadsToVertex, key_in}
+use Rattle.core_rule.specs.Fronts.{MayLinkVertex, MayUnlinkVertex, MetVertex, IsBeforeVertex, LeadsToVertex}
 use Rattle.core_rule.specs.Plays.{IsSound, Looked}
 use Rattle.core_rule.specs.Stretches.{HasPass}
-use Rattle.core_rule.specs.Views.{Spares, Steps}
+use Rattle.core_rule.specs.Views.{Steps}
 use Rattle.core_rule.specs.declared.view.View.{View}
 use Rattle.core_rule.proofs.ViewShows.{win_steps, step_view, leads_to_vertex_still}
 use Rattle.graph_table.specs.Filled.{MayLinkFilledVertex}

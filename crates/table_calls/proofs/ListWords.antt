@@ -1,11 +1,11 @@
 -- How edges are found, linked, marked and replaced by what was met before.
-use Rattle.std.proofs.Common.{◌≡◌, ◌≢◌, ◌⊎◌, ℕ, ◌+◌, ◌^◌, ◌<◌, ◌≤◌, Bool, true, false, List, [], ◌∷◌, ◌++◌, Option, None, Some, inl, inr, refl, sym, ap, ◌∙◌, subst, arith, ⊎_elim, true≢false}
+use Rattle.std.proofs.Common.{◌≡◌, ◌≢◌, ℕ, ◌+◌, ◌^◌, ◌<◌, ◌≤◌, true, false, List, [], ◌∷◌, ◌++◌, Option, Some, inl, refl, sym, ap, ◌∙◌, subst, arith, true≢false}
 use Rattle.packed_link.specs.Link.{index_of, mark_of, tag_of, nowhere}
 use Rattle.packed_link.specs.Layout.{Sizes, IsLayout, link_at, second_at, third_at}
 use Rattle.packed_link.specs.declared.link.Life.{Life}
 use Rattle.core_journal.specs.Event.{pops, moves, raises}
 use Rattle.core_journal.specs.declared.event.Event.{Event}
-use Rattle.core_journal.specs.declared.event.Kind.TheVariants.{Announce, LinkEdge, ReplaceEdge, UnlinkEdge, Withdraw}
+use Rattle.core_journal.specs.declared.event.Kind.TheVariants.{LinkEdge, ReplaceEdge, UnlinkEdge}
 use Rattle.core_journal.specs.Machine.{word_at}
 use Rattle.core_kept.specs.Edges.{IsFilledEdge, IsRaisedFor}
 use Rattle.core_kept.specs.Kept.{IsKept}

@@ -1,21 +1,19 @@
 -- What a token knows behind loads alone, and behind the steps of other kinds.
-use Rattle.std.proofs.Common.{◌≡◌, ◌≢◌, ◌⊎◌, ℕ, ◌%◌, ◌<◌, ◌≤◌, Bool, true, false, List, Option, None, Some, inl, inr, refl, sym, ap, ◌∙◌, subst, arith, ⊎_elim}
+use Rattle.std.proofs.Common.{◌≡◌, ◌≢◌, ◌⊎◌, ℕ, ◌%◌, ◌<◌, ◌≤◌, Bool, true, false, Option, None, Some, inl, inr, refl, sym, ap, ◌∙◌, subst, arith, ⊎_elim}
 use Rattle.std.proofs.lemmas.Bool.{cases_lt}
 use Rattle.packed_link.specs.Link.{index_of, mark_of, tag_of, nowhere}
-use Rattle.packed_link.specs.Layout.{Sizes, IsLayout, bucket_at, key_at, link_at, word_count}
+use Rattle.packed_link.specs.Layout.{Sizes, IsLayout, bucket_at, link_at, word_count}
 use Rattle.packed_link.specs.declared.link.Life.{Life}
-use Rattle.core_journal.specs.Event.{pops, moves, raises}
 use Rattle.core_journal.specs.declared.event.Event.{Event}
 use Rattle.core_journal.specs.declared.event.Kind.TheVariants.{Announce, Withdraw}
 use Rattle.core_journal.specs.Machine.{word_at}
-use Rattle.core_journal.specs.Reuse.{pass_in}
-use Rattle.core_journal.specs.State.{Node, Pass}
-use Rattle.core_journal.proofs.Lists.{prefix_refl, prefix_trans}
+use Rattle.core_journal.specs.State.{Node}
+use Rattle.core_journal.proofs.Lists.{prefix_trans}
 use Rattle.core_kept.specs.Nodes.{node_in}
 use Rattle.core_lists.specs.Chains.{life_in}
 use Rattle.core_lists.specs.Walks.{LeadsTo}
 use Rattle.core_rule.specs.Fronts.{MetVertex, LeadsToVertex, IsVertexLink, key_in}
-use Rattle.core_rule.specs.Plays.{IsSound, Looked, Won, seen}
+use Rattle.core_rule.specs.Plays.{IsSound, Looked, seen}
 use Rattle.core_rule.specs.Stretches.{HasPass, is_of_fresh}
 use Rattle.core_rule.specs.Views.{GoesOn, IsVertexIn, IsVertexBehind, Spares, Steps}
 use Rattle.core_rule.specs.declared.view.View.{View}

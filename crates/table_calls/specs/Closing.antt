@@ -1,5 +1,5 @@
 -- What the calls tell that close the list of an unlinked vertex, and those that give a node back.
-use Rattle.std.specs.Prelude.{◌≡◌, ℕ, ◌+◌, ◌<◌, None}
+use Rattle.std.specs.Prelude.{ℕ, ◌+◌, ◌<◌, None}
 use Rattle.packed_link.specs.Layout.{epoch_at, link_at, second_at}
 use Rattle.packed_link.specs.declared.link.Life.{Life}
 use Rattle.core_kept.specs.Freezing.{IsFrozenWord}

@@ -4,7 +4,6 @@ use Rattle.packed_link.specs.Link.{index_of, mark_of, nowhere}
 use Rattle.packed_link.specs.Layout.{bucket_at, link_at}
 use Rattle.packed_link.specs.declared.link.Life.{Life}
 use Rattle.core_journal.specs.Machine.{word_at}
-use Rattle.core_journal.specs.Prefix.{IsPrefix}
 use Rattle.core_kept.specs.Freezing.{IsSpentVertex}
 use Rattle.core_lists.specs.Chains.{KeepsList}
 use Rattle.core_rule.specs.Fronts.{IsLifeAt, MetVertex, key_in}

@@ -1,4 +1,4 @@
-use Rattle.std.proofs.Common.{false, rules, arith, ap, sym, subst, ◌∙◌, ◌≡◌, ◌<◌, ℕ}
+use Rattle.std.proofs.Common.{false, rules, arith, ap, sym, ◌∙◌, ◌≡◌}
 use Rattle.std.specs.Prelude.{IsTrue}
 use Rattle.packed_link.specs.Layout.{Sizes, announce_at}
 use Rattle.table_calls.proofs.Known.{checks_begin, checks_more, checks_end, held_back, keeps_chain, looked, looked_keeps, looked_uses}

@@ -1,5 +1,5 @@
-use Rattle.std.proofs.Common.{◌≡◌, ◌+◌, ℕ, ◌∙◌, ap, sym, arith}
-use Rattle.packed_link.specs.Layout.{Sizes, key_at}
+use Rattle.std.proofs.Common.{◌≡◌, ◌+◌, ◌∙◌, ap, sym, arith}
+use Rattle.packed_link.specs.Layout.{key_at}
 use Rattle.core_journal.specs.Machine.{word_at}
 use Rattle.table_calls.proofs.Filling.{filling, filling_uses, wrote}
 use Rattle.table_calls.proofs.calls.store_key.Goals as goal

@@ -1,8 +1,7 @@
-use Rattle.std.proofs.Common.{◌≡◌, ◌≢◌, ℕ, ◌<◌, true, None, Some, refl, ap, sym, subst, ◌∙◌, ⊎_elim}
+use Rattle.std.proofs.Common.{◌≡◌, ◌<◌, true, None, Some, refl, ap, sym, subst, ◌∙◌, ⊎_elim}
 use Rattle.packed_link.specs.Link.{index_of}
 use Rattle.packed_link.specs.Layout.{Sizes, link_at, second_at}
 use Rattle.packed_link.specs.declared.link.Life.{Life}
-use Rattle.core_journal.specs.declared.event.Event.{Event}
 use Rattle.core_rule.specs.Fronts.{MayFreezeEdge}
 use Rattle.core_rule.specs.OwnEvents.{freeze_edge_event}
 use Rattle.core_rule.specs.Views.{Steps}

@@ -1,13 +1,12 @@
-use Rattle.std.proofs.Common.{◌≡◌, ◌≢◌, ℕ, ◌<◌, true, inl, inr, refl, ap, sym, subst, ◌∙◌, arith, ⊎_elim}
+use Rattle.std.proofs.Common.{◌≡◌, ℕ, ◌<◌, true, inl, inr, refl, ap, sym, subst, ◌∙◌, ⊎_elim}
 use Rattle.packed_link.specs.Link.{index_of, mark_of}
 use Rattle.packed_link.specs.Layout.{Sizes, link_at, second_at}
 use Rattle.packed_link.specs.declared.link.Life.{Life}
 use Rattle.core_journal.proofs.Lists.{prefix_refl}
 use Rattle.core_rule.specs.Fronts.{MayUnlinkEdge}
 use Rattle.core_rule.specs.Views.{IsEdgeIn}
-use Rattle.core_rule.proofs.ViewShows.{vertex_still}
 use Rattle.table_calls.specs.Loads.{HasLoaded}
-use Rattle.table_calls.specs.Vertices.{IsNoneDead, word_in}
+use Rattle.table_calls.specs.Vertices.{word_in}
 use Rattle.table_calls.proofs.ListWords.{edge_loaded, list_loaded}
 use Rattle.table_calls.proofs.Loaded.{bit, found_still, leads_there, loaded, loaded_chain, loaded_goes, loaded_numbered, loaded_resting, loaded_uses, word_is}
 use Rattle.table_calls.proofs.cut_edges.see_cut.Goals as goal

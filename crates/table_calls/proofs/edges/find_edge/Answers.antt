@@ -1,4 +1,4 @@
-use Rattle.std.proofs.Common.{◌≡◌, ℕ, ◌<◌, ap, sym, subst, ◌∙◌}
+use Rattle.std.proofs.Common.{◌≡◌, ◌<◌, ap, sym, subst, ◌∙◌}
 use Rattle.packed_link.specs.Layout.{Sizes, link_at, second_at}
 use Rattle.core_rule.specs.Views.{IsEdgeIn}
 use Rattle.table_calls.proofs.ListWords.{edge_loaded, list_loaded}

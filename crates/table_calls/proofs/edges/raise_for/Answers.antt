@@ -1,4 +1,4 @@
-use Rattle.std.proofs.Common.{◌≡◌, ℕ, ◌≢◌, true, Some, inl, inr, refl, ap, sym, subst, ◌∙◌, arith, ⊎_elim}
+use Rattle.std.proofs.Common.{◌≡◌, true, Some, inl, inr, refl, ap, sym, subst, ◌∙◌, arith, ⊎_elim}
 use Rattle.packed_link.specs.Link.{mark_of}
 use Rattle.packed_link.specs.Layout.{Sizes, third_at}
 use Rattle.packed_link.specs.declared.link.Life.{Life}

@@ -1,5 +1,5 @@
-use Rattle.std.proofs.Common.{◌≡◌, ◌∙◌, ℕ, true, None, ap, sym, subst}
-use Rattle.packed_link.specs.Layout.{Sizes, epoch_at}
+use Rattle.std.proofs.Common.{◌≡◌, true, None, sym, subst}
+use Rattle.packed_link.specs.Layout.{epoch_at}
 use Rattle.core_rule.specs.Retired.{IsRetired}
 use Rattle.graph_table.specs.Tokens.{RipeValue}
 use Rattle.table_calls.proofs.ClosedWords.{retired_now}

@@ -1,6 +1,6 @@
-use Rattle.std.proofs.Common.{◌≡◌, ◌≢◌, ◌+◌, ◌≤◌, ◌∙◌, ℕ, false, Some, refl, ap, sym, subst, arith}
+use Rattle.std.proofs.Common.{◌≡◌, ◌+◌, ◌≤◌, ◌∙◌, ℕ, false, Some, refl, ap, sym, subst, arith}
 use Rattle.packed_link.specs.Link.{index_of}
-use Rattle.packed_link.specs.Layout.{Sizes, epoch_at, free_at}
+use Rattle.packed_link.specs.Layout.{epoch_at, free_at}
 use Rattle.core_rule.specs.Fronts.{MayStoreFree}
 use Rattle.core_rule.specs.OwnEvents.{store_free_event}
 use Rattle.core_rule.specs.Plays.{Stored}
@@ -8,7 +8,7 @@ use Rattle.core_rule.proofs.ViewShows.{store_steps}
 use Rattle.table_calls.specs.Vertices.{word_in}
 use Rattle.table_calls.proofs.ClosedWords.{may_push, may_store, ripe_now}
 use Rattle.table_calls.proofs.Known.{rests_on, same_uses}
-use Rattle.table_calls.proofs.Loaded.{loaded, loaded_chain, loaded_resting, loaded_uses, word_is}
+use Rattle.table_calls.proofs.Loaded.{loaded, loaded_resting, loaded_uses, word_is}
 use Rattle.table_calls.proofs.giving.store_ripe.Goals as goal
 
 pub returns-then-epoch-lt2-clause-resting : goal.returns-then-epoch-lt2-clause-resting

@@ -1,4 +1,4 @@
-use Rattle.std.proofs.Common.{◌≡◌, ℕ, ◌<◌, ap, sym, subst, ◌∙◌}
+use Rattle.std.proofs.Common.{◌≡◌, ◌<◌, ap, sym, subst, ◌∙◌}
 use Rattle.packed_link.specs.Layout.{Sizes, bucket_at, link_at}
 use Rattle.core_rule.specs.Views.{IsVertexIn}
 use Rattle.table_calls.proofs.Loaded.{first_found, head_loaded, leads_there, loaded, loaded_numbered}

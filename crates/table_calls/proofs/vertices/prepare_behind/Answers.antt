@@ -1,6 +1,5 @@
-use Rattle.std.proofs.Common.{◌≡◌, ℕ, ◌%◌, ◌<◌, ◌≤◌, inl, inr, refl, ap, ap₂, sym, subst, ◌∙◌, arith}
+use Rattle.std.proofs.Common.{◌≡◌, ℕ, ◌%◌, ◌≤◌, inl, inr, refl, ap, ap₂, sym, subst, ◌∙◌, arith}
 use Rattle.packed_link.specs.Layout.{Sizes, key_at, link_at}
-use Rattle.packed_link.specs.declared.link.Life.{Life}
 use Rattle.core_journal.specs.Machine.{word_at}
 use Rattle.core_rule.specs.Fronts.{IsVertexBelow, key_in}
 use Rattle.core_rule.proofs.ViewShows.{below_still, goes_further}

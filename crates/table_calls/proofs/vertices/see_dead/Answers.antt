@@ -1,4 +1,4 @@
-use Rattle.std.proofs.Common.{◌≡◌, ℕ, ◌<◌, true, ap, sym, subst, ◌∙◌, arith, ⊎_elim}
+use Rattle.std.proofs.Common.{◌≡◌, ◌<◌, true, ap, sym, subst, ◌∙◌, ⊎_elim}
 use Rattle.packed_link.specs.Link.{mark_of}
 use Rattle.packed_link.specs.Layout.{Sizes, link_at}
 use Rattle.table_calls.proofs.Linking.{led_met, may_unlink}

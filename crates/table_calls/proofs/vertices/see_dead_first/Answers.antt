@@ -1,4 +1,4 @@
-use Rattle.std.proofs.Common.{◌≡◌, ◌<◌, ◌∙◌, ℕ, true, inl, refl, ap, sym, subst}
+use Rattle.std.proofs.Common.{◌<◌, ◌∙◌, ℕ, true, inl, ap, sym, subst}
 use Rattle.packed_link.specs.Layout.{Sizes, bucket_at}
 use Rattle.table_calls.specs.Vertices.{IsNoneDead}
 use Rattle.table_calls.proofs.Loaded.{loaded_resting, loaded_uses}
