@@ -26,7 +26,7 @@ abbrev pub IsEmptyFree : View → Type 0
 IsEmptyFree w = w.sizes.nodes ≤ index_of (word_at w.sizes w.front (free_at w.sizes))
 
 -- taking a node came to its event, or the free list's word was another one
-abbrev pub MatchTaken : Option Life → (v : View) (seen next : ℕ) (w : View) → Type 0
-MatchTaken (Some x) v seen next w =
+abbrev pub MatchTake : Option Life → (v : View) (seen next : ℕ) (w : View) → Type 0
+MatchTake (Some x) v seen next w =
     (x ≡ (pop_event v seen next).life) × Won v (free_at v.sizes) seen (pop_event v seen next) w
-MatchTaken None v seen next w = (found : ℕ) × Missed v (free_at v.sizes) seen found w
+MatchTake None v seen next w = (found : ℕ) × Missed v (free_at v.sizes) seen found w

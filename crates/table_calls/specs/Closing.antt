@@ -9,15 +9,16 @@ use Rattle.core_rule.specs.Retired.{IsRetired}
 use Rattle.core_rule.specs.declared.view.View.{View}
 use Rattle.graph_table.specs.Table.{Marked}
 use Rattle.table_calls.specs.Loads.{HasLoaded}
-use Rattle.table_calls.specs.Vertices.{IsUnlinked, word_in}
+use Rattle.table_calls.specs.Vertices.{word_in}
+use Rattle.core_stretches.specs.Holdings.{IsUnlinkedVertex}
 
 -- the token unlinked the vertex, and its list is closed at its head
-pub record IsClosed (v : View) (x : Life) : Type 0 where
-  pub unlinked : IsUnlinked v x
+pub record IsClosedList (v : View) (x : Life) : Type 0 where
+  pub unlinked : IsUnlinkedVertex v x
   pub head : IsFrozenWord v.sizes v.front x.index (second_at v.sizes x.index)
 
 -- the first edge of a closed list was found, and marked where it wasn't yet
-pub record FreezesEdge (v : View) (from : Life) (found : ℕ) (x : Life) (w : View) : Type 0 where
+pub record FreezesFirst (v : View) (from : Life) (found : ℕ) (x : Life) (w : View) : Type 0 where
   pub then : View
   pub loaded : HasLoaded v then
   pub may : MayFreezeEdge then from (second_at then.sizes from.index) x

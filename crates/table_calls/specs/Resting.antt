@@ -8,6 +8,7 @@ use Rattle.core_kept.specs.Nodes.{IsFreshWith}
 use Rattle.core_rule.specs.Fronts.{IsLifeAt}
 use Rattle.core_rule.specs.Stretches.{HasNoFresh, HasPass}
 use Rattle.core_rule.specs.declared.view.View.{View}
+use Rattle.core_stretches.specs.Holdings.{IsHeldFresh}
 
 -- the token has a number, its pass is open or not, and it holds no fresh node
 pub record IsResting (opened : Bool) (v : View) : Type 0 where
@@ -15,11 +16,6 @@ pub record IsResting (opened : Bool) (v : View) : Type 0 where
   pub there : v.number < v.sizes.callers
   pub pass : (pass_in v.sizes v.front v.number).is_open ≡ opened
   pub bare : HasNoFresh v
-
--- the node is fresh with the token, in this life
-pub record IsHeldFresh (v : View) (x : Life) : Type 0 where
-  pub life : IsLifeAt v x
-  pub fresh : IsFreshWith v.sizes v.front v.number x.index
 
 -- the token has a number and an open pass, and holds this fresh node
 pub record IsHolding (v : View) (x : Life) : Type 0 where

@@ -9,6 +9,7 @@ use Rattle.core_lists.specs.Chains.{KeepsList}
 use Rattle.core_rule.specs.Fronts.{IsLifeAt, MetVertex, key_in}
 use Rattle.core_rule.specs.OwnEvents.{mark_vertex_event}
 use Rattle.core_rule.specs.declared.view.View.{View}
+use Rattle.core_stretches.specs.Holdings.{IsUnlinkedVertex}
 use Rattle.graph_table.specs.Table.{Marked}
 use Rattle.graph_table.specs.declared.answers.LinkTried.{LinkTried}
 use Rattle.graph_table.specs.declared.answers.LinkTried.TheVariants.{Won as LinkWon, Lost as LinkLost}
@@ -48,15 +49,9 @@ abbrev pub MatchHeld : LinkTried → View → Type 0
 MatchHeld (LinkWon x) w = IsResting true w
 MatchHeld (LinkLost x found) w = IsHolding w x
 
--- the token unlinked the vertex, whose list is one still
-pub record IsUnlinked (v : View) (x : Life) : Type 0 where
-  pub life : IsLifeAt v x
-  pub spent : IsSpentVertex v.sizes v.front v.number x.index
-  pub list : KeepsList v.sizes v.front x.index
-
 -- unlinking a vertex came to a vertex that is spent with the token
 abbrev pub MatchSpent : UnlinkTried → View → Type 0
-MatchSpent (UnlinkWon x) w = IsUnlinked w x
+MatchSpent (UnlinkWon x) w = IsUnlinkedVertex w x
 MatchSpent (UnlinkLost found) w = Unit {0}
 
 -- a vertex of the bucket was found, and marked where it wasn't yet

@@ -11,7 +11,7 @@ ghost use Rattle.core_rule.specs.OwnEvents.{store_event};
 ghost use Rattle.core_rule.specs.Plays.{Drew, Stored, newcomer};
 ghost use Rattle.core_rule.specs.Views.{GoesOn};
 ghost use Rattle.graph_table.specs.Tokens.{IsOf};
-ghost use Rattle.table_calls.specs.Causes.{IsEmptyFree, IsHeldBack, MatchTaken};
+ghost use Rattle.table_calls.specs.Causes.{IsEmptyFree, IsHeldBack, MatchTake};
 ghost use Rattle.table_calls.specs.Closing.{KeepsRetired};
 ghost use Rattle.table_calls.specs.Resting.{IsHolding, IsResting, uses_of};
 
@@ -131,7 +131,7 @@ pub fn take(table: &GraphTable, token: &mut Token, seen: Link, next: Link) -> Op
     requires resting { IsResting true token.old.view }
     requires may { MayPopFree token.old.view seen.0 next.0 }
     ensures table { IsOf table.now token.new }
-    ensures taken { MatchTaken result token.old.view seen.0 next.0 token.new.view }
+    ensures taken { MatchTake result token.old.view seen.0 next.0 token.new.view }
     ensures holding { IfSome result (λ fresh. IsHolding token.new.view fresh) }
     ensures resting { IsNone result → IsResting true token.new.view }
     ensures uses { uses_of token.new.view ≤ uses_of token.old.view + 1 }

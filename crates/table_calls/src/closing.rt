@@ -5,10 +5,10 @@ ghost use Rattle.packed_link.specs.Layout.{second_at};
 ghost use Rattle.core_rule.specs.OwnEvents.{freeze_head_event};
 ghost use Rattle.graph_table.specs.Tokens.{IsOf};
 ghost use Rattle.graph_table.specs.Table.{Marked};
-ghost use Rattle.table_calls.specs.Closing.{FreezesEdge, IsClosed};
+ghost use Rattle.table_calls.specs.Closing.{FreezesFirst, IsClosedList};
 ghost use Rattle.table_calls.specs.Edges.{IsEmptyList};
 ghost use Rattle.table_calls.specs.Resting.{IsResting, uses_of};
-ghost use Rattle.table_calls.specs.Vertices.{IsUnlinked};
+ghost use Rattle.core_stretches.specs.Holdings.{IsUnlinkedVertex};
 
 use graph_table::{GraphTable, Spent, Token};
 use packed_link::{Life, Link};
@@ -17,13 +17,13 @@ use packed_link::{Life, Link};
 pub fn close_list(table: &GraphTable, token: &mut Token, from: &Spent) -> u64
     requires table { IsOf table.now token.old }
     requires resting { IsResting true token.old.view }
-    requires unlinked { IsUnlinked token.old.view from.now }
+    requires unlinked { IsUnlinkedVertex token.old.view from.now }
     ensures table { IsOf table.now token.new }
     ensures resting { IsResting true token.new.view }
     ensures marked { Marked token.old.view (second_at table.now.sizes from.now.index) result
         (freeze_head_event token.old.view from.now result) token.new.view }
-    ensures unlinked { IsUnlinked token.new.view from.now }
-    ensures closed { IsClosed token.new.view from.now }
+    ensures unlinked { IsUnlinkedVertex token.new.view from.now }
+    ensures closed { IsClosedList token.new.view from.now }
     ensures uses { uses_of token.new.view ≡ uses_of token.old.view }
 {
     table.freeze_head(token, from)
@@ -34,11 +34,11 @@ pub fn close_list(table: &GraphTable, token: &mut Token, from: &Spent) -> u64
 pub fn freeze_first(table: &GraphTable, token: &mut Token, from: Life) -> Option<(u64, Spent)>
     requires table { IsOf table.now token.old }
     requires resting { IsResting true token.old.view }
-    requires closed { IsClosed token.old.view from }
+    requires closed { IsClosedList token.old.view from }
     ensures table { IsOf table.now token.new }
     ensures resting { IsResting true token.new.view }
-    ensures closed { IsClosed token.new.view from }
-    ensures freezes { IfSome result (λ both. FreezesEdge token.old.view from both.0 both.1 token.new.view) }
+    ensures closed { IsClosedList token.new.view from }
+    ensures freezes { IfSome result (λ both. FreezesFirst token.old.view from both.0 both.1 token.new.view) }
     ensures none { IsNone result → IsEmptyList token.new.view from }
     ensures uses { uses_of token.new.view ≡ uses_of token.old.view }
 {

@@ -8,7 +8,8 @@ use Rattle.core_rule.specs.Views.{IsEdgeIn}
 use Rattle.table_calls.specs.Loads.{HasLoaded}
 use Rattle.table_calls.specs.Vertices.{word_in}
 use Rattle.table_calls.proofs.ListWords.{edge_loaded, list_loaded}
-use Rattle.table_calls.proofs.Loaded.{bit, found_still, leads_there, loaded, loaded_chain, loaded_goes, loaded_numbered, loaded_resting, loaded_uses, word_is}
+use Rattle.table_calls.proofs.Loaded.{bit, found_still, leads_there, loaded, loaded_chain, loaded_goes, loaded_numbered}
+use Rattle.table_calls.proofs.Loaded.{loaded_resting, loaded_uses, word_is}
 use Rattle.table_calls.proofs.cut_edges.see_cut.Goals as goal
 
 pub returns-in_default-clause-resting : goal.returns-in_default-clause-resting
@@ -45,9 +46,13 @@ returns-then-index-eq16777215-clause-resting c =
     let z1 = c.find_first.ensures.table.layout in
     let z2 = c.load.ensures.table.layout in
     let f2 = found_still v1 v2 c.args.bucket source z1 (loaded_goes v1 v2 n1 s1 k2) c.in-Some.ensures.found in
-    let at1 : c.second_at-place.result ≡ second_at v1.sizes source.index = c.second_at-place.ensures.place ∙ ap (λ (q : Sizes). second_at q source.index) (c.layout-layout.ensures.sizes ∙ sym c.find_first.ensures.table.sizes) in
-    let at2 : c.second_at-place.result ≡ second_at v2.sizes source.index = c.second_at-place.ensures.place ∙ ap (λ (q : Sizes). second_at q source.index) (c.layout-layout.ensures.sizes ∙ sym c.load.ensures.table.sizes) in
-    let seen_is : c.load.result ≡ word_in v2 (second_at v2.sizes source.index) = word_is v1 c.second_at-place.result c.load.result v2 c.load.ensures.looked ∙ ap (word_in v2) at2 in
+    let at1 : c.second_at-place.result ≡ second_at v1.sizes source.index = c.second_at-place.ensures.place ∙ ap
+    (λ (q : Sizes). second_at q source.index) (c.layout-layout.ensures.sizes ∙ sym c.find_first.ensures.table.sizes)
+    in
+    let at2 : c.second_at-place.result ≡ second_at v2.sizes source.index = c.second_at-place.ensures.place ∙ ap
+    (λ (q : Sizes). second_at q source.index) (c.layout-layout.ensures.sizes ∙ sym c.load.ensures.table.sizes) in
+    let seen_is : c.load.result ≡ word_in v2 (second_at v2.sizes source.index) = word_is v1 c.second_at-place.result
+    c.load.result v2 c.load.ensures.looked ∙ ap (word_in v2) at2 in
     loaded_resting v v2 n.numbered s l2 true n
 
 pub returns-then-index-eq16777215-clause-uses : goal.returns-then-index-eq16777215-clause-uses
@@ -66,9 +71,13 @@ returns-then-index-eq16777215-clause-uses c =
     let z1 = c.find_first.ensures.table.layout in
     let z2 = c.load.ensures.table.layout in
     let f2 = found_still v1 v2 c.args.bucket source z1 (loaded_goes v1 v2 n1 s1 k2) c.in-Some.ensures.found in
-    let at1 : c.second_at-place.result ≡ second_at v1.sizes source.index = c.second_at-place.ensures.place ∙ ap (λ (q : Sizes). second_at q source.index) (c.layout-layout.ensures.sizes ∙ sym c.find_first.ensures.table.sizes) in
-    let at2 : c.second_at-place.result ≡ second_at v2.sizes source.index = c.second_at-place.ensures.place ∙ ap (λ (q : Sizes). second_at q source.index) (c.layout-layout.ensures.sizes ∙ sym c.load.ensures.table.sizes) in
-    let seen_is : c.load.result ≡ word_in v2 (second_at v2.sizes source.index) = word_is v1 c.second_at-place.result c.load.result v2 c.load.ensures.looked ∙ ap (word_in v2) at2 in
+    let at1 : c.second_at-place.result ≡ second_at v1.sizes source.index = c.second_at-place.ensures.place ∙ ap
+    (λ (q : Sizes). second_at q source.index) (c.layout-layout.ensures.sizes ∙ sym c.find_first.ensures.table.sizes)
+    in
+    let at2 : c.second_at-place.result ≡ second_at v2.sizes source.index = c.second_at-place.ensures.place ∙ ap
+    (λ (q : Sizes). second_at q source.index) (c.layout-layout.ensures.sizes ∙ sym c.load.ensures.table.sizes) in
+    let seen_is : c.load.result ≡ word_in v2 (second_at v2.sizes source.index) = word_is v1 c.second_at-place.result
+    c.load.result v2 c.load.ensures.looked ∙ ap (word_in v2) at2 in
     loaded_uses v v2 n.numbered s l2
 
 pub returns-then-marked-clause-resting : goal.returns-then-marked-clause-resting
@@ -87,9 +96,13 @@ returns-then-marked-clause-resting c =
     let z1 = c.find_first.ensures.table.layout in
     let z2 = c.load.ensures.table.layout in
     let f2 = found_still v1 v2 c.args.bucket source z1 (loaded_goes v1 v2 n1 s1 k2) c.in-Some.ensures.found in
-    let at1 : c.second_at-place.result ≡ second_at v1.sizes source.index = c.second_at-place.ensures.place ∙ ap (λ (q : Sizes). second_at q source.index) (c.layout-layout.ensures.sizes ∙ sym c.find_first.ensures.table.sizes) in
-    let at2 : c.second_at-place.result ≡ second_at v2.sizes source.index = c.second_at-place.ensures.place ∙ ap (λ (q : Sizes). second_at q source.index) (c.layout-layout.ensures.sizes ∙ sym c.load.ensures.table.sizes) in
-    let seen_is : c.load.result ≡ word_in v2 (second_at v2.sizes source.index) = word_is v1 c.second_at-place.result c.load.result v2 c.load.ensures.looked ∙ ap (word_in v2) at2 in
+    let at1 : c.second_at-place.result ≡ second_at v1.sizes source.index = c.second_at-place.ensures.place ∙ ap
+    (λ (q : Sizes). second_at q source.index) (c.layout-layout.ensures.sizes ∙ sym c.find_first.ensures.table.sizes)
+    in
+    let at2 : c.second_at-place.result ≡ second_at v2.sizes source.index = c.second_at-place.ensures.place ∙ ap
+    (λ (q : Sizes). second_at q source.index) (c.layout-layout.ensures.sizes ∙ sym c.load.ensures.table.sizes) in
+    let seen_is : c.load.result ≡ word_in v2 (second_at v2.sizes source.index) = word_is v1 c.second_at-place.result
+    c.load.result v2 c.load.ensures.looked ∙ ap (word_in v2) at2 in
     loaded_resting v v2 n.numbered s l2 true n
 
 pub returns-then-marked-clause-uses : goal.returns-then-marked-clause-uses
@@ -108,9 +121,13 @@ returns-then-marked-clause-uses c =
     let z1 = c.find_first.ensures.table.layout in
     let z2 = c.load.ensures.table.layout in
     let f2 = found_still v1 v2 c.args.bucket source z1 (loaded_goes v1 v2 n1 s1 k2) c.in-Some.ensures.found in
-    let at1 : c.second_at-place.result ≡ second_at v1.sizes source.index = c.second_at-place.ensures.place ∙ ap (λ (q : Sizes). second_at q source.index) (c.layout-layout.ensures.sizes ∙ sym c.find_first.ensures.table.sizes) in
-    let at2 : c.second_at-place.result ≡ second_at v2.sizes source.index = c.second_at-place.ensures.place ∙ ap (λ (q : Sizes). second_at q source.index) (c.layout-layout.ensures.sizes ∙ sym c.load.ensures.table.sizes) in
-    let seen_is : c.load.result ≡ word_in v2 (second_at v2.sizes source.index) = word_is v1 c.second_at-place.result c.load.result v2 c.load.ensures.looked ∙ ap (word_in v2) at2 in
+    let at1 : c.second_at-place.result ≡ second_at v1.sizes source.index = c.second_at-place.ensures.place ∙ ap
+    (λ (q : Sizes). second_at q source.index) (c.layout-layout.ensures.sizes ∙ sym c.find_first.ensures.table.sizes)
+    in
+    let at2 : c.second_at-place.result ≡ second_at v2.sizes source.index = c.second_at-place.ensures.place ∙ ap
+    (λ (q : Sizes). second_at q source.index) (c.layout-layout.ensures.sizes ∙ sym c.load.ensures.table.sizes) in
+    let seen_is : c.load.result ≡ word_in v2 (second_at v2.sizes source.index) = word_is v1 c.second_at-place.result
+    c.load.result v2 c.load.ensures.looked ∙ ap (word_in v2) at2 in
     loaded_uses v v2 n.numbered s l2
 
 pub returns-then-index-eq16777215-clause-none : goal.returns-then-index-eq16777215-clause-none
@@ -129,11 +146,29 @@ returns-then-index-eq16777215-clause-none c none =
     let z1 = c.find_first.ensures.table.layout in
     let z2 = c.load.ensures.table.layout in
     let f2 = found_still v1 v2 c.args.bucket source z1 (loaded_goes v1 v2 n1 s1 k2) c.in-Some.ensures.found in
-    let at1 : c.second_at-place.result ≡ second_at v1.sizes source.index = c.second_at-place.ensures.place ∙ ap (λ (q : Sizes). second_at q source.index) (c.layout-layout.ensures.sizes ∙ sym c.find_first.ensures.table.sizes) in
-    let at2 : c.second_at-place.result ≡ second_at v2.sizes source.index = c.second_at-place.ensures.place ∙ ap (λ (q : Sizes). second_at q source.index) (c.layout-layout.ensures.sizes ∙ sym c.load.ensures.table.sizes) in
-    let seen_is : c.load.result ≡ word_in v2 (second_at v2.sizes source.index) = word_is v1 c.second_at-place.result c.load.result v2 c.load.ensures.looked ∙ ap (word_in v2) at2 in
-    let here : HasLoaded v2 v2 = record { grows = prefix_refl v2.front; sound = c.load.ensures.table.sound; view = refl } in
-    inr (source, f2, record { then = v2; loaded = l2; later = here; cause = inl (ap index_of (sym seen_is) ∙ (sym c.index-index.ensures.index ∙ c.if-index-eq16777215.true)) })
+    let at1 : c.second_at-place.result ≡ second_at v1.sizes source.index = c.second_at-place.ensures.place ∙ ap
+    (λ (q : Sizes). second_at q source.index) (c.layout-layout.ensures.sizes ∙ sym c.find_first.ensures.table.sizes)
+    in
+    let at2 : c.second_at-place.result ≡ second_at v2.sizes source.index = c.second_at-place.ensures.place ∙ ap
+    (λ (q : Sizes). second_at q source.index) (c.layout-layout.ensures.sizes ∙ sym c.load.ensures.table.sizes) in
+    let seen_is : c.load.result ≡ word_in v2 (second_at v2.sizes source.index) = word_is v1 c.second_at-place.result
+    c.load.result v2 c.load.ensures.looked ∙ ap (word_in v2) at2 in
+    let here : HasLoaded v2 v2 = record {
+      grows = prefix_refl v2.front;
+      sound = c.load.ensures.table.sound;
+      view = refl;
+    } in
+    inr (
+      source,
+      f2,
+      record {
+        then = v2;
+        loaded = l2;
+        later = here;
+        cause = inl
+            (ap index_of (sym seen_is) ∙ (sym c.index-index.ensures.index ∙ c.if-index-eq16777215.true));
+      },
+    )
 
 pub returns-then-marked-clause-none : goal.returns-then-marked-clause-none
 returns-then-marked-clause-none c none =
@@ -151,11 +186,29 @@ returns-then-marked-clause-none c none =
     let z1 = c.find_first.ensures.table.layout in
     let z2 = c.load.ensures.table.layout in
     let f2 = found_still v1 v2 c.args.bucket source z1 (loaded_goes v1 v2 n1 s1 k2) c.in-Some.ensures.found in
-    let at1 : c.second_at-place.result ≡ second_at v1.sizes source.index = c.second_at-place.ensures.place ∙ ap (λ (q : Sizes). second_at q source.index) (c.layout-layout.ensures.sizes ∙ sym c.find_first.ensures.table.sizes) in
-    let at2 : c.second_at-place.result ≡ second_at v2.sizes source.index = c.second_at-place.ensures.place ∙ ap (λ (q : Sizes). second_at q source.index) (c.layout-layout.ensures.sizes ∙ sym c.load.ensures.table.sizes) in
-    let seen_is : c.load.result ≡ word_in v2 (second_at v2.sizes source.index) = word_is v1 c.second_at-place.result c.load.result v2 c.load.ensures.looked ∙ ap (word_in v2) at2 in
-    let here : HasLoaded v2 v2 = record { grows = prefix_refl v2.front; sound = c.load.ensures.table.sound; view = refl } in
-    inr (source, f2, record { then = v2; loaded = l2; later = here; cause = inr (inl (ap mark_of (sym seen_is) ∙ c.marked.ensures.0 c.if-marked.true)) })
+    let at1 : c.second_at-place.result ≡ second_at v1.sizes source.index = c.second_at-place.ensures.place ∙ ap
+    (λ (q : Sizes). second_at q source.index) (c.layout-layout.ensures.sizes ∙ sym c.find_first.ensures.table.sizes)
+    in
+    let at2 : c.second_at-place.result ≡ second_at v2.sizes source.index = c.second_at-place.ensures.place ∙ ap
+    (λ (q : Sizes). second_at q source.index) (c.layout-layout.ensures.sizes ∙ sym c.load.ensures.table.sizes) in
+    let seen_is : c.load.result ≡ word_in v2 (second_at v2.sizes source.index) = word_is v1 c.second_at-place.result
+    c.load.result v2 c.load.ensures.looked ∙ ap (word_in v2) at2 in
+    let here : HasLoaded v2 v2 = record {
+      grows = prefix_refl v2.front;
+      sound = c.load.ensures.table.sound;
+      view = refl;
+    } in
+    inr (
+      source,
+      f2,
+      record {
+        then = v2;
+        loaded = l2;
+        later = here;
+        cause = inr
+            (inl (ap mark_of (sym seen_is) ∙ c.marked.ensures.0 c.if-marked.true));
+      },
+    )
 
 pub link_at-requires : goal.link_at-requires
 link_at-requires c =
@@ -173,11 +226,17 @@ link_at-requires c =
     let z1 = c.find_first.ensures.table.layout in
     let z2 = c.load.ensures.table.layout in
     let f2 = found_still v1 v2 c.args.bucket source z1 (loaded_goes v1 v2 n1 s1 k2) c.in-Some.ensures.found in
-    let at1 : c.second_at-place.result ≡ second_at v1.sizes source.index = c.second_at-place.ensures.place ∙ ap (λ (q : Sizes). second_at q source.index) (c.layout-layout.ensures.sizes ∙ sym c.find_first.ensures.table.sizes) in
-    let at2 : c.second_at-place.result ≡ second_at v2.sizes source.index = c.second_at-place.ensures.place ∙ ap (λ (q : Sizes). second_at q source.index) (c.layout-layout.ensures.sizes ∙ sym c.load.ensures.table.sizes) in
-    let seen_is : c.load.result ≡ word_in v2 (second_at v2.sizes source.index) = word_is v1 c.second_at-place.result c.load.result v2 c.load.ensures.looked ∙ ap (word_in v2) at2 in
-    let led = list_loaded v1 v2 source c.second_at-place.result c.load.result z1 z2 n1 s1 c.in-Some.ensures.found.met at1 c.load.ensures.looked in
-    let d = leads_there c.load.result c.index-index.result (IsEdgeIn v2 source) led.1 c.index-index.ensures.index c.if-index-eq16777215.false in
+    let at1 : c.second_at-place.result ≡ second_at v1.sizes source.index = c.second_at-place.ensures.place ∙ ap
+    (λ (q : Sizes). second_at q source.index) (c.layout-layout.ensures.sizes ∙ sym c.find_first.ensures.table.sizes)
+    in
+    let at2 : c.second_at-place.result ≡ second_at v2.sizes source.index = c.second_at-place.ensures.place ∙ ap
+    (λ (q : Sizes). second_at q source.index) (c.layout-layout.ensures.sizes ∙ sym c.load.ensures.table.sizes) in
+    let seen_is : c.load.result ≡ word_in v2 (second_at v2.sizes source.index) = word_is v1 c.second_at-place.result
+    c.load.result v2 c.load.ensures.looked ∙ ap (word_in v2) at2 in
+    let led = list_loaded v1 v2 source c.second_at-place.result c.load.result z1 z2 n1 s1 c.in-Some.ensures.found.met
+    at1 c.load.ensures.looked in
+    let d = leads_there c.load.result c.index-index.result (IsEdgeIn v2 source) led.1 c.index-index.ensures.index
+    c.if-index-eq16777215.false in
     let same2 : c.layout-layout.result ≡ v2.sizes = c.layout-layout.ensures.sizes ∙ sym c.load.ensures.table.sizes in
     subst (λ (q : Sizes). c.index-index.result < q.nodes) (sym same2) d.life.there
 
@@ -197,11 +256,17 @@ returns-then-not-marked-clause-resting c =
     let z1 = c.find_first.ensures.table.layout in
     let z2 = c.load.ensures.table.layout in
     let f2 = found_still v1 v2 c.args.bucket source z1 (loaded_goes v1 v2 n1 s1 k2) c.in-Some.ensures.found in
-    let at1 : c.second_at-place.result ≡ second_at v1.sizes source.index = c.second_at-place.ensures.place ∙ ap (λ (q : Sizes). second_at q source.index) (c.layout-layout.ensures.sizes ∙ sym c.find_first.ensures.table.sizes) in
-    let at2 : c.second_at-place.result ≡ second_at v2.sizes source.index = c.second_at-place.ensures.place ∙ ap (λ (q : Sizes). second_at q source.index) (c.layout-layout.ensures.sizes ∙ sym c.load.ensures.table.sizes) in
-    let seen_is : c.load.result ≡ word_in v2 (second_at v2.sizes source.index) = word_is v1 c.second_at-place.result c.load.result v2 c.load.ensures.looked ∙ ap (word_in v2) at2 in
-    let led = list_loaded v1 v2 source c.second_at-place.result c.load.result z1 z2 n1 s1 c.in-Some.ensures.found.met at1 c.load.ensures.looked in
-    let d = leads_there c.load.result c.index-index.result (IsEdgeIn v2 source) led.1 c.index-index.ensures.index c.if-index-eq16777215.false in
+    let at1 : c.second_at-place.result ≡ second_at v1.sizes source.index = c.second_at-place.ensures.place ∙ ap
+    (λ (q : Sizes). second_at q source.index) (c.layout-layout.ensures.sizes ∙ sym c.find_first.ensures.table.sizes)
+    in
+    let at2 : c.second_at-place.result ≡ second_at v2.sizes source.index = c.second_at-place.ensures.place ∙ ap
+    (λ (q : Sizes). second_at q source.index) (c.layout-layout.ensures.sizes ∙ sym c.load.ensures.table.sizes) in
+    let seen_is : c.load.result ≡ word_in v2 (second_at v2.sizes source.index) = word_is v1 c.second_at-place.result
+    c.load.result v2 c.load.ensures.looked ∙ ap (word_in v2) at2 in
+    let led = list_loaded v1 v2 source c.second_at-place.result c.load.result z1 z2 n1 s1 c.in-Some.ensures.found.met
+    at1 c.load.ensures.looked in
+    let d = leads_there c.load.result c.index-index.result (IsEdgeIn v2 source) led.1 c.index-index.ensures.index
+    c.if-index-eq16777215.false in
     let same2 : c.layout-layout.result ≡ v2.sizes = c.layout-layout.ensures.sizes ∙ sym c.load.ensures.table.sizes in
     let v3 = c.load-2.new.token.view in
     let k3 = loaded v2 c.link_at.result c.load-2.result v3 c.load-2.ensures.looked in
@@ -210,7 +275,10 @@ returns-then-not-marked-clause-resting c =
     let s2 = c.load.ensures.table.sound in
     let g3 = loaded_goes v2 v3 n2 s2 k3 in
     let f3 = found_still v2 v3 c.args.bucket source z2 g3 f2 in
-    let link_is : c.load-2.result ≡ word_in v3 (link_at v3.sizes c.index-index.result) = word_is v2 c.link_at.result c.load-2.result v3 c.load-2.ensures.looked ∙ ap (word_in v3) (c.link_at.ensures.place ∙ ap (λ (q : Sizes). link_at q c.index-index.result) (c.layout-layout.ensures.sizes ∙ sym c.load-2.ensures.table.sizes)) in
+    let link_is : c.load-2.result ≡ word_in v3 (link_at v3.sizes c.index-index.result) = word_is v2 c.link_at.result
+    c.load-2.result v3 c.load-2.ensures.looked ∙ ap (word_in v3)
+    (c.link_at.ensures.place ∙ ap (λ (q : Sizes). link_at q c.index-index.result)
+    (c.layout-layout.ensures.sizes ∙ sym c.load-2.ensures.table.sizes)) in
     loaded_resting v v3 n.numbered s l3 true n
 
 pub returns-then-not-marked-clause-uses : goal.returns-then-not-marked-clause-uses
@@ -229,11 +297,17 @@ returns-then-not-marked-clause-uses c =
     let z1 = c.find_first.ensures.table.layout in
     let z2 = c.load.ensures.table.layout in
     let f2 = found_still v1 v2 c.args.bucket source z1 (loaded_goes v1 v2 n1 s1 k2) c.in-Some.ensures.found in
-    let at1 : c.second_at-place.result ≡ second_at v1.sizes source.index = c.second_at-place.ensures.place ∙ ap (λ (q : Sizes). second_at q source.index) (c.layout-layout.ensures.sizes ∙ sym c.find_first.ensures.table.sizes) in
-    let at2 : c.second_at-place.result ≡ second_at v2.sizes source.index = c.second_at-place.ensures.place ∙ ap (λ (q : Sizes). second_at q source.index) (c.layout-layout.ensures.sizes ∙ sym c.load.ensures.table.sizes) in
-    let seen_is : c.load.result ≡ word_in v2 (second_at v2.sizes source.index) = word_is v1 c.second_at-place.result c.load.result v2 c.load.ensures.looked ∙ ap (word_in v2) at2 in
-    let led = list_loaded v1 v2 source c.second_at-place.result c.load.result z1 z2 n1 s1 c.in-Some.ensures.found.met at1 c.load.ensures.looked in
-    let d = leads_there c.load.result c.index-index.result (IsEdgeIn v2 source) led.1 c.index-index.ensures.index c.if-index-eq16777215.false in
+    let at1 : c.second_at-place.result ≡ second_at v1.sizes source.index = c.second_at-place.ensures.place ∙ ap
+    (λ (q : Sizes). second_at q source.index) (c.layout-layout.ensures.sizes ∙ sym c.find_first.ensures.table.sizes)
+    in
+    let at2 : c.second_at-place.result ≡ second_at v2.sizes source.index = c.second_at-place.ensures.place ∙ ap
+    (λ (q : Sizes). second_at q source.index) (c.layout-layout.ensures.sizes ∙ sym c.load.ensures.table.sizes) in
+    let seen_is : c.load.result ≡ word_in v2 (second_at v2.sizes source.index) = word_is v1 c.second_at-place.result
+    c.load.result v2 c.load.ensures.looked ∙ ap (word_in v2) at2 in
+    let led = list_loaded v1 v2 source c.second_at-place.result c.load.result z1 z2 n1 s1 c.in-Some.ensures.found.met
+    at1 c.load.ensures.looked in
+    let d = leads_there c.load.result c.index-index.result (IsEdgeIn v2 source) led.1 c.index-index.ensures.index
+    c.if-index-eq16777215.false in
     let same2 : c.layout-layout.result ≡ v2.sizes = c.layout-layout.ensures.sizes ∙ sym c.load.ensures.table.sizes in
     let v3 = c.load-2.new.token.view in
     let k3 = loaded v2 c.link_at.result c.load-2.result v3 c.load-2.ensures.looked in
@@ -242,7 +316,10 @@ returns-then-not-marked-clause-uses c =
     let s2 = c.load.ensures.table.sound in
     let g3 = loaded_goes v2 v3 n2 s2 k3 in
     let f3 = found_still v2 v3 c.args.bucket source z2 g3 f2 in
-    let link_is : c.load-2.result ≡ word_in v3 (link_at v3.sizes c.index-index.result) = word_is v2 c.link_at.result c.load-2.result v3 c.load-2.ensures.looked ∙ ap (word_in v3) (c.link_at.ensures.place ∙ ap (λ (q : Sizes). link_at q c.index-index.result) (c.layout-layout.ensures.sizes ∙ sym c.load-2.ensures.table.sizes)) in
+    let link_is : c.load-2.result ≡ word_in v3 (link_at v3.sizes c.index-index.result) = word_is v2 c.link_at.result
+    c.load-2.result v3 c.load-2.ensures.looked ∙ ap (word_in v3)
+    (c.link_at.ensures.place ∙ ap (λ (q : Sizes). link_at q c.index-index.result)
+    (c.layout-layout.ensures.sizes ∙ sym c.load-2.ensures.table.sizes)) in
     loaded_uses v v3 n.numbered s l3
 
 pub returns-then-not-marked-clause-none : goal.returns-then-not-marked-clause-none
@@ -261,11 +338,17 @@ returns-then-not-marked-clause-none c none =
     let z1 = c.find_first.ensures.table.layout in
     let z2 = c.load.ensures.table.layout in
     let f2 = found_still v1 v2 c.args.bucket source z1 (loaded_goes v1 v2 n1 s1 k2) c.in-Some.ensures.found in
-    let at1 : c.second_at-place.result ≡ second_at v1.sizes source.index = c.second_at-place.ensures.place ∙ ap (λ (q : Sizes). second_at q source.index) (c.layout-layout.ensures.sizes ∙ sym c.find_first.ensures.table.sizes) in
-    let at2 : c.second_at-place.result ≡ second_at v2.sizes source.index = c.second_at-place.ensures.place ∙ ap (λ (q : Sizes). second_at q source.index) (c.layout-layout.ensures.sizes ∙ sym c.load.ensures.table.sizes) in
-    let seen_is : c.load.result ≡ word_in v2 (second_at v2.sizes source.index) = word_is v1 c.second_at-place.result c.load.result v2 c.load.ensures.looked ∙ ap (word_in v2) at2 in
-    let led = list_loaded v1 v2 source c.second_at-place.result c.load.result z1 z2 n1 s1 c.in-Some.ensures.found.met at1 c.load.ensures.looked in
-    let d = leads_there c.load.result c.index-index.result (IsEdgeIn v2 source) led.1 c.index-index.ensures.index c.if-index-eq16777215.false in
+    let at1 : c.second_at-place.result ≡ second_at v1.sizes source.index = c.second_at-place.ensures.place ∙ ap
+    (λ (q : Sizes). second_at q source.index) (c.layout-layout.ensures.sizes ∙ sym c.find_first.ensures.table.sizes)
+    in
+    let at2 : c.second_at-place.result ≡ second_at v2.sizes source.index = c.second_at-place.ensures.place ∙ ap
+    (λ (q : Sizes). second_at q source.index) (c.layout-layout.ensures.sizes ∙ sym c.load.ensures.table.sizes) in
+    let seen_is : c.load.result ≡ word_in v2 (second_at v2.sizes source.index) = word_is v1 c.second_at-place.result
+    c.load.result v2 c.load.ensures.looked ∙ ap (word_in v2) at2 in
+    let led = list_loaded v1 v2 source c.second_at-place.result c.load.result z1 z2 n1 s1 c.in-Some.ensures.found.met
+    at1 c.load.ensures.looked in
+    let d = leads_there c.load.result c.index-index.result (IsEdgeIn v2 source) led.1 c.index-index.ensures.index
+    c.if-index-eq16777215.false in
     let same2 : c.layout-layout.result ≡ v2.sizes = c.layout-layout.ensures.sizes ∙ sym c.load.ensures.table.sizes in
     let v3 = c.load-2.new.token.view in
     let k3 = loaded v2 c.link_at.result c.load-2.result v3 c.load-2.ensures.looked in
@@ -274,12 +357,31 @@ returns-then-not-marked-clause-none c none =
     let s2 = c.load.ensures.table.sound in
     let g3 = loaded_goes v2 v3 n2 s2 k3 in
     let f3 = found_still v2 v3 c.args.bucket source z2 g3 f2 in
-    let link_is : c.load-2.result ≡ word_in v3 (link_at v3.sizes c.index-index.result) = word_is v2 c.link_at.result c.load-2.result v3 c.load-2.ensures.looked ∙ ap (word_in v3) (c.link_at.ensures.place ∙ ap (λ (q : Sizes). link_at q c.index-index.result) (c.layout-layout.ensures.sizes ∙ sym c.load-2.ensures.table.sizes)) in
+    let link_is : c.load-2.result ≡ word_in v3 (link_at v3.sizes c.index-index.result) = word_is v2 c.link_at.result
+    c.load-2.result v3 c.load-2.ensures.looked ∙ ap (word_in v3)
+    (c.link_at.ensures.place ∙ ap (λ (q : Sizes). link_at q c.index-index.result)
+    (c.layout-layout.ensures.sizes ∙ sym c.load-2.ensures.table.sizes)) in
     let not = c.if-not-marked.true in
-    let live : mark_of c.load-2.result ≡ 0 = ⊎_elim (λ (h : mark_of c.load-2.result ≡ 0). h) (λ (h : mark_of c.load-2.result ≡ 1). let yes : c.marked-2.result ≡ true = c.marked-2.ensures.1 h in absurd (cc)) (bit c.load-2.result) in
-    let head3 : c.load.result ≡ word_in v2 (second_at v3.sizes source.index) = seen_is ∙ ap (λ (q : Sizes). word_in v2 (second_at q source.index)) (c.load.ensures.table.sizes ∙ sym c.load-2.ensures.table.sizes) in
-    let led_is : c.index-index.result ≡ index_of (word_in v2 (second_at v3.sizes source.index)) = c.index-index.ensures.index ∙ ap index_of head3 in
-    inr (source, f3, record { then = v2; loaded = l2; later = k3; cause = inr (inr (ap (λ (i : ℕ). mark_of (word_in v3 (link_at v3.sizes i))) (sym led_is) ∙ (ap mark_of (sym link_is) ∙ live))) })
+    let live : mark_of c.load-2.result ≡ 0 = ⊎_elim (λ (h : mark_of c.load-2.result ≡ 0). h)
+    (λ (h : mark_of c.load-2.result ≡ 1). let yes : c.marked-2.result ≡ true = c.marked-2.ensures.1 h in absurd
+    (cc)) (bit c.load-2.result) in
+    let head3 : c.load.result ≡ word_in v2 (second_at v3.sizes source.index) = seen_is ∙ ap
+    (λ (q : Sizes). word_in v2 (second_at q source.index))
+    (c.load.ensures.table.sizes ∙ sym c.load-2.ensures.table.sizes) in
+    let led_is : c.index-index.result ≡ index_of (word_in v2 (second_at v3.sizes source.index)) =
+    c.index-index.ensures.index ∙ ap index_of head3 in
+    inr (
+      source,
+      f3,
+      record {
+        then = v2;
+        loaded = l2;
+        later = k3;
+        cause = inr
+            (inr (ap (λ (i : ℕ). mark_of (word_in v3 (link_at v3.sizes i))) (sym led_is) ∙
+            (ap mark_of (sym link_is) ∙ live)));
+      },
+    )
 
 pub returns-clause-resting : goal.returns-clause-resting
 returns-clause-resting c =
@@ -297,11 +399,17 @@ returns-clause-resting c =
     let z1 = c.find_first.ensures.table.layout in
     let z2 = c.load.ensures.table.layout in
     let f2 = found_still v1 v2 c.args.bucket source z1 (loaded_goes v1 v2 n1 s1 k2) c.in-Some.ensures.found in
-    let at1 : c.second_at-place.result ≡ second_at v1.sizes source.index = c.second_at-place.ensures.place ∙ ap (λ (q : Sizes). second_at q source.index) (c.layout-layout.ensures.sizes ∙ sym c.find_first.ensures.table.sizes) in
-    let at2 : c.second_at-place.result ≡ second_at v2.sizes source.index = c.second_at-place.ensures.place ∙ ap (λ (q : Sizes). second_at q source.index) (c.layout-layout.ensures.sizes ∙ sym c.load.ensures.table.sizes) in
-    let seen_is : c.load.result ≡ word_in v2 (second_at v2.sizes source.index) = word_is v1 c.second_at-place.result c.load.result v2 c.load.ensures.looked ∙ ap (word_in v2) at2 in
-    let led = list_loaded v1 v2 source c.second_at-place.result c.load.result z1 z2 n1 s1 c.in-Some.ensures.found.met at1 c.load.ensures.looked in
-    let d = leads_there c.load.result c.index-index.result (IsEdgeIn v2 source) led.1 c.index-index.ensures.index c.if-index-eq16777215.false in
+    let at1 : c.second_at-place.result ≡ second_at v1.sizes source.index = c.second_at-place.ensures.place ∙ ap
+    (λ (q : Sizes). second_at q source.index) (c.layout-layout.ensures.sizes ∙ sym c.find_first.ensures.table.sizes)
+    in
+    let at2 : c.second_at-place.result ≡ second_at v2.sizes source.index = c.second_at-place.ensures.place ∙ ap
+    (λ (q : Sizes). second_at q source.index) (c.layout-layout.ensures.sizes ∙ sym c.load.ensures.table.sizes) in
+    let seen_is : c.load.result ≡ word_in v2 (second_at v2.sizes source.index) = word_is v1 c.second_at-place.result
+    c.load.result v2 c.load.ensures.looked ∙ ap (word_in v2) at2 in
+    let led = list_loaded v1 v2 source c.second_at-place.result c.load.result z1 z2 n1 s1 c.in-Some.ensures.found.met
+    at1 c.load.ensures.looked in
+    let d = leads_there c.load.result c.index-index.result (IsEdgeIn v2 source) led.1 c.index-index.ensures.index
+    c.if-index-eq16777215.false in
     let same2 : c.layout-layout.result ≡ v2.sizes = c.layout-layout.ensures.sizes ∙ sym c.load.ensures.table.sizes in
     let v3 = c.load-2.new.token.view in
     let k3 = loaded v2 c.link_at.result c.load-2.result v3 c.load-2.ensures.looked in
@@ -310,7 +418,10 @@ returns-clause-resting c =
     let s2 = c.load.ensures.table.sound in
     let g3 = loaded_goes v2 v3 n2 s2 k3 in
     let f3 = found_still v2 v3 c.args.bucket source z2 g3 f2 in
-    let link_is : c.load-2.result ≡ word_in v3 (link_at v3.sizes c.index-index.result) = word_is v2 c.link_at.result c.load-2.result v3 c.load-2.ensures.looked ∙ ap (word_in v3) (c.link_at.ensures.place ∙ ap (λ (q : Sizes). link_at q c.index-index.result) (c.layout-layout.ensures.sizes ∙ sym c.load-2.ensures.table.sizes)) in
+    let link_is : c.load-2.result ≡ word_in v3 (link_at v3.sizes c.index-index.result) = word_is v2 c.link_at.result
+    c.load-2.result v3 c.load-2.ensures.looked ∙ ap (word_in v3)
+    (c.link_at.ensures.place ∙ ap (λ (q : Sizes). link_at q c.index-index.result)
+    (c.layout-layout.ensures.sizes ∙ sym c.load-2.ensures.table.sizes)) in
     loaded_resting v v3 n.numbered s l3 true n
 
 pub returns-clause-uses : goal.returns-clause-uses
@@ -329,11 +440,17 @@ returns-clause-uses c =
     let z1 = c.find_first.ensures.table.layout in
     let z2 = c.load.ensures.table.layout in
     let f2 = found_still v1 v2 c.args.bucket source z1 (loaded_goes v1 v2 n1 s1 k2) c.in-Some.ensures.found in
-    let at1 : c.second_at-place.result ≡ second_at v1.sizes source.index = c.second_at-place.ensures.place ∙ ap (λ (q : Sizes). second_at q source.index) (c.layout-layout.ensures.sizes ∙ sym c.find_first.ensures.table.sizes) in
-    let at2 : c.second_at-place.result ≡ second_at v2.sizes source.index = c.second_at-place.ensures.place ∙ ap (λ (q : Sizes). second_at q source.index) (c.layout-layout.ensures.sizes ∙ sym c.load.ensures.table.sizes) in
-    let seen_is : c.load.result ≡ word_in v2 (second_at v2.sizes source.index) = word_is v1 c.second_at-place.result c.load.result v2 c.load.ensures.looked ∙ ap (word_in v2) at2 in
-    let led = list_loaded v1 v2 source c.second_at-place.result c.load.result z1 z2 n1 s1 c.in-Some.ensures.found.met at1 c.load.ensures.looked in
-    let d = leads_there c.load.result c.index-index.result (IsEdgeIn v2 source) led.1 c.index-index.ensures.index c.if-index-eq16777215.false in
+    let at1 : c.second_at-place.result ≡ second_at v1.sizes source.index = c.second_at-place.ensures.place ∙ ap
+    (λ (q : Sizes). second_at q source.index) (c.layout-layout.ensures.sizes ∙ sym c.find_first.ensures.table.sizes)
+    in
+    let at2 : c.second_at-place.result ≡ second_at v2.sizes source.index = c.second_at-place.ensures.place ∙ ap
+    (λ (q : Sizes). second_at q source.index) (c.layout-layout.ensures.sizes ∙ sym c.load.ensures.table.sizes) in
+    let seen_is : c.load.result ≡ word_in v2 (second_at v2.sizes source.index) = word_is v1 c.second_at-place.result
+    c.load.result v2 c.load.ensures.looked ∙ ap (word_in v2) at2 in
+    let led = list_loaded v1 v2 source c.second_at-place.result c.load.result z1 z2 n1 s1 c.in-Some.ensures.found.met
+    at1 c.load.ensures.looked in
+    let d = leads_there c.load.result c.index-index.result (IsEdgeIn v2 source) led.1 c.index-index.ensures.index
+    c.if-index-eq16777215.false in
     let same2 : c.layout-layout.result ≡ v2.sizes = c.layout-layout.ensures.sizes ∙ sym c.load.ensures.table.sizes in
     let v3 = c.load-2.new.token.view in
     let k3 = loaded v2 c.link_at.result c.load-2.result v3 c.load-2.ensures.looked in
@@ -342,7 +459,10 @@ returns-clause-uses c =
     let s2 = c.load.ensures.table.sound in
     let g3 = loaded_goes v2 v3 n2 s2 k3 in
     let f3 = found_still v2 v3 c.args.bucket source z2 g3 f2 in
-    let link_is : c.load-2.result ≡ word_in v3 (link_at v3.sizes c.index-index.result) = word_is v2 c.link_at.result c.load-2.result v3 c.load-2.ensures.looked ∙ ap (word_in v3) (c.link_at.ensures.place ∙ ap (λ (q : Sizes). link_at q c.index-index.result) (c.layout-layout.ensures.sizes ∙ sym c.load-2.ensures.table.sizes)) in
+    let link_is : c.load-2.result ≡ word_in v3 (link_at v3.sizes c.index-index.result) = word_is v2 c.link_at.result
+    c.load-2.result v3 c.load-2.ensures.looked ∙ ap (word_in v3)
+    (c.link_at.ensures.place ∙ ap (λ (q : Sizes). link_at q c.index-index.result)
+    (c.layout-layout.ensures.sizes ∙ sym c.load-2.ensures.table.sizes)) in
     loaded_uses v v3 n.numbered s l3
 
 pub returns-clause-may : goal.returns-clause-may
@@ -361,11 +481,17 @@ returns-clause-may c =
     let z1 = c.find_first.ensures.table.layout in
     let z2 = c.load.ensures.table.layout in
     let f2 = found_still v1 v2 c.args.bucket source z1 (loaded_goes v1 v2 n1 s1 k2) c.in-Some.ensures.found in
-    let at1 : c.second_at-place.result ≡ second_at v1.sizes source.index = c.second_at-place.ensures.place ∙ ap (λ (q : Sizes). second_at q source.index) (c.layout-layout.ensures.sizes ∙ sym c.find_first.ensures.table.sizes) in
-    let at2 : c.second_at-place.result ≡ second_at v2.sizes source.index = c.second_at-place.ensures.place ∙ ap (λ (q : Sizes). second_at q source.index) (c.layout-layout.ensures.sizes ∙ sym c.load.ensures.table.sizes) in
-    let seen_is : c.load.result ≡ word_in v2 (second_at v2.sizes source.index) = word_is v1 c.second_at-place.result c.load.result v2 c.load.ensures.looked ∙ ap (word_in v2) at2 in
-    let led = list_loaded v1 v2 source c.second_at-place.result c.load.result z1 z2 n1 s1 c.in-Some.ensures.found.met at1 c.load.ensures.looked in
-    let d = leads_there c.load.result c.index-index.result (IsEdgeIn v2 source) led.1 c.index-index.ensures.index c.if-index-eq16777215.false in
+    let at1 : c.second_at-place.result ≡ second_at v1.sizes source.index = c.second_at-place.ensures.place ∙ ap
+    (λ (q : Sizes). second_at q source.index) (c.layout-layout.ensures.sizes ∙ sym c.find_first.ensures.table.sizes)
+    in
+    let at2 : c.second_at-place.result ≡ second_at v2.sizes source.index = c.second_at-place.ensures.place ∙ ap
+    (λ (q : Sizes). second_at q source.index) (c.layout-layout.ensures.sizes ∙ sym c.load.ensures.table.sizes) in
+    let seen_is : c.load.result ≡ word_in v2 (second_at v2.sizes source.index) = word_is v1 c.second_at-place.result
+    c.load.result v2 c.load.ensures.looked ∙ ap (word_in v2) at2 in
+    let led = list_loaded v1 v2 source c.second_at-place.result c.load.result z1 z2 n1 s1 c.in-Some.ensures.found.met
+    at1 c.load.ensures.looked in
+    let d = leads_there c.load.result c.index-index.result (IsEdgeIn v2 source) led.1 c.index-index.ensures.index
+    c.if-index-eq16777215.false in
     let same2 : c.layout-layout.result ≡ v2.sizes = c.layout-layout.ensures.sizes ∙ sym c.load.ensures.table.sizes in
     let v3 = c.load-2.new.token.view in
     let k3 = loaded v2 c.link_at.result c.load-2.result v3 c.load-2.ensures.looked in
@@ -374,17 +500,25 @@ returns-clause-may c =
     let s2 = c.load.ensures.table.sound in
     let g3 = loaded_goes v2 v3 n2 s2 k3 in
     let f3 = found_still v2 v3 c.args.bucket source z2 g3 f2 in
-    let link_is : c.load-2.result ≡ word_in v3 (link_at v3.sizes c.index-index.result) = word_is v2 c.link_at.result c.load-2.result v3 c.load-2.ensures.looked ∙ ap (word_in v3) (c.link_at.ensures.place ∙ ap (λ (q : Sizes). link_at q c.index-index.result) (c.layout-layout.ensures.sizes ∙ sym c.load-2.ensures.table.sizes)) in
+    let link_is : c.load-2.result ≡ word_in v3 (link_at v3.sizes c.index-index.result) = word_is v2 c.link_at.result
+    c.load-2.result v3 c.load-2.ensures.looked ∙ ap (word_in v3)
+    (c.link_at.ensures.place ∙ ap (λ (q : Sizes). link_at q c.index-index.result)
+    (c.layout-layout.ensures.sizes ∙ sym c.load-2.ensures.table.sizes)) in
     let not = c.if-marked.false in
-    let live : mark_of c.load.result ≡ 0 = ⊎_elim (λ (h : mark_of c.load.result ≡ 0). h) (λ (h : mark_of c.load.result ≡ 1). let yes : c.marked.result ≡ true = c.marked.ensures.1 h in absurd (cc)) (bit c.load.result) in
+    let live : mark_of c.load.result ≡ 0 = ⊎_elim (λ (h : mark_of c.load.result ≡ 0). h)
+    (λ (h : mark_of c.load.result ≡ 1). let yes : c.marked.result ≡ true = c.marked.ensures.1 h in absurd (cc))
+    (bit c.load.result) in
     let dead : mark_of c.load-2.result ≡ 1 = c.marked-2.ensures.0 c.if-not-marked.false in
     let x : Life = record { index = c.index-index.result; tag = c.tag-tag.result } in
     let may : MayUnlinkEdge v3 c.second_at-place.result c.load.result c.index-next.result source x = record {
       from = f3.met;
-      before = inl (c.second_at-place.ensures.place ∙ ap (λ (q : Sizes). second_at q source.index) (c.layout-layout.ensures.sizes ∙ sym c.load-2.ensures.table.sizes));
+      before = inl (c.second_at-place.ensures.place ∙ ap (λ (q : Sizes). second_at q source.index)
+          (c.layout-layout.ensures.sizes ∙ sym c.load-2.ensures.table.sizes));
       unmarked = live;
       leads = sym c.index-index.ensures.index;
-      edge = edge_loaded v2 v3 source c.index-index.result c.link_at.result c.load-2.result c.tag-tag.result z2 c.load-2.ensures.table.layout n2 s2 d c.load-2.ensures.looked (c.link_at.ensures.place ∙ ap (λ (q : Sizes). link_at q c.index-index.result) same2) c.tag-tag.ensures.tag;
+      edge = edge_loaded v2 v3 source c.index-index.result c.link_at.result c.load-2.result c.tag-tag.result z2
+          c.load-2.ensures.table.layout n2 s2 d c.load-2.ensures.looked
+          (c.link_at.ensures.place ∙ ap (λ (q : Sizes). link_at q c.index-index.result) same2) c.tag-tag.ensures.tag;
       dead = ap mark_of (sym link_is) ∙ dead;
       next_is = c.index-next.ensures.index ∙ ap index_of link_is;
     } in

@@ -14,7 +14,8 @@ pack-link-requires-clause-tag_fits c =
     let o0 = c.requires.table in
     let h0 = c.requires.holding in
     let life : c.life-life.result.tag ≡ x.tag = ap (λ (y : Life). y.tag) c.life-life.ensures.life in
-    let low : x.tag < 2 ^ 39 = life_tag_low t0.view c.requires.table.layout c.requires.table.sound.kept x h0.held.life in
+    let low : x.tag < 2 ^ 39 = life_tag_low t0.view c.requires.table.layout c.requires.table.sound.kept x h0.held.life
+    in
     omega (arith, low, life)
 
 pub store_private-requires-clause-may : goal.store_private-requires-clause-may
@@ -23,7 +24,14 @@ store_private-requires-clause-may c =
     let t0 = c.args.token.now in
     let o0 = c.requires.table in
     let h0 = c.requires.holding in
-    record { life = h0.held.life; field_is = omega arith; fits = omega (arith, c.requires.key); link = λ y. absurd (omega (arith, y)); fresh = h0.held.fresh }
+    record {
+      life = h0.held.life;
+      field_is = omega arith;
+      fits = omega (arith, c.requires.key);
+      link = λ y. absurd
+          (omega (arith, y));
+      fresh = h0.held.fresh;
+    }
 
 pub store_private-requires-2-clause-may : goal.store_private-requires-2-clause-may
 store_private-requires-2-clause-may c =
@@ -36,8 +44,17 @@ store_private-requires-2-clause-may c =
     let s1 = c.store_private.ensures.stored in
     let h1 = filling t0.view t1.view x 0 c.args.key o0.layout o0.sound h0 s1 in
     let life : c.life-life.result.tag ≡ x.tag = ap (λ (y : Life). y.tag) c.life-life.ensures.life in
-    let low : x.tag < 2 ^ 39 = life_tag_low t0.view c.requires.table.layout c.requires.table.sound.kept x h0.held.life in
-    record { life = h1.held.life; field_is = omega arith; fits = omega (arith, c.pack-link.ensures.word, c.requires.next, low, life); link = λ y. (c.pack-link.ensures.tag ∙ life, c.pack-link.ensures.mark); fresh = h1.held.fresh }
+    let low : x.tag < 2 ^ 39 = life_tag_low t0.view c.requires.table.layout c.requires.table.sound.kept x h0.held.life
+    in
+    record {
+      life = h1.held.life;
+      field_is = omega arith;
+      fits = omega
+          (arith, c.pack-link.ensures.word, c.requires.next, low, life);
+      link = λ y.
+          (c.pack-link.ensures.tag ∙ life, c.pack-link.ensures.mark);
+      fresh = h1.held.fresh;
+    }
 
 pub store_private-requires-3-clause-may : goal.store_private-requires-3-clause-may
 store_private-requires-3-clause-may c =
@@ -53,7 +70,15 @@ store_private-requires-3-clause-may c =
     let o2 = c.store_private-2.ensures.table in
     let s2 = c.store_private-2.ensures.stored in
     let h2 = filling t1.view t2.view x 1 c.pack-link.result.0 o1.layout o1.sound h1 s2 in
-    record { life = h2.held.life; field_is = omega arith; fits = omega (arith, c.pack-to.ensures.word, c.requires.index, c.requires.tag); link = λ y. absurd (omega (arith, y)); fresh = h2.held.fresh }
+    record {
+      life = h2.held.life;
+      field_is = omega arith;
+      fits = omega
+          (arith, c.pack-to.ensures.word, c.requires.index, c.requires.tag);
+      link = λ y. absurd
+          (omega (arith, y));
+      fresh = h2.held.fresh;
+    }
 
 pub store_private-requires-4-clause-may : goal.store_private-requires-4-clause-may
 store_private-requires-4-clause-may c =
@@ -73,7 +98,15 @@ store_private-requires-4-clause-may c =
     let o3 = c.store_private-3.ensures.table in
     let s3 = c.store_private-3.ensures.stored in
     let h3 = filling t2.view t3.view x 2 c.pack-to.result.0 o2.layout o2.sound h2 s3 in
-    record { life = h3.held.life; field_is = omega arith; fits = omega (arith, c.from-amount.ensures, c.ranges.weight.fits); link = λ y. absurd (omega (arith, y)); fresh = h3.held.fresh }
+    record {
+      life = h3.held.life;
+      field_is = omega arith;
+      fits = omega
+          (arith, c.from-amount.ensures, c.ranges.weight.fits);
+      link = λ y. absurd
+          (omega (arith, y));
+      fresh = h3.held.fresh;
+    }
 
 pub returns-clause-holding : goal.returns-clause-holding
 returns-clause-holding c =
@@ -152,7 +185,8 @@ returns-clause-goes c =
     let g2 = filling_goes t1.view t2.view x 1 c.pack-link.result.0 o1.sound h1 s2 in
     let g3 = filling_goes t2.view t3.view x 2 c.pack-to.result.0 o2.sound h2 s3 in
     let g4 = filling_goes t3.view t4.view x 3 c.from-amount.result o3.sound h3 s4 in
-    goes_further t0.view t1.view t4.view g1 (goes_further t1.view t2.view t4.view g2 (goes_further t2.view t3.view t4.view g3 g4))
+    goes_further t0.view t1.view t4.view g1 (goes_further t1.view t2.view t4.view g2
+    (goes_further t2.view t3.view t4.view g3 g4))
 
 pub returns-clause-filled : goal.returns-clause-filled
 returns-clause-filled c =
@@ -178,12 +212,15 @@ returns-clause-filled c =
     let h4 = filling t3.view t4.view x 3 c.from-amount.result o3.layout o3.sound h3 s4 in
     let y = t4.view.sizes in
     let last = o4.sizes in
-    let link : c.pack-link.result.0 ≡ pack c.args.next 0 x.tag = c.pack-link.ensures.word ∙ ap (λ (l : Life). pack c.args.next 0 l.tag) c.life-life.ensures.life in
+    let link : c.pack-link.result.0 ≡ pack c.args.next 0 x.tag = c.pack-link.ensures.word ∙ ap
+    (λ (l : Life). pack c.args.next 0 l.tag) c.life-life.ensures.life in
     let w1 = wrote y t0.view t1.view x 0 c.args.key (o0.sizes ∙ sym last) o0.layout o0.sound h0 s1 in
     let w2 = wrote y t1.view t2.view x 1 c.pack-link.result.0 (o1.sizes ∙ sym last) o1.layout o1.sound h1 s2 in
     let w3 = wrote y t2.view t3.view x 2 c.pack-to.result.0 (o2.sizes ∙ sym last) o2.layout o2.sound h2 s3 in
     let w4 = wrote y t3.view t4.view x 3 c.from-amount.result (o3.sizes ∙ sym last) o3.layout o3.sound h3 s4 in
-    filled_edge y x c.args.key c.args.next c.args.target c.args.weight t0.view.front t1.view.front t2.view.front t3.view.front t4.view.front c.requires.key c.requires.some (omega (arith, c.ranges.weight.fits)) h4.held.life.tag
+    filled_edge y x c.args.key c.args.next c.args.target c.args.weight t0.view.front t1.view.front t2.view.front
+    t3.view.front t4.view.front c.requires.key c.requires.some
+    (omega (arith, c.ranges.weight.fits)) h4.held.life.tag
     w1
     (subst (λ (k : ℕ). Wrote y x.index t1.view.front t2.view.front (key_at y x.index + 1) k) link w2)
     (subst (λ (k : ℕ). Wrote y x.index t2.view.front t3.view.front (key_at y x.index + 2) k) c.pack-to.ensures.word w3)

@@ -12,9 +12,12 @@ link_at-requires c =
     let source = c.args.source in
     let same0 : c.layout-layout.result ≡ v.sizes = c.layout-layout.ensures.sizes ∙ sym c.requires.table.sizes in
     let same : c.layout-layout.result ≡ m.sizes = c.layout-layout.ensures.sizes ∙ sym c.load.ensures.table.sizes in
-    let at : c.second_at-place.result ≡ second_at v.sizes source.index = c.second_at-place.ensures.place ∙ ap (λ (q : Sizes). second_at q source.index) same0 in
-    let led = list_loaded v m source c.second_at-place.result c.load.result c.requires.table.layout c.load.ensures.table.layout c.requires.number c.requires.table.sound c.requires.met at c.load.ensures.looked in
-    let d = leads_there c.load.result c.index-index.result (IsEdgeIn m source) led.1 c.index-index.ensures.index c.if-index-eq16777215.false in
+    let at : c.second_at-place.result ≡ second_at v.sizes source.index = c.second_at-place.ensures.place ∙ ap
+    (λ (q : Sizes). second_at q source.index) same0 in
+    let led = list_loaded v m source c.second_at-place.result c.load.result c.requires.table.layout
+    c.load.ensures.table.layout c.requires.number c.requires.table.sound c.requires.met at c.load.ensures.looked in
+    let d = leads_there c.load.result c.index-index.result (IsEdgeIn m source) led.1 c.index-index.ensures.index
+    c.if-index-eq16777215.false in
     subst (λ (q : Sizes). c.index-index.result < q.nodes) (sym same) d.life.there
 
 pub returns-clause-edge : goal.returns-clause-edge
@@ -24,9 +27,15 @@ returns-clause-edge c =
     let source = c.args.source in
     let same0 : c.layout-layout.result ≡ v.sizes = c.layout-layout.ensures.sizes ∙ sym c.requires.table.sizes in
     let same : c.layout-layout.result ≡ m.sizes = c.layout-layout.ensures.sizes ∙ sym c.load.ensures.table.sizes in
-    let at : c.second_at-place.result ≡ second_at v.sizes source.index = c.second_at-place.ensures.place ∙ ap (λ (q : Sizes). second_at q source.index) same0 in
-    let led = list_loaded v m source c.second_at-place.result c.load.result c.requires.table.layout c.load.ensures.table.layout c.requires.number c.requires.table.sound c.requires.met at c.load.ensures.looked in
-    let d = leads_there c.load.result c.index-index.result (IsEdgeIn m source) led.1 c.index-index.ensures.index c.if-index-eq16777215.false in
-    let has = loaded_numbered v m c.requires.number c.requires.table.sound (loaded v c.second_at-place.result c.load.result m c.load.ensures.looked) in
-    edge_loaded m c.load-2.new.token.view source c.index-index.result c.link_at.result c.load-2.result c.tag-tag.result c.load.ensures.table.layout c.load-2.ensures.table.layout has c.load.ensures.table.sound d c.load-2.ensures.looked
+    let at : c.second_at-place.result ≡ second_at v.sizes source.index = c.second_at-place.ensures.place ∙ ap
+    (λ (q : Sizes). second_at q source.index) same0 in
+    let led = list_loaded v m source c.second_at-place.result c.load.result c.requires.table.layout
+    c.load.ensures.table.layout c.requires.number c.requires.table.sound c.requires.met at c.load.ensures.looked in
+    let d = leads_there c.load.result c.index-index.result (IsEdgeIn m source) led.1 c.index-index.ensures.index
+    c.if-index-eq16777215.false in
+    let has = loaded_numbered v m c.requires.number c.requires.table.sound
+    (loaded v c.second_at-place.result c.load.result m c.load.ensures.looked) in
+    edge_loaded m c.load-2.new.token.view source c.index-index.result c.link_at.result c.load-2.result c.tag-tag.result
+    c.load.ensures.table.layout c.load-2.ensures.table.layout has c.load.ensures.table.sound d
+    c.load-2.ensures.looked
     (c.link_at.ensures.place ∙ ap (λ (q : Sizes). link_at q c.index-index.result) same) c.tag-tag.ensures.tag

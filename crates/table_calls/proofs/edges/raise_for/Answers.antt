@@ -9,7 +9,8 @@ use Rattle.core_rule.proofs.ViewShows.{edge_still, may_raise, step_goes_on, win_
 use Rattle.table_calls.specs.Edges.{RaisesFor}
 use Rattle.table_calls.proofs.Known.{rests_on}
 use Rattle.table_calls.proofs.ListWords.{raised_for, raised_uses}
-use Rattle.table_calls.proofs.Loaded.{bit, found_still, loaded_chain, loaded_goes, loaded_holding, loaded_numbered, loaded_resting, loaded_uses, holds_on}
+use Rattle.table_calls.proofs.Loaded.{bit, found_still, loaded_chain, loaded_goes, loaded_holding, loaded_numbered}
+use Rattle.table_calls.proofs.Loaded.{loaded_resting, loaded_uses, holds_on}
 use Rattle.table_calls.proofs.edges.raise_for.Goals as goal
 
 pub returns-in_default-clause-resting : goal.returns-in_default-clause-resting
@@ -49,7 +50,8 @@ returns-in_default-find_edge-clause-resting c rest =
     let v2 = c.find_edge.new.token.view in
     let l2 = loaded_chain v v1 v2 l1 c.find_edge.ensures.loaded in
     let source = c.in-Some.source in
-    let g2 = loaded_goes v1 v2 (loaded_numbered v v1 n.number s l1) c.find_first.ensures.table.sound c.find_edge.ensures.loaded in
+    let g2 = loaded_goes v1 v2 (loaded_numbered v v1 n.number s l1) c.find_first.ensures.table.sound
+    c.find_edge.ensures.loaded in
     let f2 = found_still v1 v2 c.args.bucket source c.find_first.ensures.table.layout g2 c.in-Some.ensures.found in
     loaded_resting v v2 n.number s l2 true rest
 
@@ -63,7 +65,8 @@ returns-in_default-find_edge-clause-holding c y held =
     let v2 = c.find_edge.new.token.view in
     let l2 = loaded_chain v v1 v2 l1 c.find_edge.ensures.loaded in
     let source = c.in-Some.source in
-    let g2 = loaded_goes v1 v2 (loaded_numbered v v1 n.number s l1) c.find_first.ensures.table.sound c.find_edge.ensures.loaded in
+    let g2 = loaded_goes v1 v2 (loaded_numbered v v1 n.number s l1) c.find_first.ensures.table.sound
+    c.find_edge.ensures.loaded in
     let f2 = found_still v1 v2 c.args.bucket source c.find_first.ensures.table.layout g2 c.in-Some.ensures.found in
     loaded_holding v v2 n.number s l2 n.table.layout y held
 
@@ -77,7 +80,8 @@ returns-in_default-find_edge-clause-uses c =
     let v2 = c.find_edge.new.token.view in
     let l2 = loaded_chain v v1 v2 l1 c.find_edge.ensures.loaded in
     let source = c.in-Some.source in
-    let g2 = loaded_goes v1 v2 (loaded_numbered v v1 n.number s l1) c.find_first.ensures.table.sound c.find_edge.ensures.loaded in
+    let g2 = loaded_goes v1 v2 (loaded_numbered v v1 n.number s l1) c.find_first.ensures.table.sound
+    c.find_edge.ensures.loaded in
     let f2 = found_still v1 v2 c.args.bucket source c.find_first.ensures.table.layout g2 c.in-Some.ensures.found in
     omega (arith, loaded_uses v v2 n.number s l2)
 
@@ -91,7 +95,8 @@ returns-in_default-find_edge-clause-none c none =
     let v2 = c.find_edge.new.token.view in
     let l2 = loaded_chain v v1 v2 l1 c.find_edge.ensures.loaded in
     let source = c.in-Some.source in
-    let g2 = loaded_goes v1 v2 (loaded_numbered v v1 n.number s l1) c.find_first.ensures.table.sound c.find_edge.ensures.loaded in
+    let g2 = loaded_goes v1 v2 (loaded_numbered v v1 n.number s l1) c.find_first.ensures.table.sound
+    c.find_edge.ensures.loaded in
     let f2 = found_still v1 v2 c.args.bucket source c.find_first.ensures.table.layout g2 c.in-Some.ensures.found in
     inr (inl (source, f2, c.in_default-find_edge.ensures.none refl))
 
@@ -105,7 +110,8 @@ returns-then-marked-clause-resting c rest =
     let v2 = c.find_edge.new.token.view in
     let l2 = loaded_chain v v1 v2 l1 c.find_edge.ensures.loaded in
     let source = c.in-Some.source in
-    let g2 = loaded_goes v1 v2 (loaded_numbered v v1 n.number s l1) c.find_first.ensures.table.sound c.find_edge.ensures.loaded in
+    let g2 = loaded_goes v1 v2 (loaded_numbered v v1 n.number s l1) c.find_first.ensures.table.sound
+    c.find_edge.ensures.loaded in
     let f2 = found_still v1 v2 c.args.bucket source c.find_first.ensures.table.layout g2 c.in-Some.ensures.found in
     loaded_resting v v2 n.number s l2 true rest
 
@@ -119,7 +125,8 @@ returns-then-marked-clause-holding c y held =
     let v2 = c.find_edge.new.token.view in
     let l2 = loaded_chain v v1 v2 l1 c.find_edge.ensures.loaded in
     let source = c.in-Some.source in
-    let g2 = loaded_goes v1 v2 (loaded_numbered v v1 n.number s l1) c.find_first.ensures.table.sound c.find_edge.ensures.loaded in
+    let g2 = loaded_goes v1 v2 (loaded_numbered v v1 n.number s l1) c.find_first.ensures.table.sound
+    c.find_edge.ensures.loaded in
     let f2 = found_still v1 v2 c.args.bucket source c.find_first.ensures.table.layout g2 c.in-Some.ensures.found in
     loaded_holding v v2 n.number s l2 n.table.layout y held
 
@@ -133,7 +140,8 @@ returns-then-marked-clause-uses c =
     let v2 = c.find_edge.new.token.view in
     let l2 = loaded_chain v v1 v2 l1 c.find_edge.ensures.loaded in
     let source = c.in-Some.source in
-    let g2 = loaded_goes v1 v2 (loaded_numbered v v1 n.number s l1) c.find_first.ensures.table.sound c.find_edge.ensures.loaded in
+    let g2 = loaded_goes v1 v2 (loaded_numbered v v1 n.number s l1) c.find_first.ensures.table.sound
+    c.find_edge.ensures.loaded in
     let f2 = found_still v1 v2 c.args.bucket source c.find_first.ensures.table.layout g2 c.in-Some.ensures.found in
     omega (arith, loaded_uses v v2 n.number s l2)
 
@@ -147,7 +155,8 @@ returns-then-marked-clause-none c none =
     let v2 = c.find_edge.new.token.view in
     let l2 = loaded_chain v v1 v2 l1 c.find_edge.ensures.loaded in
     let source = c.in-Some.source in
-    let g2 = loaded_goes v1 v2 (loaded_numbered v v1 n.number s l1) c.find_first.ensures.table.sound c.find_edge.ensures.loaded in
+    let g2 = loaded_goes v1 v2 (loaded_numbered v v1 n.number s l1) c.find_first.ensures.table.sound
+    c.find_edge.ensures.loaded in
     let f2 = found_still v1 v2 c.args.bucket source c.find_first.ensures.table.layout g2 c.in-Some.ensures.found in
     let x = c.in-Some-find_edge.edge.life in
     let seen = c.in-Some-find_edge.edge.seen.0 in
@@ -156,7 +165,13 @@ returns-then-marked-clause-none c none =
     let s2 = c.find_edge.ensures.table.sound in
     let z2 = c.find_edge.ensures.table.layout in
     let has2 = loaded_numbered v v2 n.number s l2 in
-    inr (inr (record { source = source; life = x; seen = seen; first = record { vertex = f2; edge = met; link = link }; cut = c.marked.ensures.0 c.if-marked.true }))
+    inr (inr (record {
+      source = source;
+      life = x;
+      seen = seen;
+      first = record { vertex = f2; edge = met; link = link };
+      cut = c.marked.ensures.0 c.if-marked.true;
+    }))
 
 pub raise-requires-clause-may : goal.raise-requires-clause-may
 raise-requires-clause-may c =
@@ -168,7 +183,8 @@ raise-requires-clause-may c =
     let v2 = c.find_edge.new.token.view in
     let l2 = loaded_chain v v1 v2 l1 c.find_edge.ensures.loaded in
     let source = c.in-Some.source in
-    let g2 = loaded_goes v1 v2 (loaded_numbered v v1 n.number s l1) c.find_first.ensures.table.sound c.find_edge.ensures.loaded in
+    let g2 = loaded_goes v1 v2 (loaded_numbered v v1 n.number s l1) c.find_first.ensures.table.sound
+    c.find_edge.ensures.loaded in
     let f2 = found_still v1 v2 c.args.bucket source c.find_first.ensures.table.layout g2 c.in-Some.ensures.found in
     let x = c.in-Some-find_edge.edge.life in
     let seen = c.in-Some-find_edge.edge.seen.0 in
@@ -178,9 +194,11 @@ raise-requires-clause-may c =
     let z2 = c.find_edge.ensures.table.layout in
     let has2 = loaded_numbered v v2 n.number s l2 in
     let not = c.if-marked.false in
-    let live : mark_of seen ≡ 0 = ⊎_elim (λ (h : mark_of seen ≡ 0). h) (λ (h : mark_of seen ≡ 1). let yes : c.marked.result ≡ true = c.marked.ensures.1 h in absurd (cc)) (bit seen) in
+    let live : mark_of seen ≡ 0 = ⊎_elim (λ (h : mark_of seen ≡ 0). h)
+    (λ (h : mark_of seen ≡ 1). let yes : c.marked.result ≡ true = c.marked.ensures.1 h in absurd (cc)) (bit seen) in
     let few = c.requires.few in
-    may_raise v2 z2 s2.kept source x met f2.met (ap mark_of (sym link) ∙ live) (omega (arith, loaded_uses v v2 n.number s l2, few))
+    may_raise v2 z2 s2.kept source x met f2.met (ap mark_of (sym link) ∙ live)
+    (omega (arith, loaded_uses v v2 n.number s l2, few))
 
 pub returns-clause-resting : goal.returns-clause-resting
 returns-clause-resting c rest =
@@ -192,7 +210,8 @@ returns-clause-resting c rest =
     let v2 = c.find_edge.new.token.view in
     let l2 = loaded_chain v v1 v2 l1 c.find_edge.ensures.loaded in
     let source = c.in-Some.source in
-    let g2 = loaded_goes v1 v2 (loaded_numbered v v1 n.number s l1) c.find_first.ensures.table.sound c.find_edge.ensures.loaded in
+    let g2 = loaded_goes v1 v2 (loaded_numbered v v1 n.number s l1) c.find_first.ensures.table.sound
+    c.find_edge.ensures.loaded in
     let f2 = found_still v1 v2 c.args.bucket source c.find_first.ensures.table.layout g2 c.in-Some.ensures.found in
     let x = c.in-Some-find_edge.edge.life in
     let seen = c.in-Some-find_edge.edge.seen.0 in
@@ -202,11 +221,14 @@ returns-clause-resting c rest =
     let z2 = c.find_edge.ensures.table.layout in
     let has2 = loaded_numbered v v2 n.number s l2 in
     let not = c.if-marked.false in
-    let live : mark_of seen ≡ 0 = ⊎_elim (λ (h : mark_of seen ≡ 0). h) (λ (h : mark_of seen ≡ 1). let yes : c.marked.result ≡ true = c.marked.ensures.1 h in absurd (cc)) (bit seen) in
+    let live : mark_of seen ≡ 0 = ⊎_elim (λ (h : mark_of seen ≡ 0). h)
+    (λ (h : mark_of seen ≡ 1). let yes : c.marked.result ≡ true = c.marked.ensures.1 h in absurd (cc)) (bit seen) in
     let v3 = c.raise.new.token.view in
     let e = raise_event v2 source c.raise.result in
-    let t = win_steps v2 (third_at c.args.table.now.sizes source.index) c.raise.result e v3 has2 s2 c.raise.ensures.raised in
-    rests_on true v2 v3 (Some e) t (λ y. absurd (cc)) ((λ y. absurd (cc)), (λ y. absurd (cc))) (loaded_resting v v2 n.number s l2 true rest)
+    let t = win_steps v2 (third_at c.args.table.now.sizes source.index) c.raise.result e v3 has2 s2
+    c.raise.ensures.raised in
+    rests_on true v2 v3 (Some e) t (λ y. absurd (cc)) ((λ y. absurd (cc)), (λ y. absurd (cc)))
+    (loaded_resting v v2 n.number s l2 true rest)
 
 pub returns-clause-holding : goal.returns-clause-holding
 returns-clause-holding c y held =
@@ -218,7 +240,8 @@ returns-clause-holding c y held =
     let v2 = c.find_edge.new.token.view in
     let l2 = loaded_chain v v1 v2 l1 c.find_edge.ensures.loaded in
     let source = c.in-Some.source in
-    let g2 = loaded_goes v1 v2 (loaded_numbered v v1 n.number s l1) c.find_first.ensures.table.sound c.find_edge.ensures.loaded in
+    let g2 = loaded_goes v1 v2 (loaded_numbered v v1 n.number s l1) c.find_first.ensures.table.sound
+    c.find_edge.ensures.loaded in
     let f2 = found_still v1 v2 c.args.bucket source c.find_first.ensures.table.layout g2 c.in-Some.ensures.found in
     let x = c.in-Some-find_edge.edge.life in
     let seen = c.in-Some-find_edge.edge.seen.0 in
@@ -228,11 +251,14 @@ returns-clause-holding c y held =
     let z2 = c.find_edge.ensures.table.layout in
     let has2 = loaded_numbered v v2 n.number s l2 in
     let not = c.if-marked.false in
-    let live : mark_of seen ≡ 0 = ⊎_elim (λ (h : mark_of seen ≡ 0). h) (λ (h : mark_of seen ≡ 1). let yes : c.marked.result ≡ true = c.marked.ensures.1 h in absurd (cc)) (bit seen) in
+    let live : mark_of seen ≡ 0 = ⊎_elim (λ (h : mark_of seen ≡ 0). h)
+    (λ (h : mark_of seen ≡ 1). let yes : c.marked.result ≡ true = c.marked.ensures.1 h in absurd (cc)) (bit seen) in
     let v3 = c.raise.new.token.view in
     let e = raise_event v2 source c.raise.result in
-    let t = win_steps v2 (third_at c.args.table.now.sizes source.index) c.raise.result e v3 has2 s2 c.raise.ensures.raised in
-    holds_on v2 v3 (Some e) z2 t refl ((λ z. absurd (cc)), (λ z. absurd (cc))) y (loaded_holding v v2 n.number s l2 n.table.layout y held)
+    let t = win_steps v2 (third_at c.args.table.now.sizes source.index) c.raise.result e v3 has2 s2
+    c.raise.ensures.raised in
+    holds_on v2 v3 (Some e) z2 t refl ((λ z. absurd (cc)), (λ z. absurd (cc))) y
+    (loaded_holding v v2 n.number s l2 n.table.layout y held)
 
 pub returns-clause-live : goal.returns-clause-live
 returns-clause-live c =
@@ -244,7 +270,8 @@ returns-clause-live c =
     let v2 = c.find_edge.new.token.view in
     let l2 = loaded_chain v v1 v2 l1 c.find_edge.ensures.loaded in
     let source = c.in-Some.source in
-    let g2 = loaded_goes v1 v2 (loaded_numbered v v1 n.number s l1) c.find_first.ensures.table.sound c.find_edge.ensures.loaded in
+    let g2 = loaded_goes v1 v2 (loaded_numbered v v1 n.number s l1) c.find_first.ensures.table.sound
+    c.find_edge.ensures.loaded in
     let f2 = found_still v1 v2 c.args.bucket source c.find_first.ensures.table.layout g2 c.in-Some.ensures.found in
     let x = c.in-Some-find_edge.edge.life in
     let seen = c.in-Some-find_edge.edge.seen.0 in
@@ -254,7 +281,8 @@ returns-clause-live c =
     let z2 = c.find_edge.ensures.table.layout in
     let has2 = loaded_numbered v v2 n.number s l2 in
     let not = c.if-marked.false in
-    let live : mark_of seen ≡ 0 = ⊎_elim (λ (h : mark_of seen ≡ 0). h) (λ (h : mark_of seen ≡ 1). let yes : c.marked.result ≡ true = c.marked.ensures.1 h in absurd (cc)) (bit seen) in
+    let live : mark_of seen ≡ 0 = ⊎_elim (λ (h : mark_of seen ≡ 0). h)
+    (λ (h : mark_of seen ≡ 1). let yes : c.marked.result ≡ true = c.marked.ensures.1 h in absurd (cc)) (bit seen) in
     live
 
 pub returns-clause-uses : goal.returns-clause-uses
@@ -267,7 +295,8 @@ returns-clause-uses c =
     let v2 = c.find_edge.new.token.view in
     let l2 = loaded_chain v v1 v2 l1 c.find_edge.ensures.loaded in
     let source = c.in-Some.source in
-    let g2 = loaded_goes v1 v2 (loaded_numbered v v1 n.number s l1) c.find_first.ensures.table.sound c.find_edge.ensures.loaded in
+    let g2 = loaded_goes v1 v2 (loaded_numbered v v1 n.number s l1) c.find_first.ensures.table.sound
+    c.find_edge.ensures.loaded in
     let f2 = found_still v1 v2 c.args.bucket source c.find_first.ensures.table.layout g2 c.in-Some.ensures.found in
     let x = c.in-Some-find_edge.edge.life in
     let seen = c.in-Some-find_edge.edge.seen.0 in
@@ -277,11 +306,18 @@ returns-clause-uses c =
     let z2 = c.find_edge.ensures.table.layout in
     let has2 = loaded_numbered v v2 n.number s l2 in
     let not = c.if-marked.false in
-    let live : mark_of seen ≡ 0 = ⊎_elim (λ (h : mark_of seen ≡ 0). h) (λ (h : mark_of seen ≡ 1). let yes : c.marked.result ≡ true = c.marked.ensures.1 h in absurd (cc)) (bit seen) in
+    let live : mark_of seen ≡ 0 = ⊎_elim (λ (h : mark_of seen ≡ 0). h)
+    (λ (h : mark_of seen ≡ 1). let yes : c.marked.result ≡ true = c.marked.ensures.1 h in absurd (cc)) (bit seen) in
     let v3 = c.raise.new.token.view in
     let e = raise_event v2 source c.raise.result in
-    let t = win_steps v2 (third_at c.args.table.now.sizes source.index) c.raise.result e v3 has2 s2 c.raise.ensures.raised in
-    omega (arith, loaded_uses v v2 n.number s l2, raised_uses v2 v3 source (third_at c.args.table.now.sizes source.index) c.raise.result has2 s2 c.raise.ensures.raised)
+    let t = win_steps v2 (third_at c.args.table.now.sizes source.index) c.raise.result e v3 has2 s2
+    c.raise.ensures.raised in
+    omega (
+      arith,
+      loaded_uses v v2 n.number s l2,
+      raised_uses v2 v3 source
+          (third_at c.args.table.now.sizes source.index) c.raise.result has2 s2 c.raise.ensures.raised,
+    )
 
 pub returns-clause-may : goal.returns-clause-may
 returns-clause-may c =
@@ -293,7 +329,8 @@ returns-clause-may c =
     let v2 = c.find_edge.new.token.view in
     let l2 = loaded_chain v v1 v2 l1 c.find_edge.ensures.loaded in
     let source = c.in-Some.source in
-    let g2 = loaded_goes v1 v2 (loaded_numbered v v1 n.number s l1) c.find_first.ensures.table.sound c.find_edge.ensures.loaded in
+    let g2 = loaded_goes v1 v2 (loaded_numbered v v1 n.number s l1) c.find_first.ensures.table.sound
+    c.find_edge.ensures.loaded in
     let f2 = found_still v1 v2 c.args.bucket source c.find_first.ensures.table.layout g2 c.in-Some.ensures.found in
     let x = c.in-Some-find_edge.edge.life in
     let seen = c.in-Some-find_edge.edge.seen.0 in
@@ -303,13 +340,16 @@ returns-clause-may c =
     let z2 = c.find_edge.ensures.table.layout in
     let has2 = loaded_numbered v v2 n.number s l2 in
     let not = c.if-marked.false in
-    let live : mark_of seen ≡ 0 = ⊎_elim (λ (h : mark_of seen ≡ 0). h) (λ (h : mark_of seen ≡ 1). let yes : c.marked.result ≡ true = c.marked.ensures.1 h in absurd (cc)) (bit seen) in
+    let live : mark_of seen ≡ 0 = ⊎_elim (λ (h : mark_of seen ≡ 0). h)
+    (λ (h : mark_of seen ≡ 1). let yes : c.marked.result ≡ true = c.marked.ensures.1 h in absurd (cc)) (bit seen) in
     let v3 = c.raise.new.token.view in
     let e = raise_event v2 source c.raise.result in
-    let t = win_steps v2 (third_at c.args.table.now.sizes source.index) c.raise.result e v3 has2 s2 c.raise.ensures.raised in
+    let t = win_steps v2 (third_at c.args.table.now.sizes source.index) c.raise.result e v3 has2 s2
+    c.raise.ensures.raised in
     let may : MayMarkEdge v3 source x = record {
       edge = edge_still v2 v3 z2 (step_goes_on v2 v3 (Some e) t ((λ y. absurd (cc)), (λ y. absurd (cc)))) source x met;
-      raised = raised_for v2 v3 source x (third_at c.args.table.now.sizes source.index) c.raise.result z2 has2 s2 met c.raise.ensures.raised;
+      raised = raised_for v2 v3 source x (third_at c.args.table.now.sizes source.index) c.raise.result z2 has2 s2 met
+          c.raise.ensures.raised;
     } in
     subst (λ (l : Life). MayMarkEdge v3 l x) (sym c.in-Some-find_edge.ensures.source) may
 
@@ -323,7 +363,8 @@ returns-clause-raises c =
     let v2 = c.find_edge.new.token.view in
     let l2 = loaded_chain v v1 v2 l1 c.find_edge.ensures.loaded in
     let source = c.in-Some.source in
-    let g2 = loaded_goes v1 v2 (loaded_numbered v v1 n.number s l1) c.find_first.ensures.table.sound c.find_edge.ensures.loaded in
+    let g2 = loaded_goes v1 v2 (loaded_numbered v v1 n.number s l1) c.find_first.ensures.table.sound
+    c.find_edge.ensures.loaded in
     let f2 = found_still v1 v2 c.args.bucket source c.find_first.ensures.table.layout g2 c.in-Some.ensures.found in
     let x = c.in-Some-find_edge.edge.life in
     let seen = c.in-Some-find_edge.edge.seen.0 in
@@ -333,10 +374,22 @@ returns-clause-raises c =
     let z2 = c.find_edge.ensures.table.layout in
     let has2 = loaded_numbered v v2 n.number s l2 in
     let not = c.if-marked.false in
-    let live : mark_of seen ≡ 0 = ⊎_elim (λ (h : mark_of seen ≡ 0). h) (λ (h : mark_of seen ≡ 1). let yes : c.marked.result ≡ true = c.marked.ensures.1 h in absurd (cc)) (bit seen) in
+    let live : mark_of seen ≡ 0 = ⊎_elim (λ (h : mark_of seen ≡ 0). h)
+    (λ (h : mark_of seen ≡ 1). let yes : c.marked.result ≡ true = c.marked.ensures.1 h in absurd (cc)) (bit seen) in
     let v3 = c.raise.new.token.view in
     let e = raise_event v2 source c.raise.result in
-    let t = win_steps v2 (third_at c.args.table.now.sizes source.index) c.raise.result e v3 has2 s2 c.raise.ensures.raised in
-    let won : Won v2 (third_at v2.sizes source.index) c.raise.result e v3 = subst (λ (q : Sizes). Won v2 (third_at q source.index) c.raise.result e v3) (sym c.find_edge.ensures.table.sizes) c.raise.ensures.raised in
-    let told : RaisesFor v c.args.bucket source x seen v3 = record { then = v2; loaded = l2; first = record { vertex = f2; edge = met; link = link }; live = live; found = c.raise.result; raised = won } in
+    let t = win_steps v2 (third_at c.args.table.now.sizes source.index) c.raise.result e v3 has2 s2
+    c.raise.ensures.raised in
+    let won : Won v2 (third_at v2.sizes source.index) c.raise.result e v3 = subst
+    (λ (q : Sizes). Won v2 (third_at q source.index) c.raise.result e v3)
+    (sym c.find_edge.ensures.table.sizes) c.raise.ensures.raised in
+    let told : RaisesFor v c.args.bucket source x seen v3 = record {
+      then = v2;
+      loaded = l2;
+      first = record { vertex = f2; edge = met; link = link };
+      live = live;
+      found =
+          c.raise.result;
+      raised = won;
+    } in
     subst (λ (l : Life). RaisesFor v c.args.bucket l x seen v3) (sym c.in-Some-find_edge.ensures.source) told

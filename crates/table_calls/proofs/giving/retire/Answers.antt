@@ -28,4 +28,6 @@ returns-clause-retired c =
     let w = c.load-epoch.new.token.view in
     let at : c.epoch_at.result ≡ epoch_at v.sizes = c.epoch_at.ensures.place in
     let k = loaded v c.epoch_at.result c.load-epoch.result w c.load-epoch.ensures.looked in
-    subst (λ (r : RipeValue). IsRetired None w r.life r.stamp) (sym c.ripen.ensures.ripe) (retired_now v w c.args.spent c.epoch_at.result c.load-epoch.result c.requires.table.layout c.requires.resting.numbered c.requires.table.sound c.requires.done c.load-epoch.ensures.looked at)
+    subst (λ (r : RipeValue). IsRetired None w r.life r.stamp) (sym c.ripen.ensures.ripe)
+    (retired_now v w c.args.spent c.epoch_at.result c.load-epoch.result c.requires.table.layout
+    c.requires.resting.numbered c.requires.table.sound c.requires.done c.load-epoch.ensures.looked at)

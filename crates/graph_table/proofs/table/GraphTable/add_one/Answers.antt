@@ -8,5 +8,6 @@ pub fetch_add-requires : goal.fetch_add-requires
 fetch_add-requires g c = (
   search rules,
   search rules,
-  turns_at _ _ _ _ 1 0 none _ _ _ _ c.token.invariant.0 (search rules) (search rules) (owes_inside _ _ _ _ _ _ _ c.token.view_is c.requires.owes),
+  turns_at _ _ _ _ 1 0 none _ _ _ _ c.token.invariant.0 (search rules) (search rules)
+      (owes_inside _ _ _ _ _ _ _ c.token.view_is c.requires.owes),
 )

@@ -8,5 +8,6 @@ pub compare_exchange-requires : goal.compare_exchange-requires
 compare_exchange-requires g c = (
   search rules,
   search rules,
-  turns_at _ _ _ _ c.args.seen c.args.new none _ _ _ _ c.token.invariant.0 (search rules) (search rules) (owes_inside _ _ _ _ _ _ _ c.token.view_is c.requires.owes),
+  turns_at _ _ _ _ c.args.seen c.args.new none _ _ _ _ c.token.invariant.0 (search rules) (search rules)
+      (owes_inside _ _ _ _ _ _ _ c.token.view_is c.requires.owes),
 )

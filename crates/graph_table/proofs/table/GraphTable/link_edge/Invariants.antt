@@ -3,4 +3,8 @@ use Rattle.graph_table.specs.Filled.{filled_edge_event}
 use Rattle.graph_table.proofs.table.GraphTable.link_edge.Given as goal
 
 abbrev pub ghosts-exchange : goal.ghosts-exchange
-ghosts-exchange a = record { wins = λ n. n == a.seen; event = λ _. filled_edge_event a.token.now.view a.place a.seen a._life }
+ghosts-exchange a = record {
+  wins = λ n. n == a.seen;
+  event = λ _. filled_edge_event a.token.now.view a.place a.seen
+      a._life;
+}

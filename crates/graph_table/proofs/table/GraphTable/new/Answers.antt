@@ -9,7 +9,8 @@ use Rattle.graph_table.proofs.table.GraphTable.new.Goals as goal
 pub of_words-requires : goal.of_words-requires
 of_words-requires c =
     let is : c.as_slice.result.now ≡ opening_words c.args.layout = c.as_slice.ensures.value ∙ c.in-Ok.ensures in
-    subst (λ (ws : List ℕ). Ruled c.args.layout (opening ws [] (first_view c.args.layout))) (sym is) (begins c.args.layout)
+    subst (λ (ws : List ℕ). Ruled c.args.layout (opening ws [] (first_view c.args.layout))) (sym is)
+    (begins c.args.layout)
 
 pub invariant_of-result : goal.invariant_of-result
 invariant_of-result c =

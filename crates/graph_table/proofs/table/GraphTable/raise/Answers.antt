@@ -10,5 +10,6 @@ add_one-requires-clause-owes c =
     let v = c.args.token.now.view in
     let x = c.args.from in
     add_owes v _ _ (raise_event v x) (search rules) (λ n. refl) (λ n. refl) (λ n. refl) (λ n. refl)
-    (λ journal r. let a = (lift_raise v c.requires.table.layout journal r x c.requires.may).vertex in omega (arith, (bounds v.sizes c.requires.table.layout journal r.kept).counters x.index a.there a.used a.vertex))
+    (λ journal r. let a = (lift_raise v c.requires.table.layout journal r x c.requires.may).vertex in omega
+    (arith, (bounds v.sizes c.requires.table.layout journal r.kept).counters x.index a.there a.used a.vertex))
     (λ journal r. lift_raise v c.requires.table.layout journal r x c.requires.may)

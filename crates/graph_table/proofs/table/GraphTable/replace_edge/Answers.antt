@@ -14,4 +14,5 @@ exchange-found-requires-clause-owes c =
     let old = c.args.old in
     let m = subst (λ (y : Life). MayReplaceByFilled v c.args.seen.0 old y) (sym c.fresh.view_is) c.requires.may in
     exchange_owes_at v _ _ _ _ (replaced_event v c.args.seen.0 old x) (search rules) refl refl refl (search rules)
-    (λ journal r is. lift_replace_edge v c.requires.table.layout journal r c.args.seen.0 (key_in v x.index) (source_in v old.index) (target_in v x.index) (weight_in v x.index) old x m is)
+    (λ journal r is. lift_replace_edge v c.requires.table.layout journal r c.args.seen.0 (key_in v x.index)
+    (source_in v old.index) (target_in v x.index) (weight_in v x.index) old x m is)

@@ -16,5 +16,8 @@ pack-word-requires-clause-tag_fits c =
 
 pub put-requires-clause-owes : goal.put-requires-clause-owes
 put-requires-clause-owes c = let x = c.ripe.inside.life in
-    let m = subst (λ (y : RipeValue). MayStoreFree c.args.token.now.view c.args.next y.life) (sym c.ripe.view_is) c.requires.may in
-    store_owes c.args.token.now.view _ _ (store_free_event c.args.token.now.view c.args.next x) refl (search rules) refl (search rules) (λ journal r. lift_store_free c.args.token.now.view c.requires.table.layout c.args.next x m journal r)
+    let m = subst (λ (y : RipeValue). MayStoreFree c.args.token.now.view c.args.next y.life)
+    (sym c.ripe.view_is) c.requires.may in
+    store_owes c.args.token.now.view _ _ (store_free_event c.args.token.now.view c.args.next x) refl (search rules) refl
+    (search rules) (λ journal r. lift_store_free c.args.token.now.view c.requires.table.layout c.args.next x m
+    journal r)

@@ -8,5 +8,7 @@ pub exchange-found-requires-clause-owes : goal.exchange-found-requires-clause-ow
 exchange-found-requires-clause-owes c =
     let v = c.args.token.now.view in
     let m = c.requires.may in
-    exchange_owes v _ _ _ (unlink_edge_event v c.args.place c.args.seen.0 c.args.next c.args.dead) refl refl refl (search rules)
-    (λ journal r is. lift_unlink_edge v c.requires.table.layout journal r c.args.place c.args.seen.0 c.args.next m.0 c.args.dead m.1 is)
+    exchange_owes v _ _ _ (unlink_edge_event v c.args.place c.args.seen.0 c.args.next c.args.dead) refl refl refl
+    (search rules)
+    (λ journal r is. lift_unlink_edge v c.requires.table.layout journal r c.args.place c.args.seen.0 c.args.next m.0
+    c.args.dead m.1 is)

@@ -5,4 +5,5 @@ use Rattle.core_rule.proofs.OwnLifts.{lift_withdraw}
 use Rattle.graph_table.proofs.table.GraphTable.withdraw.Goals as goal
 
 pub put-requires-clause-owes : goal.put-requires-clause-owes
-put-requires-clause-owes c = store_owes c.args.token.now.view _ _ (withdraw_event c.args.token.now.view) refl (search rules) refl (search rules) (λ journal r. lift_withdraw c.args.token.now.view c.requires.may journal r)
+put-requires-clause-owes c = store_owes c.args.token.now.view _ _ (withdraw_event c.args.token.now.view) refl
+    (search rules) refl (search rules) (λ journal r. lift_withdraw c.args.token.now.view c.requires.may journal r)
