@@ -4,8 +4,6 @@ use Rattle.core_journal.specs.Event.{pops, moves, raises}
 use Rattle.core_journal.specs.Reuse.{pass_in}
 use Rattle.packed_link.specs.declared.link.Life.{Life}
 use Rattle.core_kept.specs.Counts.{made}
-use Rattle.core_kept.specs.Nodes.{IsFreshWith}
-use Rattle.core_rule.specs.Fronts.{IsLifeAt}
 use Rattle.core_rule.specs.Stretches.{HasNoFresh, HasPass}
 use Rattle.core_rule.specs.declared.view.View.{View}
 use Rattle.core_stretches.specs.Holdings.{IsHeldFresh}

@@ -4,9 +4,7 @@ use Rattle.packed_link.specs.Link.{index_of, mark_of, nowhere}
 use Rattle.packed_link.specs.Layout.{bucket_at, link_at}
 use Rattle.packed_link.specs.declared.link.Life.{Life}
 use Rattle.core_journal.specs.Machine.{word_at}
-use Rattle.core_kept.specs.Freezing.{IsSpentVertex}
-use Rattle.core_lists.specs.Chains.{KeepsList}
-use Rattle.core_rule.specs.Fronts.{IsLifeAt, MetVertex, key_in}
+use Rattle.core_rule.specs.Fronts.{MetVertex, key_in}
 use Rattle.core_rule.specs.OwnEvents.{mark_vertex_event}
 use Rattle.core_rule.specs.declared.view.View.{View}
 use Rattle.core_stretches.specs.Holdings.{IsUnlinkedVertex}
