@@ -22,24 +22,10 @@ use Rattle.scan_record.specs.declared.rows.EdgeRow.{EdgeRow}
 use Rattle.scan_record.specs.Scan.{ScanValue, IsScan, IsComplete, row_at, edge_at, edges_of, last_edges, new_row, blank_life, blank_edge, empty_scan, with_started, with_edge}
 use Rattle.scan_record.specs.ScanGraph.{graph_of_scan, leads_to, weight_to}
 use Rattle.plain_graph.specs.Kept.{Edges, Vertices, Rises, graph_of, holds, weight_held, weight_by}
-use Rattle.plain_graph.specs.Collecting.{Numbers, IsNumbering, IsIndexed, with_key, Meets, told, edge_list, edges_at, LeadsToRow, IsReached, IsCollected}
+use Rattle.plain_graph.specs.declared.numbers.Numbers.{Numbers}
+use Rattle.plain_graph.specs.Collecting.{IsNumbering, IsIndexed, with_key, Meets, told, edge_list, edges_at, LeadsToRow, IsReached, IsCollected}
 use Rattle.plain_graph.proofs.Held.{has-held, weight-held}
-
-pub itself : (x : ℕ) → (x == x) ≡ true
-itself x = nat_eq_equiv.refl x
-
-pub at_key : (q k : ℕ) → is_at (nat_cmp q) k ≡ (k == q)
-at_key q k = unsigned_tied q k ∙ nat_eq_equiv.symm q k
-
--- a row that was there stays, and the new one has the key
-row_at-with_key : (s : ScanValue) (key k : ℕ) → k < length s.rows → row_at (with_key s key) k ≡ row_at s k
-row_at-with_key s key k h = get_or_append_left s.rows (new_row (record { index = length s.rows; tag = 1 }) key ∷ []) (new_row blank_life 0) k h
-
-pub row_at-new_key : (s : ScanValue) (key k : ℕ) → length s.rows ≡ k → row_at (with_key s key) k ≡ new_row (record { index = length s.rows; tag = 1 }) key
-row_at-new_key s key k h = get_or_push s.rows (new_row (record { index = length s.rows; tag = 1 }) key) (new_row blank_life 0) k h
-
-pub length-with_key : (s : ScanValue) (key : ℕ) → length (with_key s key).rows ≡ length s.rows + 1
-length-with_key s key = length_push s.rows (new_row (record { index = length s.rows; tag = 1 }) key)
+use Rattle.plain_graph.proofs.Numbering.{itself, at_key, row_at-with_key, row_at-new_key, length-with_key, numbering_kept}
 
 pub indexed_more : (s : ScanValue) (key : ℕ) → IsIndexed s → IsIndexed (with_key s key)
 indexed_more s key is k h =
@@ -48,20 +34,6 @@ indexed_more s key is k h =
       | inl lt ↦ ap (λ r. r.life.index) (row_at-with_key s key k lt) ∙ is k lt
       | inr ge ↦ let last : length s.rows ≡ k = omega arith in ap (λ r. r.life.index) (row_at-new_key s key k last) ∙ last
     ]
-
-pub numbering_more : (old new : Numbers) (s : ScanValue) (key : ℕ) → IsNumbering old s → ((k : ℕ) → k < length s.rows → (row_at s k).key ≢ key)
-    → ((q : ℕ) → get nat_cmp new q ≡ cond (is_at (nat_cmp key) q) (Some (length s.rows)) (get nat_cmp old q)) → IsNumbering new (with_key s key)
-numbering_more old new s key is absent noted k h =
-    let long = length-with_key s key in
-    elim (cases_lt k (length s.rows)) as (λ _. get nat_cmp new (row_at (with_key s key) k).key ≡ Some k) [
-      | inl lt ↦ ap (λ r. get nat_cmp new r.key) (row_at-with_key s key k lt) ∙ (noted (row_at s k).key ∙ (ap (λ t. cond t (Some (length s.rows)) (get nat_cmp old (row_at s k).key)) (at_key key (row_at s k).key) ∙ by lt ((row_at s k).key == key) refl))
-      | inr ge ↦ let last : length s.rows ≡ k = omega arith in
-          ap (λ r. get nat_cmp new r.key) (row_at-new_key s key k last) ∙ (noted key ∙ (ap (λ b. cond b (Some (length s.rows)) (get nat_cmp old key)) (at_key key key ∙ itself key) ∙ ap (λ n. Some n) last))
-    ]
-  where
-    by : k < length s.rows → (t : Bool) → ((row_at s k).key == key) ≡ t → cond t (Some (length s.rows)) (get nat_cmp old (row_at s k).key) ≡ Some k
-    by lt true e = absurd (absent k lt (eqb-true (row_at s k).key key e))
-    by lt false e = is k lt
 
 -- a scan with one row more meets its key, and so does one that has it
 pub meets_pushed : (s t : ScanValue) (key : ℕ) → t ≡ with_key s key → Meets s t key
@@ -87,10 +59,6 @@ meets_none s key = record {
   keys = refl;
   ends = refl;
 }
-
--- no row has a key where the number that is noted at it names none that has it
-pub no_row : (numbers : Numbers) (s : ScanValue) (key : ℕ) → IsNumbering numbers s → ((r : ℕ) → get nat_cmp numbers key ≡ Some r → r < length s.rows → (row_at s r).key ≡ key → ⊥) → (k : ℕ) → k < length s.rows → (row_at s k).key ≢ key
-no_row numbers s key is wrong k h same = wrong k (ap (get nat_cmp numbers) (sym same) ∙ is k h) h same
 
 -- the root's row alone
 pub collected_root : (m : Vertices) (numbers : Numbers) (s t : ScanValue) (root nodes : ℕ) → s ≡ empty_scan nodes → t ≡ with_key s root → holds m root ≡ true → IsNumbering numbers t → IsIndexed t → IsCollected m numbers t 0 0 × ((row_at t 0).key ≡ root)
@@ -196,7 +164,7 @@ module _ (m : Vertices) (numbers : Numbers) (s t : ScanValue) (n at : ℕ) (p : 
   collected_kept later next started keys ends targets = record {
     some = omega (arith, p.some, keeps.long);
     within = omega (arith, p.within, keeps.long);
-    numbering = λ k h. ap (get nat_cmp numbers) (keeps.keys k) ∙ p.numbering k (omega (arith, keeps.long));
+    numbering = numbering_kept numbers s t keeps.long keeps.keys p.numbering;
     indexed = λ k h. keeps.lives k ∙ p.indexed k (omega (arith, keeps.long));
     reached = λ k h. subst (λ (x : ℕ). IsReached m x (row_at t k).key) (sym (keeps.keys 0)) (subst (IsReached m (row_at s 0).key) (sym (keeps.keys k)) (p.reached k (omega (arith, keeps.long))));
     next = next;
@@ -322,12 +290,7 @@ pub collected_is_complete : (m : Vertices) (numbers : Numbers) (s : ScanValue) �
 collected_is_complete m numbers s p = record {
   has_root = p.some;
   all_started = p.started;
-  keys_differ = λ j k lt h same.
-      let one : get nat_cmp numbers (row_at s j).key ≡ Some j = p.numbering j (omega arith) in
-      let two : get nat_cmp numbers (row_at s k).key ≡ Some k = p.numbering k h in
-      let both : Some j ≡ Some k = sym one ∙ (ap (get nat_cmp numbers) same ∙ two) in
-      let equal : j ≡ k = cc in
-      omega arith;
+  keys_differ = p.numbering.differ;
   target_keys = λ q t h e.
       let l = All-get_or (LeadsToRow s) s.edges q blank_edge h p.targets in
       let both : Some l.row ≡ Some t = sym l.target ∙ e in

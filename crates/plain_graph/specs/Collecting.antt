@@ -1,20 +1,34 @@
 -- How a scan collects the part of a graph that is reached from a key: row 0 is that key's, and each key to which an
 -- edge leads from a row gets the next row when it is met first.
-use Rattle.std.specs.Prelude.{◌≡◌, ℕ, ◌<◌, ◌≤◌, List, [], length, map, All, Option, Some, None}
+use Rattle.std.specs.Prelude.{◌≡◌, ◌≢◌, ℕ, ◌<◌, ◌≤◌, ◌%◌, ◌⊎◌, List, [], length, map, All, Option, Some, None, slice_index}
 use Rattle.std.specs.Ordering.{nat_cmp}
-use Rattle.std.specs.BTreeMap.{BTreeMap, get}
+use Rattle.std.specs.BTreeMap.{get}
 use Rattle.scan_record.specs.declared.rows.EdgeRow.{EdgeRow}
 use Rattle.scan_record.specs.Scan.{ScanValue, row_at, edges_of, with_vertex}
 use Rattle.graph_kinds.specs.Path.{IsPath}
+use Rattle.plain_graph.specs.declared.numbers.Numbers.{Numbers}
 use Rattle.plain_graph.specs.Kept.{Edges, Vertices, graph_of}
 
--- the numbers of rows by their keys. A number counts only where the row that it names has the key
-abbrev pub Numbers : Type 0
-Numbers = BTreeMap ℕ ℕ
+-- the bucket of a key: there are 65,536
+abbrev pub bucket_of : ℕ → ℕ
+bucket_of key = key % 65536
 
--- each row's number is found at its key
-abbrev pub IsNumbering : Numbers → ScanValue → Type 0
-IsNumbering numbers s = (k : ℕ) → k < length s.rows → get nat_cmp numbers (row_at s k).key ≡ Some k
+-- the row of a number is there, and its key is of a bucket
+abbrev pub IsOfBucket : ScanValue → ℕ → ℕ → Type 0
+IsOfBucket s bucket r = (r < length s.rows) × (bucket_of (row_at s r).key ≡ bucket)
+
+-- the number that stands in the bucket of a key
+abbrev pub first_in : Numbers → ℕ → ℕ
+first_in numbers key = slice_index numbers.firsts.items (bucket_of key)
+
+-- the keys of rows differ; in the bucket of a row's key stands the number of a row of that bucket; and each row's
+-- number stands in its bucket, or is found at its key among the others
+pub record IsNumbering (numbers : Numbers) (s : ScanValue) : Type 0 where
+  pub wide : length numbers.firsts.items ≡ 65536
+  pub differ : (j k : ℕ) → j < k → k < length s.rows → (row_at s j).key ≢ (row_at s k).key
+  pub taken : (k : ℕ) → k < length s.rows → IsOfBucket s (bucket_of (row_at s k).key) (first_in numbers (row_at s k).key)
+  pub found : (k : ℕ) → k < length s.rows → (first_in numbers (row_at s k).key ≡ k)
+      ⊎ (get nat_cmp numbers.others (row_at s k).key ≡ Some k)
 
 -- each row's life has the row's number as its index
 abbrev pub IsIndexed : ScanValue → Type 0

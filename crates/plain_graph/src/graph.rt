@@ -16,6 +16,7 @@ ghost use Rattle.graph_kinds.specs.Answer.{change};
 ghost use Rattle.scan_record.specs.Scan.{IsComplete, row_at};
 ghost use Rattle.scan_record.specs.ScanGraph.{graph_of_scan};
 
+use crate::numbers::Numbers;
 use crate::{index, maps, parts};
 use graph_kinds::{Call, Memory};
 use scan_record::Scan;
@@ -31,7 +32,7 @@ pub struct PlainGraph {
     sources: BTreeMap<u32, BTreeMap<u32, u32>>,
     edges: u32,
     scan: Option<Scan>,
-    numbers: BTreeMap<u32, u32>,
+    numbers: Numbers,
 }
 
 impl Model for PlainGraph {
@@ -59,7 +60,7 @@ impl PlainGraph {
             sources: BTreeMap::new(alloc),
             edges: 0,
             scan: None,
-            numbers: BTreeMap::new(alloc),
+            numbers: Numbers::new(alloc),
         }
     }
 
@@ -160,7 +161,7 @@ impl PlainGraph {
         ensures { self.new ≡ change self.old (Call.RemoveVertex key) }
     {
         index::remove_vertex(&mut self.vertices, &mut self.sources, key);
-        self.numbers.remove(&key);
+        self.numbers.forget(key);
     }
 
     /// Takes out the edges that lead to a key. O(in-degree · log V).
