@@ -59,6 +59,24 @@ without-cut g h k keys weights = same_graph (without h k) (without g k)
     by false true w = refl
     by false false w = refl
 
+-- a key that is no vertex takes nothing with it
+pub without-absent : (g : Graph) (k : ℕ) → IsGraph g → has g k ≡ false → without g k ≡ g
+without-absent g k sound absent = same_graph (without g k) g
+    (λ q. has-without g k q ∙ by q (k == q) refl)
+    (weight-bare g k (λ a. no_source a (weight_of g a k) refl) (λ b. no_target b (weight_of g k b) refl))
+  where
+    by : (q : ℕ) (t : Bool) → (k == q) ≡ t → cond t false (has g q) ≡ has g q
+    by q true e = sym absent ∙ ap (has g) (eqb-true k q e)
+    by q false e = refl
+
+    no_source : (a : ℕ) (o : Option ℕ) → weight_of g a k ≡ o → weight_of g a k ≡ None
+    no_source a None e = e
+    no_source a (Some w) e = absurd (true≢false (sym (sound.to_key a k w e) ∙ absent))
+
+    no_target : (b : ℕ) (o : Option ℕ) → weight_of g k b ≡ o → weight_of g k b ≡ None
+    no_target b None e = e
+    no_target b (Some w) e = absurd (true≢false (sym (sound.from_key k b w e) ∙ absent))
+
 pub weight-add : (g : Graph) (x y w a b : ℕ) → weight_of (change g (AddEdge x y w)) a b ≡ cond ((x == a) && (y == b)) (Some w) (weight_of g a b)
 weight-add g x y w a b = weight_put g.pairs x y w a b ∙ (λ i. cond (nat_eq_equiv.symm a x i && nat_eq_equiv.symm b y i) (Some w) (weight_of g a b))
 

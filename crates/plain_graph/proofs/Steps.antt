@@ -40,12 +40,15 @@ kept-empty m e ordered = kept_of m (record { outer = ordered; inner = none }) em
 pub mirror-empty : (m sources : Vertices) → m.entries ≡ [] → sources.entries ≡ [] → IsOrdered nat_cmp sources → IsMirror m sources
 mirror-empty m sources e f ordered = record {
   rising = record { outer = ordered; inner = none };
-  keys = λ k. ap (λ (es : List (ℕ × Edges)). is_some (lookup (is_at (nat_cmp k)) es)) (f ∙ sym e);
   weights = λ a b. ap (λ (es : List (ℕ × Edges)). weight_by (lookup (is_at (nat_cmp b)) es) a) f ∙ sym (ap (λ (es : List (ℕ × Edges)). weight_by (lookup (is_at (nat_cmp a)) es) b) e);
 }
   where
     none : (k : ℕ) (edges : Edges) → get nat_cmp sources k ≡ Some edges → IsOrdered nat_cmp edges
     none k edges g = let no : None ≡ Some edges = ap (lookup (is_at (nat_cmp k))) (sym f) ∙ g in absurd (cc)
+
+-- an index stays right where the maps keep their weights
+pub mirror-kept : (m n sources : Vertices) → ((a b : ℕ) → weight_held n a b ≡ weight_held m a b) → IsMirror m sources → IsMirror n sources
+mirror-kept m n sources weights mirror = record { rising = mirror.rising; weights = λ a b. mirror.weights a b ∙ sym (weights a b) }
 
 -- what is looked up in the maps or in their index is the weight of the graph
 module _ (m sources : Vertices) {edges : ℕ} (g : Graph) (view : graph_of m ≡ g) (kept : IsIndexed m sources edges) where

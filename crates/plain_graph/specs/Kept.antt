@@ -57,10 +57,9 @@ pub record IsKept (m : Vertices) (edges : ℕ) : Type 0 where
   pub few : key_count (graph_of m) + pair_count (graph_of m) ≤ 65536
   pub counted : edges ≡ pair_count (graph_of m)
 
--- the index of the maps: the same vertices, and each edge the other way round
+-- the index of the maps: each edge the other way round. It may lack a vertex to which no edge leads
 pub record IsMirror (m sources : Vertices) : Type 0 where
   pub rising : Rises sources
-  pub keys : (k : ℕ) → holds sources k ≡ holds m k
   pub weights : (a b : ℕ) → weight_held sources b a ≡ weight_held m a b
 
 -- what a plain graph keeps: its maps and its count, and the index beside them

@@ -94,7 +94,7 @@ impl PlainGraph {
         if self.has(key) {
             return Ok(Outcome::Present(0));
         }
-        self.put_vertex(key)?;
+        self.put_new_vertex(key)?;
         Ok(Outcome::Added)
     }
 
@@ -103,11 +103,11 @@ impl PlainGraph {
         ensures answer { plain result ≡ answer self.old (Call.RemoveVertex key) }
         ensures change { self.new ≡ after self.old (Call.RemoveVertex key) }
     {
-        if !self.has(key) {
-            return Outcome::Absent;
+        if self.cut_vertex(key) {
+            Outcome::Removed(0)
+        } else {
+            Outcome::Absent
         }
-        self.cut_vertex(key);
-        Outcome::Removed(0)
     }
 
     /// Whether the key is a vertex, as an answer.

@@ -5,7 +5,7 @@
 //! map, count and index keep is `IsIndexed`, both of `specs/Kept.antt`. The scan of the last path and the numbers of
 //! its rows are kept for the next one, and are no part of the graph.
 
-ghost use Rattle.std.specs.Prelude.{◌≡◌, ℕ, ◌+◌, ◌≤◌, ◌<◌, ◌==◌, [], true, cond, IfOk, OnOk, OnErr};
+ghost use Rattle.std.specs.Prelude.{◌≡◌, ℕ, ◌+◌, ◌≤◌, ◌<◌, ◌==◌, [], true, false, cond, IfOk, OnOk, OnErr};
 ghost use Rattle.std.specs.Prelude.{None, IsSome, IfSome, IfNone};
 ghost use Rattle.std.specs.BTreeMap.{keys};
 ghost use Rattle.std.specs.FinMap as finite_map;
@@ -121,10 +121,23 @@ impl PlainGraph {
         ensures ok { OnOk result (self.new ≡ change self.old (Call.AddVertex key)) }
         ensures err { OnErr result (self.new ≡ self.old) }
     {
-        if self.vertices.contains_key(&key) {
+        if self.has(key) {
             return Ok(());
         }
-        index::insert_vertex(&mut self.vertices, &mut self.sources, self.alloc, key)
+        self.put_new_vertex(key)
+    }
+
+    /// Makes a key a vertex that is none. O(log V).
+    ///
+    /// # Errors
+    /// `Memory` where there is no room for it; the graph is unchanged then.
+    pub(crate) fn put_new_vertex(&mut self, key: u32) -> Result<(), Memory>
+        requires absent { has self.old key ≡ false }
+        requires room { key_count self.old + pair_count self.old < 65536 }
+        ensures ok { OnOk result (self.new ≡ change self.old (Call.AddVertex key)) }
+        ensures err { OnErr result (self.new ≡ self.old) }
+    {
+        maps::insert_vertex(&mut self.vertices, self.alloc, key)
     }
 
     /// Puts the edge between two vertices, or gives the one that is there its new weight. O(log V + log E).
@@ -139,29 +152,35 @@ impl PlainGraph {
         ensures ok { OnOk result (self.new ≡ change self.old (Call.AddEdge from to weight)) }
         ensures err { OnErr result (self.new ≡ self.old) }
     {
-        if index::insert_edge(&mut self.vertices, &mut self.sources, from, to, weight)?.is_none() {
+        let (vertices, sources) = (&mut self.vertices, &mut self.sources);
+        if index::insert_edge(vertices, sources, self.alloc, from, to, weight)?.is_none() {
             self.edges += 1;
         }
         Ok(())
     }
 
-    /// Takes out a vertex with its edges and the edges to it. O((1 + degree) log V), in-edges counted.
-    pub(crate) fn cut_vertex(&mut self, key: u32)
-        ensures { self.new ≡ change self.old (Call.RemoveVertex key) }
+    /// Takes out a vertex with its edges and the edges to it, and tells whether it was there. O((1 + degree) log V),
+    /// in-edges counted.
+    pub(crate) fn cut_vertex(&mut self, key: u32) -> bool
+        ensures cut { self.new ≡ change self.old (Call.RemoveVertex key) }
+        ensures was { result ≡ has self.old key }
+        ensures sound { IsGraph self.old }
     {
+        self.allocator();
         self.cut_edges_to(key);
         self.cut_edges_from(key);
-        self.cut_bare_vertex(key);
+        self.cut_bare_vertex(key)
     }
 
-    /// Takes out a vertex that no edge leads from or to. O(log V).
-    fn cut_bare_vertex(&mut self, key: u32)
+    /// Takes out a vertex that no edge leads from or to, and tells whether it was there. O(log V).
+    fn cut_bare_vertex(&mut self, key: u32) -> bool
         requires no_source { (a : ℕ) → weight_of self.old a key ≡ None }
         requires no_target { (b : ℕ) → weight_of self.old key b ≡ None }
-        ensures { self.new ≡ change self.old (Call.RemoveVertex key) }
+        ensures cut { self.new ≡ change self.old (Call.RemoveVertex key) }
+        ensures was { result ≡ has self.old key }
     {
-        index::remove_vertex(&mut self.vertices, &mut self.sources, key);
         self.numbers.forget(key);
+        index::remove_vertex(&mut self.vertices, &mut self.sources, key)
     }
 
     /// Takes out the edges that lead to a key. O(in-degree · log V).

@@ -66,6 +66,29 @@ pub fn insert_edge(
     }
 }
 
+/// The same, and puts the vertex without edges before, where it isn't there. O(log V + log E).
+///
+/// # Errors
+/// `Memory` where there is no room for it; the weights are as before then.
+pub fn insert_edge_anywhere(
+    vertices: &mut Vertices,
+    alloc: Global,
+    from: u32,
+    to: u32,
+    weight: u32,
+) -> Result<Option<u32>, Memory>
+    requires rises { Rises vertices.old }
+    ensures rises { Rises vertices.new }
+    ensures weights { OnOk result ((a b : ℕ)
+        → weight_held vertices.new a b ≡ cond ((from == a) && (to == b)) (Some weight) (weight_held vertices.old a b)) }
+    ensures stays { OnErr result ((a b : ℕ) → weight_held vertices.new a b ≡ weight_held vertices.old a b) }
+{
+    if !vertices.contains_key(&from) {
+        insert_vertex(vertices, alloc, from)?;
+    }
+    insert_edge(vertices, from, to, weight)
+}
+
 /// Takes out an edge, if there is one, and answers its weight. O(log V + log E).
 pub fn remove_edge(vertices: &mut Vertices, from: u32, to: u32) -> Option<u32>
     requires { Rises vertices.old }
@@ -81,15 +104,16 @@ pub fn remove_edge(vertices: &mut Vertices, from: u32, to: u32) -> Option<u32>
     }
 }
 
-/// Takes out a vertex with the edges out of it. O(log V), and O(1) for each of them.
-pub fn remove_vertex(vertices: &mut Vertices, key: u32)
+/// Takes out a vertex with the edges out of it, and tells whether it was there. O(log V), and O(1) for each of them.
+pub fn remove_vertex(vertices: &mut Vertices, key: u32) -> bool
     requires { Rises vertices.old }
     ensures rises { Rises vertices.new }
     ensures keys { (q : ℕ) → holds vertices.new q ≡ cond (key == q) false (holds vertices.old q) }
     ensures weights { (a b : ℕ)
         → weight_held vertices.new a b ≡ cond (key == a) None (weight_held vertices.old a b) }
+    ensures was { result ≡ holds vertices.old key }
 {
-    vertices.remove(&key);
+    vertices.remove(&key).is_some()
 }
 
 /// The least target of the edges out of a vertex; none where there is no such edge or no such vertex. O(log V + log E).

@@ -13,4 +13,4 @@ pub returns-clause-answer : goal.returns-clause-answer
 returns-clause-answer c = answer_add_vertex _ _ false (sym c.if-has.ensures)
 
 pub returns-clause-change : goal.returns-clause-change
-returns-clause-change c = c.in_ok-put_vertex.ensures.ok ∙ after_outcome _ _ out.Added (answer_add_vertex _ _ false (sym c.if-has.ensures))
+returns-clause-change c = c.in_ok-put_new_vertex.ensures.ok ∙ after_outcome _ _ out.Added (answer_add_vertex _ _ false (sym c.if-has.ensures))

@@ -8,9 +8,6 @@ use Rattle.plain_graph.proofs.graph.PlainGraph.put_edge.Goals as goal
 pub insert_edge-requires-clause-from_key : goal.insert_edge-requires-clause-from_key
 insert_edge-requires-clause-from_key c = sym (has-held c.self.inside.vertices c.args.from) ∙ (ap (λ (g : Graph). has g c.args.from) c.self.view_is ∙ c.requires.from_key)
 
-pub insert_edge-requires-clause-to_key : goal.insert_edge-requires-clause-to_key
-insert_edge-requires-clause-to_key c = sym (has-held c.self.inside.vertices c.args.to) ∙ (ap (λ (g : Graph). has g c.args.to) c.self.view_is ∙ c.requires.to_key)
-
 pub invariant_of-self : goal.invariant_of-self
 invariant_of-self c = record { mirror = c.in_err-insert_edge.ensures.mirror; kept = kept-stays c.self.inside.vertices c.insert_edge.new.vertices c.args.self.now c.self.view_is c.self.invariant.kept c.in_err-insert_edge.ensures.rises c.in_err-insert_edge.ensures.keys c.in_err-insert_edge.ensures.stays }
 
