@@ -1,5 +1,5 @@
 -- What a step on the maps makes of the graph that they hold, and that the maps keep what they keep.
-use Rattle.std.proofs.Common.{◌≡◌, ℕ, zero, suc, ◌+◌, ◌-◌, ◌<◌, ◌≤◌, ◌==◌, ◌&&◌, ◌||◌, false, List, [], true, cond, Option, Some, None, Result, Ok, Err, OnOk, OnErr, is_some, sym, ap, subst, ◌∙◌, arith}
+use Rattle.std.proofs.Common.{◌≡◌, ℕ, zero, suc, ◌+◌, ◌-◌, ◌<◌, ◌≤◌, ◌==◌, ◌&&◌, ◌||◌, false, List, [], true, cond, Option, Some, None, Result, Ok, Err, OnOk, OnErr, is_some, refl, sym, ap, subst, ◌∙◌, arith, eqb-true, Bool}
 use Rattle.std.specs.Prelude.{IsSome, IfSome, IfNone}
 use Rattle.std.specs.Ordering.{nat_cmp}
 use Rattle.std.specs.BTreeMap.{IsOrdered, get, is_at, values}
@@ -49,6 +49,22 @@ mirror-empty m sources e f ordered = record {
 -- an index stays right where the maps keep their weights
 pub mirror-kept : (m n sources : Vertices) → ((a b : ℕ) → weight_held n a b ≡ weight_held m a b) → IsMirror m sources → IsMirror n sources
 mirror-kept m n sources weights mirror = record { rising = mirror.rising; weights = λ a b. mirror.weights a b ∙ sym (weights a b) }
+
+-- after a vertex was put where it wasn't there, and where it was not put
+module _ (m n : Vertices) (k : ℕ) (others : (q : ℕ) → (k == q) ≡ false → holds n q ≡ holds m q) where
+  pub keys-entered : holds n k ≡ true → (q : ℕ) → holds n q ≡ ((k == q) || holds m q)
+  keys-entered there q = by (k == q) refl
+    where
+      by : (t : Bool) → (k == q) ≡ t → holds n q ≡ (t || holds m q)
+      by true e = ap (holds n) (sym (eqb-true k q e)) ∙ there
+      by false e = others q e
+
+  pub keys-left : holds n k ≡ holds m k → (q : ℕ) → holds n q ≡ holds m q
+  keys-left same q = by (k == q) refl
+    where
+      by : (t : Bool) → (k == q) ≡ t → holds n q ≡ holds m q
+      by true e = ap (holds n) (sym (eqb-true k q e)) ∙ (same ∙ ap (holds m) (eqb-true k q e))
+      by false e = others q e
 
 -- what is looked up in the maps or in their index is the weight of the graph
 module _ (m sources : Vertices) {edges : ℕ} (g : Graph) (view : graph_of m ≡ g) (kept : IsIndexed m sources edges) where
@@ -100,7 +116,7 @@ module _ (m n : Vertices) {edges : ℕ} (g : Graph) (view : graph_of m ≡ g) (k
     pub view-add_vertex : ((q : ℕ) → holds n q ≡ ((k == q) || holds m q)) → ((a b : ℕ) → weight_held n a b ≡ weight_held m a b) → graph_of n ≡ change g (AddVertex k)
     view-add_vertex keys weights = graph_from_held n rises _ (λ q. keys q ∙ (ap (λ t. (k == q) || t) (has_now q) ∙ sym (has-add g k q))) (λ a b. weights a b ∙ weight_now a b)
 
-    pub kept-add_vertex : (r : Result (Unit {0}) Memory) → count_of g < 65536 → OnOk r ((q : ℕ) → holds n q ≡ ((k == q) || holds m q)) → OnErr r ((q : ℕ) → holds n q ≡ holds m q) → ((a b : ℕ) → weight_held n a b ≡ weight_held m a b) → IsKept n edges
+    pub kept-add_vertex : {A : Type 0} (r : Result A Memory) → count_of g < 65536 → OnOk r ((q : ℕ) → holds n q ≡ ((k == q) || holds m q)) → OnErr r ((q : ℕ) → holds n q ≡ holds m q) → ((a b : ℕ) → weight_held n a b ≡ weight_held m a b) → IsKept n edges
     kept-add_vertex (Ok u) room ok err weights = kept_of n rises _ (view-add_vertex ok weights) (sound-add_vertex g k sound_now) (omega (arith, count-add_vertex g k)) edges counted_now
     kept-add_vertex (Err u) room ok err weights = kept-stays err weights
 

@@ -91,11 +91,12 @@ impl PlainGraph {
         ensures change { OnOk result (self.new ≡ after self.old (Call.AddVertex key)) }
         ensures stays { OnErr result (self.new ≡ self.old) }
     {
-        if self.has(key) {
-            return Ok(Outcome::Present(0));
+        let fresh = self.enter_vertex(key)?;
+        if fresh {
+            Ok(Outcome::Added)
+        } else {
+            Ok(Outcome::Present(0))
         }
-        self.put_new_vertex(key)?;
-        Ok(Outcome::Added)
     }
 
     /// Takes the vertex out with its edges, where it is there.

@@ -5,7 +5,7 @@
 //! map, count and index keep is `IsIndexed`, both of `specs/Kept.antt`. The scan of the last path and the numbers of
 //! its rows are kept for the next one, and are no part of the graph.
 
-ghost use Rattle.std.specs.Prelude.{◌≡◌, ℕ, ◌+◌, ◌≤◌, ◌<◌, ◌==◌, [], true, false, cond, IfOk, OnOk, OnErr};
+ghost use Rattle.std.specs.Prelude.{◌≡◌, ℕ, ◌+◌, ◌≤◌, ◌<◌, ◌==◌, [], true, cond, not, IfOk, OnOk, OnErr};
 ghost use Rattle.std.specs.Prelude.{None, IsSome, IfSome, IfNone};
 ghost use Rattle.std.specs.BTreeMap.{keys};
 ghost use Rattle.std.specs.FinMap as finite_map;
@@ -121,23 +121,21 @@ impl PlainGraph {
         ensures ok { OnOk result (self.new ≡ change self.old (Call.AddVertex key)) }
         ensures err { OnErr result (self.new ≡ self.old) }
     {
-        if self.has(key) {
-            return Ok(());
-        }
-        self.put_new_vertex(key)
+        self.enter_vertex(key)?;
+        Ok(())
     }
 
-    /// Makes a key a vertex that is none. O(log V).
+    /// Makes the key a vertex where it is none, and tells whether it was none. O(log V), by one look-up.
     ///
     /// # Errors
     /// `Memory` where there is no room for it; the graph is unchanged then.
-    pub(crate) fn put_new_vertex(&mut self, key: u32) -> Result<(), Memory>
-        requires absent { has self.old key ≡ false }
-        requires room { key_count self.old + pair_count self.old < 65536 }
+    pub(crate) fn enter_vertex(&mut self, key: u32) -> Result<bool, Memory>
+        requires { key_count self.old + pair_count self.old < 65536 }
         ensures ok { OnOk result (self.new ≡ change self.old (Call.AddVertex key)) }
         ensures err { OnErr result (self.new ≡ self.old) }
+        ensures fresh { IfOk result (λ fresh. fresh ≡ not (has self.old key)) }
     {
-        maps::insert_vertex(&mut self.vertices, self.alloc, key)
+        maps::enter_vertex(&mut self.vertices, self.alloc, key)
     }
 
     /// Puts the edge between two vertices, or gives the one that is there its new weight. O(log V + log E).
