@@ -21,13 +21,13 @@ use Rattle.scan_record.specs.declared.rows.VertexRow.{VertexRow}
 use Rattle.scan_record.specs.declared.rows.EdgeRow.{EdgeRow}
 use Rattle.scan_record.specs.Scan.{ScanValue, IsScan, IsComplete, row_at, edge_at, edges_of, last_edges, new_row, blank_life, blank_edge, empty_scan, with_started, with_edge}
 use Rattle.scan_record.specs.ScanGraph.{graph_of_scan, leads_to, weight_to}
-use Rattle.plain_graph.specs.Kept.{Edges, Vertices, Rises, graph_of, holds, weight_held, weight_by}
+use Rattle.plain_graph.specs.Kept.{Edges, Vertices, Rises, graph_in_maps, holds, weight_held, weight_by}
 use Rattle.plain_graph.specs.declared.numbers.Numbers.{Numbers}
-use Rattle.plain_graph.specs.Collecting.{IsNumbering, IsIndexed, with_key, Meets, told, edge_list, edges_at, LeadsToRow, IsReached, IsCollected}
+use Rattle.plain_graph.specs.Collecting.{IsNumbering, HasRowLives, with_key, MeetsKey, told, edge_list, edges_at, LeadsToRow, IsWithinReach, IsCollected}
 use Rattle.plain_graph.proofs.Held.{has-held, weight-held}
 use Rattle.plain_graph.proofs.Numbering.{itself, at_key, row_at-with_key, row_at-new_key, length-with_key, numbering_kept}
 
-pub indexed_more : (s : ScanValue) (key : ℕ) → IsIndexed s → IsIndexed (with_key s key)
+pub indexed_more : (s : ScanValue) (key : ℕ) → HasRowLives s → HasRowLives (with_key s key)
 indexed_more s key is k h =
     let long = length-with_key s key in
     elim (cases_lt k (length s.rows)) as (λ _. (row_at (with_key s key) k).life.index ≡ k) [
@@ -36,8 +36,8 @@ indexed_more s key is k h =
     ]
 
 -- a scan with one row more meets its key, and so does one that has it
-pub meets_pushed : (s t : ScanValue) (key : ℕ) → t ≡ with_key s key → Meets s t key
-meets_pushed s t key is = subst (λ (v : ScanValue). Meets s v key) (sym is) (record {
+pub meets_pushed : (s t : ScanValue) (key : ℕ) → t ≡ with_key s key → MeetsKey s t key
+meets_pushed s t key is = subst (λ (v : ScanValue). MeetsKey s v key) (sym is) (record {
   longer = omega (arith, length-with_key s key);
   rows = row_at-with_key s key;
   fresh = λ k ge lt. (let last : length s.rows ≡ k = omega (arith, length-with_key s key) in ap (λ (r : VertexRow). r.key) (row_at-new_key s key k last));
@@ -48,7 +48,7 @@ meets_pushed s t key is = subst (λ (v : ScanValue). Meets s v key) (sym is) (re
   ends = refl;
 })
 
-pub meets_none : (s : ScanValue) (key : ℕ) → Meets s s key
+pub meets_none : (s : ScanValue) (key : ℕ) → MeetsKey s s key
 meets_none s key = record {
   longer = omega arith;
   rows = λ k h. refl;
@@ -61,7 +61,7 @@ meets_none s key = record {
 }
 
 -- the root's row alone
-pub collected_root : (m : Vertices) (numbers : Numbers) (s t : ScanValue) (root nodes : ℕ) → s ≡ empty_scan nodes → t ≡ with_key s root → holds m root ≡ true → IsNumbering numbers t → IsIndexed t → IsCollected m numbers t 0 0 × ((row_at t 0).key ≡ root)
+pub collected_root : (m : Vertices) (numbers : Numbers) (s t : ScanValue) (root nodes : ℕ) → s ≡ empty_scan nodes → t ≡ with_key s root → holds m root ≡ true → IsNumbering numbers t → HasRowLives t → IsCollected m numbers t 0 0 × ((row_at t 0).key ≡ root)
 collected_root m numbers s t root nodes empty is held numbering indexed =
     let whole : t ≡ with_key (empty_scan nodes) root = is ∙ ap (λ v. with_key v root) empty in
     let one : length t.rows ≡ 1 = ap (λ (v : ScanValue). length v.rows) whole in
@@ -84,22 +84,22 @@ collected_root m numbers s t root nodes empty is held numbering indexed =
     )
 
 -- after a key is met that is reached
-module _ (m : Vertices) (old new : Numbers) (s t : ScanValue) (key n at : ℕ) (meets : Meets s t key) (p : IsCollected m old s n at) where
+module _ (m : Vertices) (old new : Numbers) (s t : ScanValue) (key n at : ℕ) (meets : MeetsKey s t key) (p : IsCollected m old s n at) where
   pub root_met : (row_at t 0).key ≡ (row_at s 0).key
   root_met = ap (λ (r : VertexRow). r.key) (meets.rows 0 p.some)
 
   leads_met : (e : EdgeRow) → LeadsToRow s e → LeadsToRow t e
   leads_met e l = record { row = l.row; target = l.target; within = omega (arith, l.within, meets.longer); key = ap (λ (r : VertexRow). r.key) (meets.rows l.row l.within) ∙ l.key }
 
-  pub collected_met : IsNumbering new t → IsIndexed t → IsReached m (row_at s 0).key key → IsCollected m new t n at
+  pub collected_met : IsNumbering new t → HasRowLives t → IsWithinReach m (row_at s 0).key key → IsCollected m new t n at
   collected_met numbering indexed reached = record {
     some = omega (arith, p.some, meets.longer);
     within = omega (arith, p.within, meets.longer);
     numbering = numbering;
     indexed = indexed;
-    reached = λ k h. elim (cases_lt k (length s.rows)) as (λ _. IsReached m (row_at t 0).key (row_at t k).key) [
-      | inl lt ↦ subst (λ (x : ℕ). IsReached m x (row_at t k).key) (sym root_met) (subst (λ (r : VertexRow). IsReached m (row_at s 0).key r.key) (sym (meets.rows k lt)) (p.reached k lt))
-      | inr ge ↦ subst (λ (x : ℕ). IsReached m x (row_at t k).key) (sym root_met) (subst (IsReached m (row_at s 0).key) (sym (meets.fresh k ge h)) reached)
+    reached = λ k h. elim (cases_lt k (length s.rows)) as (λ _. IsWithinReach m (row_at t 0).key (row_at t k).key) [
+      | inl lt ↦ subst (λ (x : ℕ). IsWithinReach m x (row_at t k).key) (sym root_met) (subst (λ (r : VertexRow). IsWithinReach m (row_at s 0).key r.key) (sym (meets.rows k lt)) (p.reached k lt))
+      | inr ge ↦ subst (λ (x : ℕ). IsWithinReach m x (row_at t k).key) (sym root_met) (subst (IsWithinReach m (row_at s 0).key) (sym (meets.fresh k ge h)) reached)
     ];
     next = meets.next ∙ p.next;
     started = meets.started ∙ p.started;
@@ -166,7 +166,7 @@ module _ (m : Vertices) (numbers : Numbers) (s t : ScanValue) (n at : ℕ) (p : 
     within = omega (arith, p.within, keeps.long);
     numbering = numbering_kept numbers s t keeps.long keeps.keys p.numbering;
     indexed = λ k h. keeps.lives k ∙ p.indexed k (omega (arith, keeps.long));
-    reached = λ k h. subst (λ (x : ℕ). IsReached m x (row_at t k).key) (sym (keeps.keys 0)) (subst (IsReached m (row_at s 0).key) (sym (keeps.keys k)) (p.reached k (omega (arith, keeps.long))));
+    reached = λ k h. subst (λ (x : ℕ). IsWithinReach m x (row_at t k).key) (sym (keeps.keys 0)) (subst (IsWithinReach m (row_at s 0).key) (sym (keeps.keys k)) (p.reached k (omega (arith, keeps.long))));
     next = next;
     started = started;
     done = λ k h. ap (map told) (keeps.done k h) ∙ (p.done k h ∙ ap (edges_at m) (sym (keeps.keys k)));
@@ -268,20 +268,20 @@ path_more g a b c (x ∷ y ∷ p) path b_key c_key pair =
     longer (z ∷ v ∷ q) h = (x ∷ z ∷ v ∷ q, (path.0, subst (λ (v : ℕ). is_some (weight_of g x v) ≡ true) (sym h.0) path.1, subst (λ (u : ℕ). IsPath g u c (z ∷ v ∷ q)) (sym h.0) h))
 
 -- the target of an edge of a vertex that is reached
-module _ (m : Vertices) (rises : Rises m) (sound : IsGraph (graph_of m)) (a key : ℕ) (edges : Edges) (found : get nat_cmp m key ≡ Some edges) where
+module _ (m : Vertices) (rises : Rises m) (sound : IsGraph (graph_in_maps m)) (a key : ℕ) (edges : Edges) (found : get nat_cmp m key ≡ Some edges) where
   looked_up : All (λ e. get nat_cmp edges e.0 ≡ Some e.1) edges.entries
   looked_up = All-found nat_cmp_total edges (rises.inner key edges found)
 
   module _ (done : List (ℕ × ℕ)) (e : ℕ × ℕ) (rest : List (ℕ × ℕ)) (is : done ++ e ∷ rest ≡ edges.entries) where
-    weight_is : weight_of (graph_of m) key e.0 ≡ Some e.1
+    weight_is : weight_of (graph_in_maps m) key e.0 ≡ Some e.1
     weight_is = weight-held m rises.outer key e.0 ∙ (ap (λ o. weight_by o e.0) found ∙ in_middle (λ e. get nat_cmp edges e.0 ≡ Some e.1) done e rest edges.entries is looked_up)
 
     pub edge_weighed : 1 ≤ e.1
     edge_weighed = sound.weighed key e.0 e.1 weight_is
 
-    pub target_reached : IsReached m a key → IsReached m a e.0
+    pub target_reached : IsWithinReach m a key → IsWithinReach m a e.0
     target_reached r =
-        let more = path_more (graph_of m) a key e.0 r.path r.is_path (sound.from_key key e.0 e.1 weight_is) (sound.to_key key e.0 e.1 weight_is) (ap (λ o. is_some o) weight_is) in
+        let more = path_more (graph_in_maps m) a key e.0 r.path r.is_path (sound.from_key key e.0 e.1 weight_is) (sound.to_key key e.0 e.1 weight_is) (ap (λ o. is_some o) weight_is) in
         record { path = more.0; is_path = more.1 }
 
 -- ---- at the end
@@ -337,7 +337,7 @@ module _ (m : Vertices) (numbers : Numbers) (s : ScanValue) (root : ℕ)
     (keys_law : (key : ℕ) → has (graph_of_scan s) key ≡ list_any (λ row. row.key == key) s.rows)
     (weights_law : (k key : ℕ) → k < length s.rows → weight_of (graph_of_scan s) (row_at s k).key key ≡ weight_to key (edges_of s (row_at s k)))
     (scan_sound : IsGraph (graph_of_scan s)) (rises : Rises m) (p : IsCollected m numbers s (length s.rows) (length s.rows)) (rooted : (row_at s 0).key ≡ root) where
-  same_weights : (a b : ℕ) → has (graph_of_scan s) a ≡ true → weight_of (graph_of_scan s) a b ≡ weight_of (graph_of m) a b
+  same_weights : (a b : ℕ) → has (graph_of_scan s) a ≡ true → weight_of (graph_of_scan s) a b ≡ weight_of (graph_in_maps m) a b
   same_weights a b there =
       let from = row_of_key a s.rows (sym (keys_law a) ∙ there) in
       let row = row_at s from.0 in
@@ -349,26 +349,26 @@ module _ (m : Vertices) (numbers : Numbers) (s : ScanValue) (root : ℕ)
       ∙ (held_list (get nat_cmp m a) b ∙ sym (weight-held m rises.outer a b))))))
 
   -- a path from a key of the scan ends at one
-  closed : (a b : ℕ) (path : List ℕ) → has (graph_of_scan s) a ≡ true → IsPath (graph_of m) a b path → has (graph_of_scan s) b ≡ true
+  closed : (a b : ℕ) (path : List ℕ) → has (graph_of_scan s) a ≡ true → IsPath (graph_in_maps m) a b path → has (graph_of_scan s) b ≡ true
   closed a b [] there path = absurd path
   closed a b (x ∷ []) there path = ap (has (graph_of_scan s)) (sym path.1 ∙ path.0) ∙ there
   closed a b (x ∷ y ∷ path) there way =
       let from : has (graph_of_scan s) x ≡ true = ap (has (graph_of_scan s)) way.0 ∙ there in
-      closed y b (y ∷ path) (step x y from (weight_of (graph_of m) x y) refl way.1) way.2
+      closed y b (y ∷ path) (step x y from (weight_of (graph_in_maps m) x y) refl way.1) way.2
     where
-      step : (x y : ℕ) → has (graph_of_scan s) x ≡ true → (o : Option ℕ) → weight_of (graph_of m) x y ≡ o → is_some (weight_of (graph_of m) x y) ≡ true → has (graph_of_scan s) y ≡ true
+      step : (x y : ℕ) → has (graph_of_scan s) x ≡ true → (o : Option ℕ) → weight_of (graph_in_maps m) x y ≡ o → is_some (weight_of (graph_in_maps m) x y) ≡ true → has (graph_of_scan s) y ≡ true
       step x y from None e some = absurd (true≢false (sym some ∙ ap (λ o. is_some o) e))
       step x y from (Some w) e some = scan_sound.to_key x y w (same_weights x y from ∙ e)
 
   root_there : has (graph_of_scan s) root ≡ true
   root_there = keys_law root ∙ (ap (λ q. list_any (λ row. row.key == q) s.rows) (sym rooted) ∙ key_of_row s.rows 0 p.some)
 
-  pub collected_is_part : IsPart (graph_of m) root (graph_of_scan s)
+  pub collected_is_part : IsPart (graph_in_maps m) root (graph_of_scan s)
   collected_is_part = record {
     keys = λ x. (
       λ there. (let from = row_of_key x s.rows (sym (keys_law x) ∙ there) in
           let r = p.reached from.0 from.1 in
-          (r.path, subst (λ (b : ℕ). IsPath (graph_of m) root b r.path) from.2 (subst (λ (a : ℕ). IsPath (graph_of m) a (row_at s from.0).key r.path) rooted r.is_path))),
+          (r.path, subst (λ (b : ℕ). IsPath (graph_in_maps m) root b r.path) from.2 (subst (λ (a : ℕ). IsPath (graph_in_maps m) a (row_at s from.0).key r.path) rooted r.is_path))),
       λ way. closed root x way.0 root_there way.1,
     );
     pairs = λ x y w. (
@@ -399,13 +399,13 @@ row_begins m numbers s t r key rest p inside is none key_is all =
       left = ap (λ (es : List EdgeRow). map told es ++ rest) none ∙ all;
     }
 
-module _ (m : Vertices) (rises : Rises m) (sound : IsGraph (graph_of m)) (edges : Edges) (key : ℕ) (found : get nat_cmp m key ≡ Some edges) (r root : ℕ) where
+module _ (m : Vertices) (rises : Rises m) (sound : IsGraph (graph_in_maps m)) (edges : Edges) (key : ℕ) (found : get nat_cmp m key ≡ Some edges) (r root : ℕ) where
   whole_is : (s : ScanValue) (rest : List (ℕ × ℕ)) → map told (last_edges s) ++ rest ≡ edges_at m key → map told (last_edges s) ++ rest ≡ edges.entries
   whole_is s rest left = left ∙ ap edge_list found
 
-  pub row_meets : (old new : Numbers) (s t : ScanValue) (e : ℕ × ℕ) (rest : List (ℕ × ℕ)) → IsInRow m old s r key root (e ∷ rest) → Meets s t e.0 → IsNumbering new t → IsIndexed t → IsInRow m new t r key root (e ∷ rest)
+  pub row_meets : (old new : Numbers) (s t : ScanValue) (e : ℕ × ℕ) (rest : List (ℕ × ℕ)) → IsInRow m old s r key root (e ∷ rest) → MeetsKey s t e.0 → IsNumbering new t → HasRowLives t → IsInRow m new t r key root (e ∷ rest)
   row_meets old new s t e rest p meets numbering indexed =
-      let from = subst (IsReached m (row_at s 0).key) p.keyed (p.collected.reached r p.inside) in
+      let from = subst (IsWithinReach m (row_at s 0).key) p.keyed (p.collected.reached r p.inside) in
       let reached = target_reached m rises sound (row_at s 0).key key edges found (map told (last_edges s)) e rest (whole_is s (e ∷ rest) p.left) from in
       let at : s.next - 1 ≡ r = omega (arith, p.collected.next) in
       let same : row_at t (t.next - 1) ≡ row_at s (s.next - 1) = ap (λ n. row_at t (n - 1)) meets.next ∙ meets.rows (s.next - 1) (subst (λ (n : ℕ). n < length s.rows) (sym at) p.inside) in

@@ -6,8 +6,8 @@
 ghost use Rattle.std.specs.Prelude.{◌≡◌, ◌+◌, ◌≤◌, ◌<◌, ◌^◌, ◌&&◌, IfOk, OnOk, OnErr};
 ghost use Rattle.graph_kinds.specs.Graph.{has, key_count, pair_count, IsGraph};
 ghost use Rattle.graph_kinds.specs.Answer.{IsWellMade, plain, answer, after};
-ghost use Rattle.plain_graph.specs.Calls.{CostIsBelow, IsAdd, replacing};
-ghost use Rattle.scan_record.specs.Asked.{answered};
+ghost use Rattle.plain_graph.specs.Calls.{CostIsBelow, IsAdd, outcome_of_put};
+ghost use Rattle.scan_record.specs.Asked.{answer_in_region};
 
 use crate::graph::PlainGraph;
 use graph_kinds::{Answer, Call, Keys, Memory, Outcome, parts_are_answered_alike};
@@ -27,7 +27,7 @@ fn bare(alloc: Global, outcome: Outcome) -> Answer
 
 // The outcome of an edge's add, by the other weight that it had before.
 fn put_in_place_of(before: Option<u32>) -> Outcome
-    ensures { result ≡ replacing before }
+    ensures { result ≡ outcome_of_put before }
 {
     match before {
         Some(weight) => Outcome::Changed(weight),
@@ -37,7 +37,7 @@ fn put_in_place_of(before: Option<u32>) -> Outcome
 
 // The answer that stands in the answer region of a scan, copied.
 fn copied(alloc: Global, outcome: Outcome, scan: &Scan) -> Result<Answer, Memory>
-    ensures { IfOk result (λ a. a ≡ answered outcome scan.now) }
+    ensures { IfOk result (λ a. a ≡ answer_in_region outcome scan.now) }
 {
     Ok(Answer {
         outcome,
@@ -134,11 +134,10 @@ impl PlainGraph {
         if !self.has_both(from, to) {
             return Ok(Outcome::NoVertex);
         }
-        let before = self.weight(from, to);
+        let before = self.enter_edge(from, to, weight)?;
         if before == Some(weight) {
             return Ok(Outcome::Present(weight));
         }
-        self.put_edge(from, to, weight)?;
         Ok(put_in_place_of(before))
     }
 
@@ -150,11 +149,10 @@ impl PlainGraph {
         if !self.has_both(from, to) {
             return Outcome::NoVertex;
         }
-        let Some(weight) = self.weight(from, to) else {
-            return Outcome::NoEdge;
-        };
-        self.cut_edge(from, to);
-        Outcome::Removed(weight)
+        match self.cut_edge(from, to) {
+            Some(weight) => Outcome::Removed(weight),
+            None => Outcome::NoEdge,
+        }
     }
 
     /// The weight of the edge, as an answer.

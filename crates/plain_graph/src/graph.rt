@@ -1,8 +1,8 @@
 //! The graph of one caller, in ordered maps.
 //!
 //! A map has each vertex by its key with the map of its out-edges. Beside it stand the count of the edges and an
-//! index, which has the edges that lead to each vertex. Contracts see the graph that the map holds (`graph_of`); what
-//! map, count and index keep is `IsIndexed`, both of `specs/Kept.antt`. The scan of the last path and the numbers of
+//! index, which has the edges that lead to each vertex. Contracts see the graph that the map holds (`graph_in_maps`); what
+//! map, count and index keep is `IsIndexedGraph`, both of `specs/Kept.antt`. The scan of the last path and the numbers of
 //! its rows are kept for the next one, and are no part of the graph.
 
 ghost use Rattle.std.specs.Prelude.{◌≡◌, ℕ, ◌+◌, ◌≤◌, ◌<◌, ◌==◌, [], true, cond, not, IfOk, OnOk, OnErr};
@@ -42,11 +42,11 @@ impl Model for PlainGraph {
 
     ghost coded = { graph_code };
 
-    ghost use Rattle.plain_graph.specs.Kept.{graph_of, IsIndexed};
+    ghost use Rattle.plain_graph.specs.Kept.{graph_in_maps, IsIndexedGraph};
 
-    ghost view = { λ g. graph_of g.vertices };
+    ghost view = { λ g. graph_in_maps g.vertices };
 
-    ghost invariant = { λ g. IsIndexed g.vertices g.sources g.edges };
+    ghost invariant = { λ g. IsIndexedGraph g.vertices g.sources g.edges };
 }
 
 impl PlainGraph {
@@ -150,11 +150,35 @@ impl PlainGraph {
         ensures ok { OnOk result (self.new ≡ change self.old (Call.AddEdge from to weight)) }
         ensures err { OnErr result (self.new ≡ self.old) }
     {
+        self.enter_edge(from, to, weight)?;
+        Ok(())
+    }
+
+    /// Puts the edge between two vertices, or gives the one that is there its new weight, and answers the weight
+    /// before. O(log V + log E).
+    ///
+    /// # Errors
+    /// `Memory` where there is no room for it; the graph is unchanged then.
+    pub(crate) fn enter_edge(
+        &mut self,
+        from: u32,
+        to: u32,
+        weight: u32,
+    ) -> Result<Option<u32>, Memory>
+        requires from_key { has self.old from ≡ true }
+        requires to_key { has self.old to ≡ true }
+        requires weighed { 1 ≤ weight }
+        requires room { key_count self.old + pair_count self.old < 65536 }
+        ensures ok { OnOk result (self.new ≡ change self.old (Call.AddEdge from to weight)) }
+        ensures err { OnErr result (self.new ≡ self.old) }
+        ensures before { IfOk result (λ w. w ≡ weight_of self.old from to) }
+    {
         let (vertices, sources) = (&mut self.vertices, &mut self.sources);
-        if index::insert_edge(vertices, sources, self.alloc, from, to, weight)?.is_none() {
+        let before = index::insert_edge(vertices, sources, self.alloc, from, to, weight)?;
+        if before.is_none() {
             self.edges += 1;
         }
-        Ok(())
+        Ok(before)
     }
 
     /// Takes out a vertex with its edges and the edges to it, and tells whether it was there. O((1 + degree) log V),
@@ -217,13 +241,16 @@ impl PlainGraph {
         maps::first_target(&self.vertices, key)
     }
 
-    /// Takes out the edge between two keys. O(log V + log E).
-    pub(crate) fn cut_edge(&mut self, from: u32, to: u32)
-        ensures { self.new ≡ change self.old (Call.RemoveEdge from to) }
+    /// Takes out the edge between two keys, if there is one, and answers its weight. O(log V + log E).
+    pub(crate) fn cut_edge(&mut self, from: u32, to: u32) -> Option<u32>
+        ensures cut { self.new ≡ change self.old (Call.RemoveEdge from to) }
+        ensures was { result ≡ weight_of self.old from to }
     {
-        if index::remove_edge(&mut self.vertices, &mut self.sources, from, to).is_some() {
+        let weight = index::remove_edge(&mut self.vertices, &mut self.sources, from, to);
+        if weight.is_some() {
             self.edges -= 1;
         }
+        weight
     }
 
     /// A scan that holds the part that is reached from a root, with the root's row first and no answer yet.

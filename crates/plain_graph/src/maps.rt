@@ -92,8 +92,14 @@ pub fn insert_edge_anywhere(
         → weight_held vertices.new a b ≡ cond ((from == a) && (to == b)) (Some weight) (weight_held vertices.old a b)) }
     ensures stays { OnErr result ((a b : ℕ) → weight_held vertices.new a b ≡ weight_held vertices.old a b) }
 {
-    enter_vertex(vertices, alloc, from)?;
-    insert_edge(vertices, from, to, weight)
+    let Ok(place) = vertices.entry(from) else {
+        return Err(Memory);
+    };
+    let edges = place.or_insert(BTreeMap::new(alloc));
+    match edges.insert(to, weight) {
+        Ok(before) => Ok(before),
+        Err(_) => Err(Memory),
+    }
 }
 
 /// Takes out an edge, if there is one, and answers its weight. O(log V + log E).

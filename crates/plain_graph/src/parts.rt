@@ -9,8 +9,8 @@ ghost use Rattle.graph_kinds.specs.Graph.{IsGraph};
 ghost use Rattle.graph_kinds.specs.Part.{part};
 ghost use Rattle.scan_record.specs.Scan.{IsScan, IsComplete, row_at, empty_scan};
 ghost use Rattle.scan_record.specs.ScanGraph.{graph_of_scan};
-ghost use Rattle.plain_graph.specs.Kept.{Rises, graph_of, holds};
-ghost use Rattle.plain_graph.specs.Collecting.{IsNumbering, IsIndexed, Meets, IsCollected, with_key};
+ghost use Rattle.plain_graph.specs.Kept.{Rises, graph_in_maps, holds};
+ghost use Rattle.plain_graph.specs.Collecting.{IsNumbering, HasRowLives, MeetsKey, IsCollected, with_key};
 
 use crate::maps::Vertices;
 use crate::numbers::Numbers;
@@ -38,10 +38,10 @@ pub fn scan_of_part(
     root: u32,
 ) -> Result<Scan, Memory>
     requires rises { Rises vertices.now }
-    requires sound { IsGraph (graph_of vertices.now) }
+    requires sound { IsGraph (graph_in_maps vertices.now) }
     requires held { holds vertices.now root ≡ true }
     ensures complete { IfOk result (λ s. IsComplete s) }
-    ensures graph { IfOk result (λ s. graph_of_scan s ≡ part (graph_of vertices.now) root) }
+    ensures graph { IfOk result (λ s. graph_of_scan s ≡ part (graph_in_maps vertices.now) root) }
     ensures root { IfOk result (λ s. (row_at s 0).key ≡ root) }
     ensures no_keys { IfOk result (λ s. s.keys ≡ []) }
     ensures no_ends { IfOk result (λ s. s.ends ≡ []) }
@@ -82,7 +82,7 @@ fn collect(
     root: u32,
 ) -> Result<bool, Memory>
     requires rises { Rises vertices.now }
-    requires sound { IsGraph (graph_of vertices.now) }
+    requires sound { IsGraph (graph_in_maps vertices.now) }
     requires held { holds vertices.now root ≡ true }
     ensures collected { IfOk result (λ whole. whole ≡ true
         → IsCollected vertices.now numbers.new scan.new (length scan.new.rows) (length scan.new.rows)) }
@@ -111,12 +111,12 @@ fn collect(
 fn push_key(scan: &mut Scan, numbers: &mut Numbers, key: u32) -> Result<u32, Memory>
     requires room { length scan.old.rows < scan.old.nodes }
     requires numbering { IsNumbering numbers.old scan.old }
-    requires indexed { IsIndexed scan.old }
+    requires indexed { HasRowLives scan.old }
     requires absent { (k : ℕ) → k < length scan.old.rows → (row_at scan.old k).key ≢ key }
     ensures number { IfOk result (λ row. row ≡ length scan.old.rows) }
     ensures pushed { OnOk result (scan.new ≡ with_key scan.old key) }
     ensures numbering { OnOk result (IsNumbering numbers.new scan.new) }
-    ensures indexed { OnOk result (IsIndexed scan.new) }
+    ensures indexed { OnOk result (HasRowLives scan.new) }
 {
     let row = scan.vertices();
     numbers.note(scan, key)?;
@@ -131,12 +131,12 @@ fn push_key(scan: &mut Scan, numbers: &mut Numbers, key: u32) -> Result<u32, Mem
 /// `Memory` where there is no room to note it.
 fn meet(scan: &mut Scan, numbers: &mut Numbers, key: u32) -> Result<Option<u32>, Memory>
     requires numbering { IsNumbering numbers.old scan.old }
-    requires indexed { IsIndexed scan.old }
+    requires indexed { HasRowLives scan.old }
     ensures row { IfOk result (λ found. IfSome found (λ row.
         (row < length scan.new.rows) × ((row_at scan.new row).key ≡ key))) }
-    ensures meets { OnOk result (Meets scan.old scan.new key) }
+    ensures meets { OnOk result (MeetsKey scan.old scan.new key) }
     ensures numbering { OnOk result (IsNumbering numbers.new scan.new) }
-    ensures indexed { OnOk result (IsIndexed scan.new) }
+    ensures indexed { OnOk result (HasRowLives scan.new) }
 {
     if let Some(row) = numbers.row_of(scan, key) {
         return Ok(Some(row));
@@ -162,7 +162,7 @@ fn push_row(
     requires row { row < length scan.old.rows }
     requires collected { IsCollected vertices.now numbers.old scan.old row row }
     requires rises { Rises vertices.now }
-    requires sound { IsGraph (graph_of vertices.now) }
+    requires sound { IsGraph (graph_in_maps vertices.now) }
     ensures collected { IfOk result (λ whole. whole ≡ true
         → IsCollected vertices.now numbers.new scan.new (row + 1) (row + 1)) }
     ensures root { IfOk result (λ whole. whole ≡ true → (row_at scan.new 0).key ≡ (row_at scan.old 0).key) }
