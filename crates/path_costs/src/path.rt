@@ -46,7 +46,8 @@ fn gather(scan: &mut Scan, row: u32) -> u32
 /// Williams 1964).
 pub fn cheapest(scan: &mut Scan, goal: u32) -> Outcome
     requires { IsComplete scan.old }
-    ensures answer { answer_in_region result scan.new ≡ by_cost (least_cost (graph_of_scan scan.old) (root_of scan.old) goal)
+    ensures answer { answer_in_region result scan.new
+        ≡ by_cost (least_cost (graph_of_scan scan.old) (root_of scan.old) goal)
         (cheapest_path (graph_of_scan scan.old) (root_of scan.old) goal) }
 
     // What the rules of least costs and of the way back come to:

@@ -17,7 +17,8 @@ use scan_record::Scan;
 /// 1959).
 pub fn levels(scan: &mut Scan) -> Outcome
     requires { IsComplete scan.old }
-    ensures answer { answer_in_region result scan.new ≡ by_levels (levels_of (graph_of_scan scan.old) (root_of scan.old)) }
+    ensures answer { answer_in_region result scan.new
+        ≡ by_levels (levels_of (graph_of_scan scan.old) (root_of scan.old)) }
     ensures kept { KeepsRowsAndCosts scan.old scan.new }
     ensures graph { graph_of_scan scan.new ≡ graph_of_scan scan.old }
     ensures complete { IsComplete scan.new }

@@ -42,7 +42,8 @@ fn gather(scan: &mut Scan, goal: u32) -> u32
 /// memory, in O(rows + edges) and what the answer held (Moore 1959).
 pub fn reach(scan: &mut Scan, goal: u32) -> Outcome
     requires { IsComplete scan.old }
-    ensures answer { answer_in_region result scan.new ≡ by_path (reach_path (graph_of_scan scan.old) (root_of scan.old) goal) }
+    ensures answer { answer_in_region result scan.new
+        ≡ by_path (reach_path (graph_of_scan scan.old) (root_of scan.old) goal) }
 
     // What the rule of parents comes to: a path than which none is shorter, and none only where there is none.
     ensures path { result ≡ Outcome.Path → IsPath (graph_of_scan scan.old) (root_of scan.old) goal scan.new.keys }

@@ -1,16 +1,16 @@
 -- How a part is collected, row by row and edge by edge, and that what stands at the end is the part.
-use Rattle.std.proofs.Common.{◌≡◌, ◌≢◌, ℕ, zero, suc, ◌+◌, ◌-◌, ◌<◌, ◌≤◌, ◌==◌, ◌&&◌, ◌||◌, ◌↔◌, Bool, true, false, cond, List, [], ◌∷◌, ◌++◌, length, get_or, take, drop, map, Option, Some, None, is_some, inl, inr, refl, sym, ap, subst, arith, ◌∙◌, eqb-true, true≢false, length-drop, append_assoc, append-nil}
+use Rattle.std.proofs.Common.{◌≡◌, ℕ, zero, suc, ◌+◌, ◌-◌, ◌<◌, ◌≤◌, ◌==◌, ◌&&◌, ◌||◌, Bool, true, false, cond, List, [], ◌∷◌, ◌++◌, length, get_or, take, drop, map, Option, Some, None, is_some, inl, inr, refl, sym, ap, subst, arith, ◌∙◌, eqb-true, true≢false, length-drop, append_assoc, append-nil}
 use Rattle.std.proofs.Math.ListN.{set, length-set}
 use Rattle.std.specs.Prelude.{All, find, option_map}
 use Rattle.std.specs.declared.cmp.Ordering.TheVariants.{Less}
 use Rattle.std.specs.Ordering.{nat_cmp, MatchOrdering}
-use Rattle.std.specs.Cmp.{nat_cmp_total, nat_eq_equiv, unsigned_tied, ranks}
+use Rattle.std.specs.Cmp.{nat_cmp_total, ranks}
 use Rattle.std.specs.List.{AllByRecursion, list_any}
 use Rattle.std.specs.List.Sorted.{IsStrictlySortedBy}
 use Rattle.std.specs.BTreeMap.{get, is_at}
 use Rattle.std.specs.Map.{keys_of, lookup}
 use Rattle.std.proofs.lemmas.Bool.{cases_lt}
-use Rattle.std.proofs.lemmas.List.{get_or_append_left, get_or_push, length_push, get_or-set_same, get_or-set_other, drop-append-le, take-append-le, map-append}
+use Rattle.std.proofs.lemmas.List.{get_or-set_same, get_or-set_other, drop-append-le, take-append-le, map-append}
 use Rattle.std.proofs.lemmas.List.Elements.{All-nil, All-cons, All-head, All-tail, All-weaker, All-append, All-get_or, All-take, All-drop}
 use Rattle.std.proofs.lemmas.Map.Keys.{sorted_head, sorted_tail}
 use Rattle.std.proofs.lemmas.Map.Views.{All-found}
@@ -19,9 +19,9 @@ use Rattle.graph_kinds.specs.Path.{IsPath}
 use Rattle.graph_kinds.specs.Part.{IsPart}
 use Rattle.scan_record.specs.declared.rows.VertexRow.{VertexRow}
 use Rattle.scan_record.specs.declared.rows.EdgeRow.{EdgeRow}
-use Rattle.scan_record.specs.Scan.{ScanValue, IsScan, IsComplete, row_at, edge_at, edges_of, last_edges, new_row, blank_life, blank_edge, empty_scan, with_started, with_edge}
+use Rattle.scan_record.specs.Scan.{ScanValue, IsScan, IsComplete, row_at, edges_of, last_edges, new_row, blank_life, blank_edge, empty_scan, with_started, with_edge}
 use Rattle.scan_record.specs.ScanGraph.{graph_of_scan, leads_to, weight_to}
-use Rattle.plain_graph.specs.Kept.{Edges, Vertices, Rises, graph_in_maps, holds, weight_held, weight_by}
+use Rattle.plain_graph.specs.Kept.{Edges, Vertices, Rises, graph_in_maps, holds, weight_by}
 use Rattle.plain_graph.specs.declared.numbers.Numbers.{Numbers}
 use Rattle.plain_graph.specs.Collecting.{IsNumbering, HasRowLives, with_key, MeetsKey, told, edge_list, edges_at, LeadsToRow, IsWithinReach, IsCollected}
 use Rattle.plain_graph.proofs.Held.{has-held, weight-held}

@@ -1,8 +1,8 @@
 -- What a step on the maps makes of the graph that they hold, and that the maps keep what they keep.
-use Rattle.std.proofs.Common.{◌≡◌, ℕ, zero, suc, ◌+◌, ◌-◌, ◌<◌, ◌≤◌, ◌==◌, ◌&&◌, ◌||◌, false, List, [], true, cond, Option, Some, None, Result, Ok, Err, OnOk, OnErr, is_some, refl, sym, ap, subst, ◌∙◌, arith, eqb-true, Bool}
+use Rattle.std.proofs.Common.{◌≡◌, ℕ, ◌+◌, ◌-◌, ◌<◌, ◌≤◌, ◌==◌, ◌&&◌, ◌||◌, false, List, [], true, cond, Option, Some, None, Result, Ok, Err, OnOk, OnErr, is_some, refl, sym, ap, subst, ◌∙◌, arith, eqb-true, Bool}
 use Rattle.std.specs.Prelude.{IsSome, IfSome, IfNone}
 use Rattle.std.specs.Ordering.{nat_cmp}
-use Rattle.std.specs.BTreeMap.{IsOrdered, get, is_at, values}
+use Rattle.std.specs.BTreeMap.{IsOrdered, get, is_at}
 use Rattle.std.specs.Map.{lookup}
 use Rattle.std.specs.FinMap as finite_map
 use Rattle.std.specs.FinSet as finite_set
@@ -10,8 +10,8 @@ use Rattle.graph_kinds.specs.declared.answer.Memory.{Memory}
 use Rattle.graph_kinds.specs.declared.call.Call.TheVariants.{AddVertex, AddEdge, RemoveEdge}
 use Rattle.graph_kinds.specs.Graph.{Graph, pair_cmp, empty_graph, has, weight_of, pair_count, IsGraph}
 use Rattle.graph_kinds.specs.Answer.{change, without}
-use Rattle.plain_graph.specs.Kept.{Edges, Vertices, edges_in, graph_in_maps, holds, weight_held, weight_by, Rises, IsCountedGraph, IsMirror, IsIndexedGraph}
-use Rattle.plain_graph.proofs.Changes.{count_of, has-add, has-without, weight-without, weight-bare, pairs-bare, weight-add, weight-cut, sound-add_vertex, sound-without, sound-add_edge, sound-cut_edge, count-add_vertex, count-add_edge, count-without, count-cut_edge, some_pair}
+use Rattle.plain_graph.specs.Kept.{Edges, Vertices, graph_in_maps, holds, weight_held, weight_by, Rises, IsCountedGraph, IsMirror, IsIndexedGraph}
+use Rattle.plain_graph.proofs.Changes.{count_of, has-add, has-without, weight-bare, pairs-bare, weight-add, weight-cut, sound-add_vertex, sound-without, sound-add_edge, sound-cut_edge, count-add_vertex, count-add_edge, count-without, count-cut_edge, some_pair}
 use Rattle.plain_graph.proofs.Held.{has-held, weight-held, graph_from_held, held-empty}
 use Rattle.graph_kinds.proofs.Graphs.{pair_total}
 

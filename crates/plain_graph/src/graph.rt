@@ -1,9 +1,9 @@
 //! The graph of one caller, in ordered maps.
 //!
 //! A map has each vertex by its key with the map of its out-edges. Beside it stand the count of the edges and an
-//! index, which has the edges that lead to each vertex. Contracts see the graph that the map holds (`graph_in_maps`); what
-//! map, count and index keep is `IsIndexedGraph`, both of `specs/Kept.antt`. The scan of the last path and the numbers of
-//! its rows are kept for the next one, and are no part of the graph.
+//! index, which has the edges that lead to each vertex. Contracts see the graph that the map holds (`graph_in_maps`);
+//! what map, count and index keep is `IsIndexedGraph`, both of `specs/Kept.antt`. The scan of the last path and the
+//! numbers of its rows are kept for the next one, and are no part of the graph.
 
 ghost use Rattle.std.specs.Prelude.{◌≡◌, ℕ, ◌+◌, ◌≤◌, ◌<◌, ◌==◌, [], true, cond, not, IfOk, OnOk, OnErr};
 ghost use Rattle.std.specs.Prelude.{None, IsSome, IfSome, IfNone};

@@ -5,7 +5,7 @@
 //! cleared: a number counts only where the row that it names is of this bucket, or has this key (as in Briggs and
 //! Torczon 1993). `IsNumbering` of `specs/Collecting.antt`.
 
-ghost use Rattle.std.specs.Prelude.{◌≡◌, ◌≢◌, ℕ, ◌<◌, ◌%◌, length, OnOk, IfOk, IfSome, IfNone, IsTrue, ◌↔◌, slice_index};
+ghost use Rattle.std.specs.Prelude.{◌≡◌, ◌≢◌, ℕ, ◌<◌, ◌%◌, ◌↔◌, length, slice_index, OnOk, IfSome, IfNone, IsTrue};
 ghost use Rattle.scan_record.specs.Scan.{row_at};
 ghost use Rattle.plain_graph.specs.Collecting.{IsNumbering, IsOfBucket, with_key};
 

@@ -1,11 +1,11 @@
-use Rattle.std.proofs.Common.{◌≡◌, ℕ, [], ◌∷◌, List, Some, None, refl, sym, ap, ◌∙◌, rules}
+use Rattle.std.proofs.Common.{◌≡◌, [], Some, None, refl, sym, ap, ◌∙◌, rules}
 use Rattle.std.specs.Ordering.{nat_cmp}
 use Rattle.std.specs.BTreeMap.{get}
 use Rattle.scan_record.specs.declared.rows.VertexRow.{VertexRow}
 use Rattle.scan_record.specs.Scan.{row_at}
 use Rattle.scan_record.specs.declared.rows.EdgeRow.{EdgeRow}
 use Rattle.plain_graph.specs.Collecting.{LeadsToRow, edge_list}
-use Rattle.plain_graph.proofs.Collects.{IsInRow, row_begins, row_ends, row_meets, row_pushes, row_rises, row_weighed}
+use Rattle.plain_graph.proofs.Collects.{row_begins, row_ends, row_meets, row_pushes, row_rises, row_weighed}
 use Rattle.plain_graph.proofs.parts.push_row.Goals as goal
 
 pub push_edge-requires-clause-weighed : goal.push_edge-requires-clause-weighed

@@ -1,4 +1,4 @@
-use Rattle.std.proofs.Common.{◌≡◌, true, length, ◌∙◌}
+use Rattle.std.proofs.Common.{◌∙◌}
 use Rattle.graph_kinds.specs.Graph.{IsGraph}
 use Rattle.scan_record.specs.Scan.{IsComplete}
 use Rattle.scan_record.specs.ScanGraph.{graph_of_scan}

@@ -1,4 +1,4 @@
-use Rattle.std.proofs.Common.{◌≡◌, ap, ◌∙◌}
+use Rattle.std.proofs.Common.{ap, ◌∙◌}
 use Rattle.graph_kinds.specs.Graph.{Graph, has, weight_of}
 use Rattle.plain_graph.proofs.Changes.{fewer_pairs, weight-cut_to}
 use Rattle.plain_graph.proofs.graph.PlainGraph.cut_edges_to.Goals as goal

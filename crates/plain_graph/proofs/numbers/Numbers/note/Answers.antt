@@ -1,9 +1,8 @@
-use Rattle.std.proofs.Common.{◌≡◌, true, false, cond, Some, length, refl, sym, ap, ◌∙◌, true≢false, rules}
+use Rattle.std.proofs.Common.{cond, Some, refl, sym, ap, ◌∙◌, true≢false}
 use Rattle.std.proofs.Math.ListN.{set}
-use Rattle.std.specs.Prelude.{IsTrue}
 use Rattle.std.specs.Ordering.{nat_cmp}
 use Rattle.std.specs.BTreeMap.{get, is_at}
-use Rattle.plain_graph.specs.Collecting.{IsOfBucket, bucket_of, first_in}
+use Rattle.plain_graph.specs.Collecting.{bucket_of}
 use Rattle.plain_graph.proofs.Numbering.{numbering_first, numbering_other}
 use Rattle.plain_graph.proofs.numbers.Numbers.note.Goals as goal
 
