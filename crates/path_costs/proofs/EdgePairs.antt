@@ -6,7 +6,7 @@ use Rattle.scan_record.specs.Scan.{ScanValue, IsScan, IsComplete, blank_edge, ro
 use Rattle.scan_record.specs.ScanGraph.{leads_to, weight_to}
 use Rattle.scan_record.proofs.Edges.{length-edges_of, get_or-edges_of}
 use Rattle.scan_record.proofs.GraphOfScan.{weights_law}
-use Rattle.path_costs.specs.Search.{key_of, HasPair}
+use Rattle.path_costs.specs.Search.{key_of_row, HasPair}
 
 fails_both : (b c : Bool) → c ≡ false → (b && c) ≡ false
 fails_both true c e = e
@@ -49,7 +49,7 @@ found_at (edge ∷ edges) b w h =
     ] refl h
 
 -- rows with the same key are one
-pub same_row : (s : ScanValue) → IsComplete s → (j k : ℕ) → j < length s.rows → k < length s.rows → key_of s j ≡ key_of s k → j ≡ k
+pub same_row : (s : ScanValue) → IsComplete s → (j k : ℕ) → j < length s.rows → k < length s.rows → key_of_row s j ≡ key_of_row s k → j ≡ k
 same_row s is j k g h e = elim (cases_lt j k) as (λ _. j ≡ k) [
   | inl lt ↦ absurd (is.keys_differ j k lt h e)
   | inr le ↦ elim (cases_lt k j) as (λ _. j ≡ k) [
@@ -82,8 +82,8 @@ module _ (s : ScanValue) (scan : IsScan s) (is : IsComplete s) (x : ℕ) (h : x 
       let j : ℕ = p - (row_at s x).first in
       let here = at p low high in
       let inside : j < length edges = omega (arith, low, high, length-edges_of s x scan h) in
-      let key : (get_or edges j blank_edge).key ≡ key_of s t = ap (λ (f : EdgeRow). f.key) here ∙ sym (is.target_keys p t (within p high) e) in
-      weights_law s x (key_of s t) scan is h
+      let key : (get_or edges j blank_edge).key ≡ key_of_row s t = ap (λ (f : EdgeRow). f.key) here ∙ sym (is.target_keys p t (within p high) e) in
+      weights_law s x (key_of_row s t) scan is h
       ∙ (ap (λ (k : ℕ). weight_to k edges) (sym key)
       ∙ (weight_there edges j t inside (ap (λ (f : EdgeRow). f.target) here ∙ e) earlier
       ∙ ap (λ (f : EdgeRow). Some f.weight) here))
@@ -99,12 +99,12 @@ module _ (s : ScanValue) (scan : IsScan s) (is : IsComplete s) (x : ℕ) (h : x 
   pub pair_edge : (y w : ℕ) → y < length s.rows → HasPair s x y w → IsEdge s x y w
   pair_edge y w k pair =
       let edges : List EdgeRow = edges_of s (row_at s x) in
-      let l : LeadsAt edges (key_of s y) w = found_at edges (key_of s y) w (sym (weights_law s x (key_of s y) scan is h) ∙ pair) in
+      let l : LeadsAt edges (key_of_row s y) w = found_at edges (key_of_row s y) w (sym (weights_law s x (key_of_row s y) scan is h) ∙ pair) in
       let long = length-edges_of s x scan h in
       let p : ℕ = (row_at s x).first + l.place in
       let high : p < (row_at s x).first + (row_at s x).count = omega (arith, l.inside, long) in
       let here : get_or edges l.place blank_edge ≡ edge_at s p = get_or-edges_of s (row_at s x) l.place (omega (arith, l.inside, long)) in
       let target : (edge_at s p).target ≡ Some l.row = ap (λ (f : EdgeRow). f.target) (sym here) ∙ l.target in
-      let key : key_of s l.row ≡ key_of s y = is.target_keys p l.row (within p high) target ∙ (ap (λ (f : EdgeRow). f.key) (sym here) ∙ l.key) in
+      let key : key_of_row s l.row ≡ key_of_row s y = is.target_keys p l.row (within p high) target ∙ (ap (λ (f : EdgeRow). f.key) (sym here) ∙ l.key) in
       let same : l.row ≡ y = same_row s is l.row y (scan.targets_are_rows p l.row (within p high) target) k key in
       record { place = p; low = omega arith; high = high; target = target ∙ ap (λ (r : ℕ). Some r) same; weight = ap (λ (f : EdgeRow). f.weight) (sym here) ∙ l.weight }

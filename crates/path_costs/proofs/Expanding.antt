@@ -9,18 +9,18 @@ use Rattle.scan_record.specs.Scan.{ScanValue, IsScan, IsComplete, blank_edge, ro
 use Rattle.scan_record.specs.ScanGraph.{graph_of_scan}
 use Rattle.scan_record.proofs.ScanFacts.{graph_kept, rows_kept, kept_same, kept_on}
 use Rattle.path_costs.specs.Heap.{state_of, settled_count}
-use Rattle.path_costs.specs.Search.{key_of, HasPair, IsFollowed, IsSearch, IsOpen, FollowsPair}
+use Rattle.path_costs.specs.Search.{key_of_row, HasPair, IsFollowed, IsSearch, IsOpen, FollowsPair}
 use Rattle.path_costs.proofs.EdgePairs.{IsEdge, within, edge_pair, pair_edge}
 
 -- a pair stays where the rows stay
 pub pair_kept : (old s : ScanValue) → KeepsRows old s → (x y w : ℕ) → HasPair s x y w → HasPair old x y w
 pair_kept old s kept x y w pair =
-    ap (λ (g : Graph). weight_of g (key_of old x) (key_of old y)) (sym (graph_kept old s kept))
+    ap (λ (g : Graph). weight_of g (key_of_row old x) (key_of_row old y)) (sym (graph_kept old s kept))
     ∙ (ap₂ (λ (j k : ℕ). weight_of (graph_of_scan s) j k) (ap (λ (v : VertexRow). v.key) (sym (rows_kept old s kept x))) (ap (λ (v : VertexRow). v.key) (sym (rows_kept old s kept y))) ∙ pair)
 
 pub pair_there : (old s : ScanValue) → KeepsRows old s → (x y w : ℕ) → HasPair old x y w → HasPair s x y w
 pair_there old s kept x y w pair =
-    ap (λ (g : Graph). weight_of g (key_of s x) (key_of s y)) (graph_kept old s kept)
+    ap (λ (g : Graph). weight_of g (key_of_row s x) (key_of_row s y)) (graph_kept old s kept)
     ∙ (ap₂ (λ (j k : ℕ). weight_of (graph_of_scan old) j k) (ap (λ (v : VertexRow). v.key) (rows_kept old s kept x)) (ap (λ (v : VertexRow). v.key) (rows_kept old s kept y)) ∙ pair)
 
 pub rows_long : (old s : ScanValue) → KeepsRows old s → length s.rows ≡ length old.rows

@@ -3,13 +3,13 @@ use Rattle.std.proofs.Common.{◌≡◌, ◌≢◌, ℕ, ◌+◌, ◌<◌, ◌�
 use Rattle.std.specs.Prelude.{count_by}
 use Rattle.scan_record.specs.Scan.{ScanValue, IsScan}
 use Rattle.path_costs.specs.Heap.{states_of, state_of, settled_count}
-use Rattle.path_costs.specs.Search.{key_of, row_cost, parent_of, HasPair, IsFollowed, IsOpen, FollowsPair}
+use Rattle.path_costs.specs.Search.{key_of_row, row_cost, parent_of, HasPair, IsFollowed, IsOpen, FollowsPair}
 use Rattle.path_costs.proofs.HeapPlaces.{one_if, count_by-set, length-states_of, state_at}
 use Rattle.path_costs.proofs.Following.{IsRelaxed, relaxed}
 
 module _ (s : ScanValue) (scan : IsScan s) (from row w : ℕ) (now : IsOpen s from) (r : row < length s.rows) (pair : HasPair s from row w) where
   some_weight : 1 ≤ w
-  some_weight = now.search.graph.weighed (key_of s from) (key_of s row) w pair
+  some_weight = now.search.graph.weighed (key_of_row s from) (key_of_row s row) w pair
 
   -- the state after a row's parent is set
   abbrev changed : (cs zs os : List ℕ) → ScanValue
@@ -104,7 +104,7 @@ module _ (s : ScanValue) (scan : IsScan s) (from row w : ℕ) (now : IsOpen s fr
           }
 
   -- a row that gets a lesser parent
-  pub lesser_follows : state_of s row ≢ 0 → row_cost s row ≡ row_cost s from + w → w ≤ 4294967295 → key_of s from < key_of s (parent_of s row)
+  pub lesser_follows : state_of s row ≢ 0 → row_cost s row ≡ row_cost s from + w → w ≤ 4294967295 → key_of_row s from < key_of_row s (parent_of s row)
       → FollowsPair s (changed s.costs s.slot_zero s.slot_one) from row w
   lesser_follows met tie fits less =
       relaxed s from row w s.costs s.slot_zero s.slot_one (set s.slot_two row from) now r (past_root (omega (arith, tie, some_weight))) pair fits (λ e. absurd (omega (arith, e, two)))
@@ -122,7 +122,7 @@ module _ (s : ScanValue) (scan : IsScan s) (from row w : ℕ) (now : IsOpen s fr
             cost = was.cost;
             least = λ some f.
                 let le = was.least some f in
-                subst (λ (q : ℕ). key_of s q ≤ key_of s x) (sym parent_set) (omega (arith, le, less));
+                subst (λ (q : ℕ). key_of_row s q ≤ key_of_row s x) (sym parent_set) (omega (arith, le, less));
           }
 
   -- the parent of a row that costs as much

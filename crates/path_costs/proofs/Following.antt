@@ -10,7 +10,7 @@ use Rattle.scan_record.specs.Asked.{root_of}
 use Rattle.scan_record.specs.Scan.{ScanValue}
 use Rattle.scan_record.specs.ScanGraph.{graph_of_scan}
 use Rattle.path_costs.specs.Heap.{state_of, settled_count}
-use Rattle.path_costs.specs.Search.{key_of, row_cost, parent_of, HasPair, IsFollowed, HasParent, IsReached, IsSearchBut, IsOpen, FollowsPair}
+use Rattle.path_costs.specs.Search.{key_of_row, row_cost, parent_of, HasPair, IsFollowed, HasParent, IsReached, IsSearchBut, IsOpen, FollowsPair}
 
 -- a pair has one weight
 pub one_weight : (s : ScanValue) (x y v w : ℕ) → HasPair s x y v → HasPair s x y w → v ≡ w
@@ -18,12 +18,12 @@ one_weight s x y v w a b = ap (λ (o : Option ℕ). unwrap_or o v) (sym a ∙ b)
 
 -- one more pair at the end of a path that reaches a row
 pub reached_on : (s : ScanValue) (x y w : ℕ) → IsGraph (graph_of_scan s) → HasPair s x y w → IsReached s x
-    → (path : List ℕ) × IsPath (graph_of_scan s) (root_of s) (key_of s y) path × (cost_of (graph_of_scan s) path ≡ row_cost s x + w)
+    → (path : List ℕ) × IsPath (graph_of_scan s) (root_of s) (key_of_row s y) path × (cost_of (graph_of_scan s) path ≡ row_cost s x + w)
 reached_on s x y w is pair r =
-    let there : is_some (weight_of (graph_of_scan s) (key_of s x) (key_of s y)) ≡ true = ap (λ (o : Option ℕ). is_some o) pair in (
-      r.path ++ key_of s y ∷ [],
-      path_on (graph_of_scan s) (root_of s) (key_of s x) (key_of s y) r.path r.is_path there (is.to_key (key_of s x) (key_of s y) w pair),
-      cost_on (graph_of_scan s) (root_of s) (key_of s x) (key_of s y) w r.path r.is_path pair ∙ ap (λ (c : ℕ). c + w) r.cost,
+    let there : is_some (weight_of (graph_of_scan s) (key_of_row s x) (key_of_row s y)) ≡ true = ap (λ (o : Option ℕ). is_some o) pair in (
+      r.path ++ key_of_row s y ∷ [],
+      path_on (graph_of_scan s) (root_of s) (key_of_row s x) (key_of_row s y) r.path r.is_path there (is.to_key (key_of_row s x) (key_of_row s y) w pair),
+      cost_on (graph_of_scan s) (root_of s) (key_of_row s x) (key_of_row s y) w r.path r.is_path pair ∙ ap (λ (c : ℕ). c + w) r.cost,
     )
 
 module _ (s : ScanValue) (from row w : ℕ) (cs zs os ps : List ℕ) where
@@ -56,7 +56,7 @@ module _ (s : ScanValue) (from row w : ℕ) (cs zs os ps : List ℕ) where
     was_settled : (x : ℕ) → state_of written x ≡ 1 → state_of s x ≡ 1
     was_settled x e = sym (new.states x (was_not x e)) ∙ e
 
-    over : (path : List ℕ) × IsPath (graph_of_scan s) (root_of s) (key_of s row) path × (cost_of (graph_of_scan s) path ≡ row_cost s from + w)
+    over : (path : List ℕ) × IsPath (graph_of_scan s) (root_of s) (key_of_row s row) path × (cost_of (graph_of_scan s) path ≡ row_cost s from + w)
     over = reached_on s from row w now.search.graph pair (now.search.reached from now.row (omega (arith, now.settled)))
 
     written_reached : (y : ℕ) → y < length s.rows → 1 ≤ state_of written y → IsReached written y
@@ -120,14 +120,14 @@ module _ (s : ScanValue) (from row w : ℕ) (cs zs os ps : List ℕ) where
       cost = omega (arith, new.costs x x_not, new.costs y y_not, f.cost);
       least = λ some e.
           let same : parent_of written y ≡ parent_of s y = new.parents y y_not in
-          subst (λ (p : ℕ). key_of s p ≤ key_of s x) (sym same) (f.least some (sym (new.costs y y_not) ∙ (e ∙ ap (λ (c : ℕ). c + v) (new.costs x x_not))));
+          subst (λ (p : ℕ). key_of_row s p ≤ key_of_row s x) (sym same) (f.least some (sym (new.costs y y_not) ∙ (e ∙ ap (λ (c : ℕ). c + v) (new.costs x x_not))));
     }
 
     row_followed : IsFollowed written from row w
     row_followed = record {
       met = omega (arith, new.state);
       cost = omega (arith, new.cost, new.costs from from_not);
-      least = λ some e. subst (λ (p : ℕ). key_of s p ≤ key_of s from) (sym new.parent) (omega arith);
+      least = λ some e. subst (λ (p : ℕ). key_of_row s p ≤ key_of_row s from) (sym new.parent) (omega arith);
     }
 
     written_followed : (x y v : ℕ) → x < length s.rows → y < length s.rows → state_of written x ≡ 1 → x ≢ from → HasPair s x y v → IsFollowed written x y v

@@ -9,8 +9,8 @@ use Rattle.scan_record.specs.Asked.{root_of, KeepsRows}
 use Rattle.path_costs.specs.Heap.{state_of, settled_count}
 
 -- the key of a row
-abbrev pub key_of : ScanValue → ℕ → ℕ
-key_of s r = (row_at s r).key
+abbrev pub key_of_row : ScanValue → ℕ → ℕ
+key_of_row s r = (row_at s r).key
 
 -- the cost of a row: that of the way by which it was met
 abbrev pub row_cost : ScanValue → ℕ → ℕ
@@ -26,14 +26,14 @@ greatest_weight = 2 ^ 32 - 1
 
 -- the pair from x to y has weight w
 abbrev pub HasPair : ScanValue → ℕ → ℕ → ℕ → Type 0
-HasPair s x y w = weight_of (graph_of_scan s) (key_of s x) (key_of s y) ≡ Some w
+HasPair s x y w = weight_of (graph_of_scan s) (key_of_row s x) (key_of_row s y) ≡ Some w
 
 -- the pair from x to y of weight w was followed: y is met and costs no more than over x, and where it costs as
 -- much, its parent's key is no greater than that of x
 pub record IsFollowed (s : ScanValue) (x y w : ℕ) : Type 0 where
   pub met : 1 ≤ state_of s y
   pub cost : row_cost s y ≤ row_cost s x + w
-  pub least : 0 < y → row_cost s y ≡ row_cost s x + w → key_of s (parent_of s y) ≤ key_of s x
+  pub least : 0 < y → row_cost s y ≡ row_cost s x + w → key_of_row s (parent_of s y) ≤ key_of_row s x
 
 -- the parent of y is settled, and y costs the weight of the pair from there more
 pub record HasParent (s : ScanValue) (y : ℕ) : Type 0 where
@@ -46,7 +46,7 @@ pub record HasParent (s : ScanValue) (y : ℕ) : Type 0 where
 -- a path leads to y, of the cost of y
 pub record IsReached (s : ScanValue) (y : ℕ) : Type 0 where
   pub path : List ℕ
-  pub is_path : IsPath (graph_of_scan s) (root_of s) (key_of s y) path
+  pub is_path : IsPath (graph_of_scan s) (root_of s) (key_of_row s y) path
   pub cost : cost_of (graph_of_scan s) path ≡ row_cost s y
 
 -- the state of a search: row 0 is met and costs nothing; each row that is met is reached, and but for row 0 has a
@@ -89,7 +89,7 @@ pub record FollowsPair (old new : ScanValue) (x y w : ℕ) : Type 0 where
 pub record IsSettledTree (s : ScanValue) : Type 0 where
   pub graph : IsGraph (graph_of_scan s)
   pub costs : (y : ℕ) → y < length s.rows → state_of s y ≡ 1
-      → least_cost (graph_of_scan s) (root_of s) (key_of s y) ≡ Some (row_cost s y)
+      → least_cost (graph_of_scan s) (root_of s) (key_of_row s y) ≡ Some (row_cost s y)
   pub parents : (y : ℕ) → 0 < y → y < length s.rows → state_of s y ≡ 1 → HasParent s y
-      × IsKeyBefore (graph_of_scan s) (root_of s) (key_of s (parent_of s y)) (key_of s y)
+      × IsKeyBefore (graph_of_scan s) (root_of s) (key_of_row s (parent_of s y)) (key_of_row s y)
   pub below : (y : ℕ) → y < length s.rows → state_of s y ≡ 1 → row_cost s y ≤ 65536 * greatest_weight

@@ -3,11 +3,11 @@
 ghost use Rattle.std.specs.Prelude.{◌≡◌, ℕ, ◌<◌, ◌≤◌, ◌^◌, ◌↔◌, List, length, reverse, take};
 ghost use Rattle.graph_kinds.specs.Answer.{by_cost};
 ghost use Rattle.graph_kinds.specs.Path.{IsPath, cost_of, IsLeastCost, least_cost, cheapest_path, GoesByLeastKeys};
-ghost use Rattle.scan_record.specs.Asked.{root_of, answered, KeepsRows};
+ghost use Rattle.scan_record.specs.Asked.{root_of, answer_in_region, KeepsRows};
 ghost use Rattle.scan_record.specs.Scan.{IsComplete};
 ghost use Rattle.scan_record.specs.ScanGraph.{graph_of_scan};
 ghost use Rattle.path_costs.specs.Heap.{state_of};
-ghost use Rattle.path_costs.specs.Search.{key_of, IsSettledTree};
+ghost use Rattle.path_costs.specs.Search.{key_of_row, IsSettledTree};
 
 use crate::heap::{ROW, SETTLED};
 use crate::search::{PARENT, search};
@@ -21,7 +21,7 @@ fn gather(scan: &mut Scan, row: u32) -> u32
     requires row { row < length scan.old.rows }
     requires settled { state_of scan.old row ≡ SETTLED }
     ensures count { result ≤ length scan.old.rows }
-    ensures path { IsPath (graph_of_scan scan.old) (root_of scan.old) (key_of scan.old row)
+    ensures path { IsPath (graph_of_scan scan.old) (root_of scan.old) (key_of_row scan.old row)
         (reverse (take result scan.new.slot_zero)) }
     ensures keys { GoesByLeastKeys (graph_of_scan scan.old) (root_of scan.old)
         (reverse (take result scan.new.slot_zero)) }
@@ -46,7 +46,8 @@ fn gather(scan: &mut Scan, row: u32) -> u32
 /// Williams 1964).
 pub fn cheapest(scan: &mut Scan, goal: u32) -> Outcome
     requires { IsComplete scan.old }
-    ensures answer { answered result scan.new ≡ by_cost (least_cost (graph_of_scan scan.old) (root_of scan.old) goal)
+    ensures answer { answer_in_region result scan.new
+        ≡ by_cost (least_cost (graph_of_scan scan.old) (root_of scan.old) goal)
         (cheapest_path (graph_of_scan scan.old) (root_of scan.old) goal) }
 
     // What the rules of least costs and of the way back come to:

@@ -11,7 +11,7 @@ ghost use Rattle.scan_record.specs.Asked.{root_of, KeepsRows};
 ghost use Rattle.scan_record.specs.Scan.{IsComplete};
 ghost use Rattle.scan_record.specs.ScanGraph.{graph_of_scan};
 ghost use Rattle.path_costs.specs.Heap.{state_of, settled_count, IsHeap};
-ghost use Rattle.path_costs.specs.Search.{key_of, HasPair, IsSearch, IsOpen, FollowsPair, IsSettledTree};
+ghost use Rattle.path_costs.specs.Search.{key_of_row, HasPair, IsSearch, IsOpen, FollowsPair, IsSettledTree};
 
 use crate::heap::{NOT_MET, SETTLED, STATE, enter, lower, take};
 use scan_record::Scan;
@@ -101,7 +101,7 @@ fn expand(scan: &mut Scan, places: u32, from: u32) -> u32
 /// O((rows + edges) · log rows).
 pub fn search(scan: &mut Scan, goal: u32) -> Option<u32>
     requires { IsComplete scan.old }
-    ensures found { IfSome result (λ row. (row < length scan.old.rows) × (key_of scan.old row ≡ goal)
+    ensures found { IfSome result (λ row. (row < length scan.old.rows) × (key_of_row scan.old row ≡ goal)
         × (state_of scan.new row ≡ SETTLED) × IsSettledTree scan.new) }
     ensures none { IfNone result (least_cost (graph_of_scan scan.old) (root_of scan.old) goal ≡ None) }
     ensures graph { IsGraph (graph_of_scan scan.old) }

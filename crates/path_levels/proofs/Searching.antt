@@ -2,16 +2,17 @@
 use Rattle.std.proofs.Common.{◌≡◌, ◌≢◌, ℕ, ◌+◌, ◌-◌, ◌<◌, ◌≤◌, true, List, [], ◌∷◌, ◌++◌, length, take, drop, get_or, filter, not, flat_map, append-nil, refl, sym, ap, ap₂, ◌∙◌, subst, arith, length-append, length-drop}
 use Rattle.std.specs.List.{concat}
 use Rattle.std.proofs.lemmas.List.{get_or-drop, take_more, take_rest, drop_at}
+use Rattle.std.proofs.lemmas.List.Folds.{concat-append}
 use Rattle.std.proofs.lemmas.Grind.{flat_map-append}
 use Rattle.graph_kinds.specs.Graph.{Graph, IsGraph, has, neighbours}
 use Rattle.graph_kinds.specs.declared.outcome.Outcome.TheVariants as out
 use Rattle.graph_kinds.specs.Answer.{by_levels}
-use Rattle.graph_kinds.specs.Levels.{stands_in, firsts_of, levels_of, level_ends, level_after}
+use Rattle.graph_kinds.specs.Levels.{stands_in, firsts_of, levels_from, levels_of, level_ends, level_after}
 use Rattle.scan_record.specs.declared.rows.VertexRow.{VertexRow}
-use Rattle.scan_record.specs.Asked.{root_of, answered}
+use Rattle.scan_record.specs.Asked.{root_of, answer_in_region}
 use Rattle.scan_record.specs.Scan.{ScanValue}
 use Rattle.scan_record.specs.ScanGraph.{graph_of_scan}
-use Rattle.path_levels.specs.Queue.{with_all}
+use Rattle.path_levels.specs.Queue.{with_all, IsFront}
 use Rattle.path_levels.specs.Search.{KeepsRowsAndCosts, IsQueue}
 use Rattle.path_levels.proofs.MetLists.{with_all-append, with_all-firsts}
 use Rattle.path_levels.proofs.Listed.{IsListed, first_listed, next_listed, all_listed, concat-push, level_ends-push, length-level_ends}
@@ -87,6 +88,20 @@ at_first g a keys ends one none = record { listed = []; level = a ∷ []; all = 
 level_is : (g : Graph) (a : ℕ) (keys ends : List ℕ) (from : ℕ) (l : IsAtLevel g a keys ends from) → drop from keys ≡ l.level
 level_is g a keys ends from l = ap (drop from) l.all ∙ drop_at (concat l.listed) l.level from (sym l.before)
 
+level_filled : (g : Graph) (a : ℕ) (keys ends : List ℕ) (from : ℕ) (l : IsAtLevel g a keys ends from) → from < length keys → l.level ≢ []
+level_filled g a keys ends from l lt e = absurd (omega (arith, lt, l.before, ap (λ (xs : List ℕ). length xs) l.all, length-append (concat l.listed) l.level, ap (λ (xs : List ℕ). length xs) e))
+
+-- the keys so far are the first ones of all levels
+pub at_front_of_all : (g : Graph) (a : ℕ) → IsGraph g → has g a ≡ true → (keys ends : List ℕ) (from : ℕ) → IsAtLevel g a keys ends from → from < length keys
+    → IsFront keys (concat (levels_of g a))
+at_front_of_all g a is there keys ends from l lt =
+    let n = next_listed g a is there l.listed l.level l.now (level_filled g a keys ends from l lt) in
+    let rest = levels_from g n.turns (concat (l.listed ++ l.level ∷ [])) (level_after g (concat l.listed ++ l.level) l.level) in
+    record {
+      later = concat rest;
+      all = ap (λ (xs : List ℕ). xs ++ concat rest) (l.all ∙ sym (concat-push l.listed l.level)) ∙ (sym (concat-append (l.listed ++ l.level ∷ []) rest) ∙ sym (ap concat n.rest));
+    }
+
 pub at_next : (g : Graph) (a : ℕ) → IsGraph g → has g a ≡ true → (keys ends : List ℕ) (from : ℕ) → IsAtLevel g a keys ends from → from < length keys
     → (new : List ℕ) → new ≡ with_all keys (flat_map (neighbours g) (drop from keys)) → IsAtLevel g a new (ends ++ length keys ∷ []) (length keys)
 at_next g a is there keys ends from l lt new grown = record {
@@ -99,14 +114,11 @@ at_next g a is there keys ends from l lt new grown = record {
       ∙ ap (λ (xs : List ℕ). xs ++ level_after g (concat l.listed ++ l.level) l.level) (sym (concat-push l.listed l.level)))));
   ended = ap₂ (λ (es : List ℕ) (n : ℕ). es ++ n ∷ []) l.ended long ∙ sym (level_ends-push 0 l.listed l.level);
   before = ap (λ (xs : List ℕ). length xs) (l.all ∙ sym (concat-push l.listed l.level));
-  now = next_listed g a is there l.listed l.level l.now filled;
+  now = next_listed g a is there l.listed l.level l.now (level_filled g a keys ends from l lt);
 }
   where
     long : length keys ≡ 0 + length (concat l.listed ++ l.level)
     long = omega (arith, ap (λ (xs : List ℕ). length xs) l.all)
-
-    filled : l.level ≢ []
-    filled e = absurd (omega (arith, lt, l.before, ap (λ (xs : List ℕ). length xs) l.all, length-append (concat l.listed) l.level, ap (λ (xs : List ℕ). length xs) e))
 
 nothing : (xs : List ℕ) → length xs ≡ 0 → xs ≡ []
 nothing [] e = refl
@@ -199,12 +211,16 @@ pub search_end : (old s : ScanValue) (from end : ℕ) → IsSearching old s from
     → (s.keys ≡ concat (levels_of (graph_of_scan old) (root_of old))) × (s.ends ≡ level_ends 0 (levels_of (graph_of_scan old) (root_of old)))
 search_end old s from end now le = at_end (graph_of_scan old) (root_of old) s.keys s.ends from now.level (omega (arith, le, now.long))
 
+-- where the levels end, all keys were met
+pub all_met : (old s : ScanValue) (from end : ℕ) → IsSearching old s from end → end ≤ from → IsFront s.keys (concat (levels_of (graph_of_scan old) (root_of old)))
+all_met old s from end now le = record { later = []; all = append-nil s.keys ∙ (search_end old s from end now le).0 }
+
 -- there are no more keys than rows, before and after
 pub search_few : (old s : ScanValue) (from end : ℕ) → IsSearching old s from end → length s.keys ≤ length old.rows
 search_few old s from end now = omega (arith, queue_few s from now.queue, ap (λ (rows : List VertexRow). length rows) now.kept.rows.rows)
 
 -- the listed levels with their number are the answer
-pub levels_answer : (g : Graph) (a : ℕ) (s : ScanValue) → s.keys ≡ concat (levels_of g a) → s.ends ≡ level_ends 0 (levels_of g a) → (count : ℕ) → count ≡ length s.ends → answered (out.Levels count) s ≡ by_levels (levels_of g a)
+pub levels_answer : (g : Graph) (a : ℕ) (s : ScanValue) → s.keys ≡ concat (levels_of g a) → s.ends ≡ level_ends 0 (levels_of g a) → (count : ℕ) → count ≡ length s.ends → answer_in_region (out.Levels count) s ≡ by_levels (levels_of g a)
 levels_answer g a s keys ends count e =
     let long : count ≡ length (levels_of g a) = e ∙ (ap (λ (xs : List ℕ). length xs) ends ∙ length-level_ends 0 (levels_of g a)) in
     λ i. record { outcome = out.Levels (long i); keys = keys i; ends = ends i }

@@ -1,5 +1,5 @@
 -- The way back by the parents of a finished queue is the path of reach.
-use Rattle.std.proofs.Common.{◌≡◌, ◌≢◌, ℕ, zero, suc, ◌<◌, ◌≤◌, Bool, true, false, cond, ◌⊎◌, inl, inr, List, [], ◌∷◌, ◌++◌, length, get_or, find, unwrap_or, Option, Some, None, AllPairs, append_assoc, refl, sym, ap, ◌∙◌, subst, arith, length-append}
+use Rattle.std.proofs.Common.{◌≡◌, ◌≢◌, ℕ, zero, suc, ◌<◌, ◌≤◌, ◌==◌, Bool, true, false, cond, ◌⊎◌, inl, inr, List, [], ◌∷◌, ◌++◌, length, get_or, find, unwrap_or, Option, Some, None, AllPairs, append_assoc, refl, sym, ap, ◌∙◌, subst, arith, length-append}
 use Rattle.std.specs.Option.{option_or}
 use Rattle.std.specs.List.{concat}
 use Rattle.std.proofs.lemmas.Bool.{true≢false, cases_lt, ne_eqb}
@@ -47,16 +47,21 @@ behind xs ys p out = elim (cases_lt p (length xs)) as (λ _. length xs ≤ p) [
 some_same : (x y : ℕ) → Some x ≡ Some y → x ≡ y
 some_same x y e = ap (λ (o : Option ℕ). unwrap_or o x) e
 
-module _ (g : Graph) (a : ℕ) (queue parents : List ℕ) (tree : IsTree g queue parents) where
+-- the keys at the first places of a queue have their parents
+record IsTreeBefore (g : Graph) (queue parents : List ℕ) (places : ℕ) : Type 0 where
+  pub before : (p : ℕ) → 0 < p → p < places → get_or parents p 0 < p
+  pub first : (p : ℕ) → 0 < p → p < places → find (leads g (get_or queue p 0)) queue ≡ Some (get_or queue (get_or parents p 0) 0)
+
+module _ (g : Graph) (a : ℕ) (queue parents : List ℕ) (places : ℕ) (tree : IsTreeBefore g queue parents places) where
   key : ℕ → ℕ
   key p = get_or queue p 0
 
   -- the ways to the keys of a level, of which these are the earlier ones
   abbrev Ways : List (List ℕ) → List ℕ → Type 0
-  Ways earlier level = (p n : ℕ) → p ≤ n → p < length queue → In (get_or queue p 0) level → trail queue parents n p ≡ way_back g earlier (get_or queue p 0)
+  Ways earlier level = (p n : ℕ) → p ≤ n → p < places → In (get_or queue p 0) level → trail queue parents n p ≡ way_back g earlier (get_or queue p 0)
 
   -- a key with a parent in the level before
-  step : (earlier : List (List ℕ)) (level : List ℕ) → Ways earlier level → (p n z : ℕ) → p ≤ n → 0 < p → p < length queue
+  step : (earlier : List (List ℕ)) (level : List ℕ) → Ways earlier level → (p n z : ℕ) → p ≤ n → 0 < p → p < places
       → find (leads g (get_or queue p 0)) level ≡ Some z → In z level → get_or queue (get_or parents p 0) 0 ≡ z
       → trail queue parents n p ≡ way_back g (level ∷ earlier) (get_or queue p 0)
   step earlier level ways p zero z le pos lt found h same = absurd (omega arith)
@@ -84,7 +89,7 @@ module _ (g : Graph) (a : ℕ) (queue parents : List ℕ) (tree : IsTree g queue
       step earlier (x ∷ xs) ways p n f.0 le pos lt f.1 f.2 same
 
   way_found : (n i : ℕ) (known level : List ℕ) → IsTurn g a i known level → queue ≡ known ++ concat (levels_from g n known level) → (earlier : List (List ℕ)) → Ways earlier level
-      → (p m : ℕ) → p ≤ m → p < length queue → In (get_or queue p 0) (concat (levels_from g n known level))
+      → (p m : ℕ) → p ≤ m → p < places → In (get_or queue p 0) (concat (levels_from g n known level))
       → way_in g earlier (levels_from g n known level) (get_or queue p 0) ≡ Some (trail queue parents m p)
   way_found zero i known level t whole earlier ways p m le lt h = absurd h
   way_found (suc n) i known [] t whole earlier ways p m le lt h = absurd h
@@ -119,19 +124,19 @@ way_nowhere g earlier (level ∷ later) b out =
 pub reach_nowhere : (g : Graph) (a b : ℕ) → stands_in (concat (levels_of g a)) b ≡ false → reach_path g a b ≡ None
 reach_nowhere g a b out = way_nowhere g [] (levels_of g a) b (λ h. true≢false (sym (stands (concat (levels_of g a)) b h) ∙ out))
 
--- the way by parents to a place of the queue is the path to its key
-pub reach_there : (g : Graph) (a : ℕ) (queue parents : List ℕ) → IsTree g queue parents → queue ≡ concat (levels_of g a) → get_or queue 0 0 ≡ a
-    → (p : ℕ) → p < length queue → reach_path g a (get_or queue p 0) ≡ Some (trail queue parents p p)
-reach_there g a queue parents tree whole root p lt =
-    way_found g a queue parents tree (key_count g) 0 [] (a ∷ []) (first_turn g a) whole [] first p p (omega arith) lt (subst (λ (q : List ℕ). In (get_or queue p 0) q) whole (in_place queue p 0 lt))
+-- the way by parents to one of these places is the path to its key
+reach_there : (g : Graph) (a : ℕ) (queue parents : List ℕ) (places : ℕ) → places ≤ length queue → IsTreeBefore g queue parents places → queue ≡ concat (levels_of g a) → get_or queue 0 0 ≡ a
+    → (p : ℕ) → p < places → reach_path g a (get_or queue p 0) ≡ Some (trail queue parents p p)
+reach_there g a queue parents places long tree whole root p lt =
+    way_found g a queue parents places tree (key_count g) 0 [] (a ∷ []) (first_turn g a) whole [] first p p (omega arith) lt (subst (λ (q : List ℕ). In (get_or queue p 0) q) whole (in_place queue p 0 (omega arith)))
   where
     once : AllPairs (λ x y. x ≢ y) queue
     once = subst (AllPairs (λ x y. x ≢ y)) (sym whole) (once_law g a)
 
-    first : (q n : ℕ) → q ≤ n → q < length queue → In (get_or queue q 0) (a ∷ []) → trail queue parents n q ≡ get_or queue q 0 ∷ []
+    first : (q n : ℕ) → q ≤ n → q < places → In (get_or queue q 0) (a ∷ []) → trail queue parents n q ≡ get_or queue q 0 ∷ []
     first zero zero le h k = refl
     first zero (suc n) le h k = refl
-    first (suc q) n le h (inl e) = absurd (once 0 (suc q) 0 (omega arith) h (root ∙ e))
+    first (suc q) n le h (inl e) = absurd (once 0 (suc q) 0 (omega arith) (omega arith) (root ∙ e))
     first (suc q) n le h (inr k) = absurd k
 
 -- the first key of all levels is that from which they start
@@ -142,8 +147,36 @@ first_key g a there = from (key_count g) (few g.keys (a ∷ []) ((λ h. h), tt) 
     from zero h = absurd (omega arith)
     from (suc n) h = refl
 
--- the path by parents to the key at a place of the queue of all levels
-pub reach_place : (g : Graph) (a goal : ℕ) (queue parents : List ℕ) → has g a ≡ true → IsTree g queue parents → queue ≡ concat (levels_of g a)
-    → (p : ℕ) → p < length queue → get_or queue p 0 ≡ goal → reach_path g a goal ≡ Some (trail queue parents p p)
-reach_place g a goal queue parents there tree whole p lt here =
-    ap (reach_path g a) (sym here) ∙ reach_there g a queue parents tree whole (ap (λ (q : List ℕ). get_or q 0 0) whole ∙ first_key g a there) p lt
+-- keys that come behind change neither parents nor the way by them
+module _ (g : Graph) (met later parents : List ℕ) (tree : IsTree g met parents) where
+  at_front : (p : ℕ) → p < length met → get_or (met ++ later) p 0 ≡ get_or met p 0
+  at_front p lt = get_or_append_left met later 0 p lt
+
+  tree_front : IsTreeBefore g (met ++ later) parents (length met)
+  tree_front = record {
+    before = tree.before;
+    first = λ p pos lt. (let before = tree.before p pos lt in
+        ap (λ (y : ℕ). find (leads g y) (met ++ later)) (at_front p lt)
+        ∙ (find-append (leads g (get_or met p 0)) met later
+        ∙ (ap (λ (o : Option ℕ). option_or o (find (leads g (get_or met p 0)) later)) (tree.first p pos lt)
+        ∙ ap (λ (y : ℕ). Some y) (sym (at_front (get_or parents p 0) (omega arith))))));
+  }
+
+  trail_front : (n p : ℕ) → p < length met → trail (met ++ later) parents n p ≡ trail met parents n p
+  trail_front zero p lt = ap (λ (y : ℕ). y ∷ []) (at_front p lt)
+  trail_front (suc n) zero lt = ap (λ (y : ℕ). y ∷ []) (at_front 0 lt)
+  trail_front (suc n) (suc p) lt =
+      let before = tree.before (suc p) (omega arith) lt in
+      let q = get_or parents (suc p) 0 in
+      let off : (suc p == 0) ≡ false = ne_eqb (suc p) 0 (omega arith) in
+      ap (λ (b : Bool). cond b (get_or (met ++ later) (suc p) 0 ∷ []) (trail (met ++ later) parents n q ++ get_or (met ++ later) (suc p) 0 ∷ [])) off
+      ∙ ((λ i. trail_front n q (omega arith) i ++ at_front (suc p) lt i ∷ [])
+      ∙ sym (ap (λ (b : Bool). cond b (get_or met (suc p) 0 ∷ []) (trail met parents n q ++ get_or met (suc p) 0 ∷ [])) off))
+
+-- the path by parents to a key that was met, whatever keys come behind
+pub reach_met : (g : Graph) (a : ℕ) (met later parents : List ℕ) → has g a ≡ true → met ++ later ≡ concat (levels_of g a) → IsTree g met parents
+    → (p : ℕ) → p < length met → reach_path g a (get_or met p 0) ≡ Some (trail met parents p p)
+reach_met g a met later parents there whole tree p lt =
+    ap (reach_path g a) (sym (at_front g met later parents tree p lt))
+    ∙ (reach_there g a (met ++ later) parents (length met) (omega (arith, length-append met later)) (tree_front g met later parents tree) whole (ap (λ (q : List ℕ). get_or q 0 0) whole ∙ first_key g a there) p lt
+    ∙ ap (λ (q : List ℕ). Some q) (trail_front g met later parents tree p p lt))

@@ -17,6 +17,11 @@ with_all queue (x ∷ xs) = with_all (with_met queue x) xs
 abbrev pub leads : Graph → ℕ → ℕ → Bool
 leads g y x = is_some (weight_of g x y)
 
+-- keys are the first ones of a list
+pub record IsFront (keys whole : List ℕ) : Type 0 where
+  pub later : List ℕ
+  pub all : keys ++ later ≡ whole
+
 -- each key of the queue but the first has a parent: the first key of the queue from which an edge leads to it, whose
 -- place is before its own
 pub record IsTree (g : Graph) (queue parents : List ℕ) : Type 0 where

@@ -3,7 +3,7 @@
 ghost use Rattle.std.specs.Prelude.{◌≡◌};
 ghost use Rattle.graph_kinds.specs.Answer.{by_levels};
 ghost use Rattle.graph_kinds.specs.Levels.{levels_of};
-ghost use Rattle.scan_record.specs.Asked.{root_of, answered};
+ghost use Rattle.scan_record.specs.Asked.{root_of, answer_in_region};
 ghost use Rattle.scan_record.specs.Scan.{IsComplete};
 ghost use Rattle.scan_record.specs.ScanGraph.{graph_of_scan};
 ghost use Rattle.path_levels.specs.Search.{KeepsRowsAndCosts};
@@ -17,7 +17,8 @@ use scan_record::Scan;
 /// 1959).
 pub fn levels(scan: &mut Scan) -> Outcome
     requires { IsComplete scan.old }
-    ensures answer { answered result scan.new ≡ by_levels (levels_of (graph_of_scan scan.old) (root_of scan.old)) }
+    ensures answer { answer_in_region result scan.new
+        ≡ by_levels (levels_of (graph_of_scan scan.old) (root_of scan.old)) }
     ensures kept { KeepsRowsAndCosts scan.old scan.new }
     ensures graph { graph_of_scan scan.new ≡ graph_of_scan scan.old }
     ensures complete { IsComplete scan.new }

@@ -2,11 +2,14 @@
 #![tactic(auto)]
 
 mod all_levels;
+mod goal;
+mod laws;
 mod queue;
 mod search;
 mod shortest;
 
 pub use all_levels::levels;
+pub use laws::reach_is_fixed_once_met;
 pub use shortest::reach;
 
 #[cfg(test)]

@@ -4,8 +4,10 @@
 //! number stands in slot 0 at its place, the place of its parent in slot 1, and slot 2 has a mark at each
 //! row that was met: `IsQueue` of `specs/Search.antt`.
 
-ghost use Rattle.std.specs.Prelude.{◌≡◌, ℕ, ◌+◌, ◌<◌, ◌≤◌, true, [], ◌∷◌, length, slice_index};
+ghost use Rattle.std.specs.Prelude.{◌≡◌, ℕ, ◌+◌, ◌<◌, ◌≤◌, true, false, [], ◌∷◌, length, drop, slice_index};
+ghost use Rattle.std.specs.Prelude.{IfSome, IfNone};
 ghost use Rattle.graph_kinds.specs.Graph.{neighbours};
+ghost use Rattle.graph_kinds.specs.Levels.{stands_in};
 ghost use Rattle.scan_record.specs.Asked.{root_of};
 ghost use Rattle.scan_record.specs.Scan.{IsScan, IsComplete, row_at};
 ghost use Rattle.scan_record.specs.ScanGraph.{graph_of_scan};
@@ -29,6 +31,21 @@ pub fn queue_len(scan: &Scan) -> u32
 {
     prove!(scan.keys().len() <= scan.vertices() as usize);
     scan.keys().len() as u32
+}
+
+/// The place of a key in the queue, from a place on. O(keys from there on).
+pub fn place_of(scan: &Scan, from: u32, key: u32) -> Option<u32>
+    requires few { length scan.now.keys ≤ length scan.now.rows }
+    requires from { from ≤ length scan.now.keys }
+    ensures place { IfSome result (λ place. (place < length scan.now.keys) × (slice_index scan.now.keys place ≡ key)) }
+    ensures none { IfNone result (stands_in (drop from scan.now.keys) key ≡ false) }
+{
+    for place in from..queue_len(scan) {
+        if scan.keys()[place as usize] == key {
+            return Some(place);
+        }
+    }
+    None
 }
 
 /// Takes the mark from each row, in O(rows).

@@ -17,7 +17,7 @@ use crate::queue::{begin, expand, queue_len};
 use scan_record::Scan;
 
 /// Expands the rows of the queue from a place on, as many as there are, in O(their edges).
-fn expand_level(scan: &mut Scan, from: u32)
+pub fn expand_level(scan: &mut Scan, from: u32)
     requires complete { IsComplete scan.old }
     requires queue { IsQueue scan.old from }
     requires from { from ≤ length scan.old.keys }

@@ -1,34 +1,20 @@
 //! A path of fewest edges from row 0: back from the goal by parents, then written from the root on.
 
-ghost use Rattle.std.specs.Prelude.{◌≡◌, ℕ, ◌+◌, ◌<◌, ◌≤◌, ◌↔◌, false, List, [], length, slice_index};
-ghost use Rattle.std.specs.Prelude.{reverse, take, IfSome, IfNone};
+ghost use Rattle.std.specs.Prelude.{◌≡◌, ℕ, ◌+◌, ◌<◌, ◌≤◌, ◌↔◌, List, [], length, slice_index};
+ghost use Rattle.std.specs.Prelude.{reverse, take};
 ghost use Rattle.graph_kinds.specs.Answer.{by_path};
-ghost use Rattle.graph_kinds.specs.Levels.{stands_in, reach_path};
+ghost use Rattle.graph_kinds.specs.Levels.{reach_path};
 ghost use Rattle.graph_kinds.specs.Path.{IsPath};
-ghost use Rattle.scan_record.specs.Asked.{root_of, answered};
+ghost use Rattle.scan_record.specs.Asked.{root_of, answer_in_region};
 ghost use Rattle.scan_record.specs.Scan.{IsComplete};
 ghost use Rattle.scan_record.specs.ScanGraph.{graph_of_scan};
 ghost use Rattle.path_levels.specs.Queue.{trail};
 ghost use Rattle.path_levels.specs.Search.{KeepsRowsAndCosts};
 
+use crate::goal::search_to;
 use crate::queue::{MARK, PARENT, queue_len};
-use crate::search::search;
 use graph_kinds::Outcome;
 use scan_record::{Scan, write_back};
-
-/// The place of a key in the queue. O(keys).
-fn place_of(scan: &Scan, key: u32) -> Option<u32>
-    requires { length scan.now.keys ≤ length scan.now.rows }
-    ensures place { IfSome result (λ place. (place < length scan.now.keys) × (slice_index scan.now.keys place ≡ key)) }
-    ensures none { IfNone result (stands_in scan.now.keys key ≡ false) }
-{
-    for place in 0..queue_len(scan) {
-        if scan.keys()[place as usize] == key {
-            return Some(place);
-        }
-    }
-    None
-}
 
 /// Gathers the keys from a place back to the first one in the slot of the marks, and gives their number.
 fn gather(scan: &mut Scan, goal: u32) -> u32
@@ -52,11 +38,12 @@ fn gather(scan: &mut Scan, goal: u32) -> u32
 }
 
 /// The path by parents from row 0 to the goal: `Path` with its keys in the answer region, or `NoPath` with
-/// none, where no path leads there or the goal is no key. Takes no memory, in O(rows + edges) and what the answer
-/// held (Moore 1959).
+/// none, where no path leads there or the goal is no key. The search ends with the level that has the goal. Takes no
+/// memory, in O(rows + edges) and what the answer held (Moore 1959).
 pub fn reach(scan: &mut Scan, goal: u32) -> Outcome
     requires { IsComplete scan.old }
-    ensures answer { answered result scan.new ≡ by_path (reach_path (graph_of_scan scan.old) (root_of scan.old) goal) }
+    ensures answer { answer_in_region result scan.new
+        ≡ by_path (reach_path (graph_of_scan scan.old) (root_of scan.old) goal) }
 
     // What the rule of parents comes to: a path than which none is shorter, and none only where there is none.
     ensures path { result ≡ Outcome.Path → IsPath (graph_of_scan scan.old) (root_of scan.old) goal scan.new.keys }
@@ -69,8 +56,7 @@ pub fn reach(scan: &mut Scan, goal: u32) -> Outcome
     ensures graph { graph_of_scan scan.new ≡ graph_of_scan scan.old }
     ensures complete { IsComplete scan.new }
 {
-    search(scan);
-    match place_of(scan, goal) {
+    match search_to(scan, goal) {
         Some(place) => {
             let count = gather(scan, place);
             write_back(scan, MARK, count);

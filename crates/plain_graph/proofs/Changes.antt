@@ -1,5 +1,5 @@
 -- What a change of the graph leaves at each key and at each pair, how it counts, and that it leaves a graph.
-use Rattle.std.proofs.Common.{◌≡◌, ℕ, zero, suc, ◌+◌, ◌-◌, ◌<◌, ◌≤◌, ◌==◌, ◌&&◌, ◌||◌, not, Bool, true, false, cond, Option, Some, None, is_some, true≢false, refl, sym, ap, subst, ◌∙◌, arith, eqb-true}
+use Rattle.std.proofs.Common.{◌≡◌, ℕ, zero, suc, ◌+◌, ◌-◌, ◌<◌, ◌≤◌, ◌==◌, ◌&&◌, ◌||◌, not, Bool, true, false, cond, Option, Some, None, is_some, true≢false, refl, sym, ap, ap₂, subst, ◌∙◌, arith, eqb-true}
 use Rattle.std.specs.Cmp.{nat_cmp_total, nat_eq_equiv}
 use Rattle.std.specs.FinMap as finite_map
 use Rattle.std.specs.FinSet as finite_set
@@ -59,11 +59,46 @@ without-cut g h k keys weights = same_graph (without h k) (without g k)
     by false true w = refl
     by false false w = refl
 
+-- a key that is no vertex takes nothing with it
+pub without-absent : (g : Graph) (k : ℕ) → IsGraph g → has g k ≡ false → without g k ≡ g
+without-absent g k sound absent = same_graph (without g k) g
+    (λ q. has-without g k q ∙ by q (k == q) refl)
+    (weight-bare g k (λ a. no_source a (weight_of g a k) refl) (λ b. no_target b (weight_of g k b) refl))
+  where
+    by : (q : ℕ) (t : Bool) → (k == q) ≡ t → cond t false (has g q) ≡ has g q
+    by q true e = sym absent ∙ ap (has g) (eqb-true k q e)
+    by q false e = refl
+
+    no_source : (a : ℕ) (o : Option ℕ) → weight_of g a k ≡ o → weight_of g a k ≡ None
+    no_source a None e = e
+    no_source a (Some w) e = absurd (true≢false (sym (sound.to_key a k w e) ∙ absent))
+
+    no_target : (b : ℕ) (o : Option ℕ) → weight_of g k b ≡ o → weight_of g k b ≡ None
+    no_target b None e = e
+    no_target b (Some w) e = absurd (true≢false (sym (sound.from_key k b w e) ∙ absent))
+
 pub weight-add : (g : Graph) (x y w a b : ℕ) → weight_of (change g (AddEdge x y w)) a b ≡ cond ((x == a) && (y == b)) (Some w) (weight_of g a b)
 weight-add g x y w a b = weight_put g.pairs x y w a b ∙ (λ i. cond (nat_eq_equiv.symm a x i && nat_eq_equiv.symm b y i) (Some w) (weight_of g a b))
 
 pub weight-cut : (g : Graph) (x y a b : ℕ) → weight_of (change g (RemoveEdge x y)) a b ≡ cond ((x == a) && (y == b)) None (weight_of g a b)
 weight-cut g x y a b = weight_cut g.pairs x y a b ∙ (λ i. cond (nat_eq_equiv.symm a x i && nat_eq_equiv.symm b y i) None (weight_of g a b))
+
+-- an edge that is there with this weight is no new one, and one that isn't there takes nothing with it
+pub there-add_edge : (g : Graph) (x y w : ℕ) → weight_of g x y ≡ Some w → change g (AddEdge x y w) ≡ g
+there-add_edge g x y w there = same_graph _ g (λ q. refl) (λ a b. weight-add g x y w a b ∙ by a b (x == a) (y == b) refl refl)
+  where
+    by : (a b : ℕ) (s t : Bool) → (x == a) ≡ s → (y == b) ≡ t → cond (s && t) (Some w) (weight_of g a b) ≡ weight_of g a b
+    by a b true true p q = sym there ∙ ap₂ (weight_of g) (eqb-true x a p) (eqb-true y b q)
+    by a b true false p q = refl
+    by a b false t p q = refl
+
+pub absent-cut_edge : (g : Graph) (x y : ℕ) → weight_of g x y ≡ None → change g (RemoveEdge x y) ≡ g
+absent-cut_edge g x y none = same_graph _ g (λ q. refl) (λ a b. weight-cut g x y a b ∙ by a b (x == a) (y == b) refl refl)
+  where
+    by : (a b : ℕ) (s t : Bool) → (x == a) ≡ s → (y == b) ≡ t → cond (s && t) None (weight_of g a b) ≡ weight_of g a b
+    by a b true true p q = sym none ∙ ap₂ (weight_of g) (eqb-true x a p) (eqb-true y b q)
+    by a b true false p q = refl
+    by a b false t p q = refl
 
 -- where an edge is taken out that leads to another key, or from another one, the weight stays
 pub weight-cut_to : (g : Graph) (x y a b : ℕ) → (y == b) ≡ false → weight_of (change g (RemoveEdge x y)) a b ≡ weight_of g a b

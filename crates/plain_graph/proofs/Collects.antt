@@ -1,16 +1,16 @@
 -- How a part is collected, row by row and edge by edge, and that what stands at the end is the part.
-use Rattle.std.proofs.Common.{◌≡◌, ◌≢◌, ℕ, zero, suc, ◌+◌, ◌-◌, ◌<◌, ◌≤◌, ◌==◌, ◌&&◌, ◌||◌, ◌↔◌, Bool, true, false, cond, List, [], ◌∷◌, ◌++◌, length, get_or, take, drop, map, Option, Some, None, is_some, inl, inr, refl, sym, ap, subst, arith, ◌∙◌, eqb-true, true≢false, length-drop, append_assoc, append-nil}
+use Rattle.std.proofs.Common.{◌≡◌, ℕ, zero, suc, ◌+◌, ◌-◌, ◌<◌, ◌≤◌, ◌==◌, ◌&&◌, ◌||◌, Bool, true, false, cond, List, [], ◌∷◌, ◌++◌, length, get_or, take, drop, map, Option, Some, None, is_some, inl, inr, refl, sym, ap, subst, arith, ◌∙◌, eqb-true, true≢false, length-drop, append_assoc, append-nil}
 use Rattle.std.proofs.Math.ListN.{set, length-set}
 use Rattle.std.specs.Prelude.{All, find, option_map}
 use Rattle.std.specs.declared.cmp.Ordering.TheVariants.{Less}
 use Rattle.std.specs.Ordering.{nat_cmp, MatchOrdering}
-use Rattle.std.specs.Cmp.{nat_cmp_total, nat_eq_equiv, unsigned_tied, ranks}
+use Rattle.std.specs.Cmp.{nat_cmp_total, ranks}
 use Rattle.std.specs.List.{AllByRecursion, list_any}
 use Rattle.std.specs.List.Sorted.{IsStrictlySortedBy}
 use Rattle.std.specs.BTreeMap.{get, is_at}
 use Rattle.std.specs.Map.{keys_of, lookup}
 use Rattle.std.proofs.lemmas.Bool.{cases_lt}
-use Rattle.std.proofs.lemmas.List.{get_or_append_left, get_or_push, length_push, get_or-set_same, get_or-set_other, drop-append-le, take-append-le, map-append}
+use Rattle.std.proofs.lemmas.List.{get_or-set_same, get_or-set_other, drop-append-le, take-append-le, map-append}
 use Rattle.std.proofs.lemmas.List.Elements.{All-nil, All-cons, All-head, All-tail, All-weaker, All-append, All-get_or, All-take, All-drop}
 use Rattle.std.proofs.lemmas.Map.Keys.{sorted_head, sorted_tail}
 use Rattle.std.proofs.lemmas.Map.Views.{All-found}
@@ -19,29 +19,15 @@ use Rattle.graph_kinds.specs.Path.{IsPath}
 use Rattle.graph_kinds.specs.Part.{IsPart}
 use Rattle.scan_record.specs.declared.rows.VertexRow.{VertexRow}
 use Rattle.scan_record.specs.declared.rows.EdgeRow.{EdgeRow}
-use Rattle.scan_record.specs.Scan.{ScanValue, IsScan, IsComplete, row_at, edge_at, edges_of, last_edges, new_row, blank_life, blank_edge, empty_scan, with_started, with_edge}
+use Rattle.scan_record.specs.Scan.{ScanValue, IsScan, IsComplete, row_at, edges_of, last_edges, new_row, blank_life, blank_edge, empty_scan, with_started, with_edge}
 use Rattle.scan_record.specs.ScanGraph.{graph_of_scan, leads_to, weight_to}
-use Rattle.plain_graph.specs.Kept.{Edges, Vertices, Rises, graph_of, holds, weight_held, weight_by}
-use Rattle.plain_graph.specs.Collecting.{Numbers, IsNumbering, IsIndexed, with_key, Meets, told, edge_list, edges_at, LeadsToRow, IsReached, IsCollected}
+use Rattle.plain_graph.specs.Kept.{Edges, Vertices, Rises, graph_in_maps, holds, weight_by}
+use Rattle.plain_graph.specs.declared.numbers.Numbers.{Numbers}
+use Rattle.plain_graph.specs.Collecting.{IsNumbering, HasRowLives, with_key, MeetsKey, told, edge_list, edges_at, LeadsToRow, IsWithinReach, IsCollected}
 use Rattle.plain_graph.proofs.Held.{has-held, weight-held}
+use Rattle.plain_graph.proofs.Numbering.{itself, at_key, row_at-with_key, row_at-new_key, length-with_key, numbering_kept}
 
-pub itself : (x : ℕ) → (x == x) ≡ true
-itself x = nat_eq_equiv.refl x
-
-pub at_key : (q k : ℕ) → is_at (nat_cmp q) k ≡ (k == q)
-at_key q k = unsigned_tied q k ∙ nat_eq_equiv.symm q k
-
--- a row that was there stays, and the new one has the key
-row_at-with_key : (s : ScanValue) (key k : ℕ) → k < length s.rows → row_at (with_key s key) k ≡ row_at s k
-row_at-with_key s key k h = get_or_append_left s.rows (new_row (record { index = length s.rows; tag = 1 }) key ∷ []) (new_row blank_life 0) k h
-
-pub row_at-new_key : (s : ScanValue) (key k : ℕ) → length s.rows ≡ k → row_at (with_key s key) k ≡ new_row (record { index = length s.rows; tag = 1 }) key
-row_at-new_key s key k h = get_or_push s.rows (new_row (record { index = length s.rows; tag = 1 }) key) (new_row blank_life 0) k h
-
-pub length-with_key : (s : ScanValue) (key : ℕ) → length (with_key s key).rows ≡ length s.rows + 1
-length-with_key s key = length_push s.rows (new_row (record { index = length s.rows; tag = 1 }) key)
-
-pub indexed_more : (s : ScanValue) (key : ℕ) → IsIndexed s → IsIndexed (with_key s key)
+pub indexed_more : (s : ScanValue) (key : ℕ) → HasRowLives s → HasRowLives (with_key s key)
 indexed_more s key is k h =
     let long = length-with_key s key in
     elim (cases_lt k (length s.rows)) as (λ _. (row_at (with_key s key) k).life.index ≡ k) [
@@ -49,23 +35,9 @@ indexed_more s key is k h =
       | inr ge ↦ let last : length s.rows ≡ k = omega arith in ap (λ r. r.life.index) (row_at-new_key s key k last) ∙ last
     ]
 
-pub numbering_more : (old new : Numbers) (s : ScanValue) (key : ℕ) → IsNumbering old s → ((k : ℕ) → k < length s.rows → (row_at s k).key ≢ key)
-    → ((q : ℕ) → get nat_cmp new q ≡ cond (is_at (nat_cmp key) q) (Some (length s.rows)) (get nat_cmp old q)) → IsNumbering new (with_key s key)
-numbering_more old new s key is absent noted k h =
-    let long = length-with_key s key in
-    elim (cases_lt k (length s.rows)) as (λ _. get nat_cmp new (row_at (with_key s key) k).key ≡ Some k) [
-      | inl lt ↦ ap (λ r. get nat_cmp new r.key) (row_at-with_key s key k lt) ∙ (noted (row_at s k).key ∙ (ap (λ t. cond t (Some (length s.rows)) (get nat_cmp old (row_at s k).key)) (at_key key (row_at s k).key) ∙ by lt ((row_at s k).key == key) refl))
-      | inr ge ↦ let last : length s.rows ≡ k = omega arith in
-          ap (λ r. get nat_cmp new r.key) (row_at-new_key s key k last) ∙ (noted key ∙ (ap (λ b. cond b (Some (length s.rows)) (get nat_cmp old key)) (at_key key key ∙ itself key) ∙ ap (λ n. Some n) last))
-    ]
-  where
-    by : k < length s.rows → (t : Bool) → ((row_at s k).key == key) ≡ t → cond t (Some (length s.rows)) (get nat_cmp old (row_at s k).key) ≡ Some k
-    by lt true e = absurd (absent k lt (eqb-true (row_at s k).key key e))
-    by lt false e = is k lt
-
 -- a scan with one row more meets its key, and so does one that has it
-pub meets_pushed : (s t : ScanValue) (key : ℕ) → t ≡ with_key s key → Meets s t key
-meets_pushed s t key is = subst (λ (v : ScanValue). Meets s v key) (sym is) (record {
+pub meets_pushed : (s t : ScanValue) (key : ℕ) → t ≡ with_key s key → MeetsKey s t key
+meets_pushed s t key is = subst (λ (v : ScanValue). MeetsKey s v key) (sym is) (record {
   longer = omega (arith, length-with_key s key);
   rows = row_at-with_key s key;
   fresh = λ k ge lt. (let last : length s.rows ≡ k = omega (arith, length-with_key s key) in ap (λ (r : VertexRow). r.key) (row_at-new_key s key k last));
@@ -76,7 +48,7 @@ meets_pushed s t key is = subst (λ (v : ScanValue). Meets s v key) (sym is) (re
   ends = refl;
 })
 
-pub meets_none : (s : ScanValue) (key : ℕ) → Meets s s key
+pub meets_none : (s : ScanValue) (key : ℕ) → MeetsKey s s key
 meets_none s key = record {
   longer = omega arith;
   rows = λ k h. refl;
@@ -88,12 +60,8 @@ meets_none s key = record {
   ends = refl;
 }
 
--- no row has a key where the number that is noted at it names none that has it
-pub no_row : (numbers : Numbers) (s : ScanValue) (key : ℕ) → IsNumbering numbers s → ((r : ℕ) → get nat_cmp numbers key ≡ Some r → r < length s.rows → (row_at s r).key ≡ key → ⊥) → (k : ℕ) → k < length s.rows → (row_at s k).key ≢ key
-no_row numbers s key is wrong k h same = wrong k (ap (get nat_cmp numbers) (sym same) ∙ is k h) h same
-
 -- the root's row alone
-pub collected_root : (m : Vertices) (numbers : Numbers) (s t : ScanValue) (root nodes : ℕ) → s ≡ empty_scan nodes → t ≡ with_key s root → holds m root ≡ true → IsNumbering numbers t → IsIndexed t → IsCollected m numbers t 0 0 × ((row_at t 0).key ≡ root)
+pub collected_root : (m : Vertices) (numbers : Numbers) (s t : ScanValue) (root nodes : ℕ) → s ≡ empty_scan nodes → t ≡ with_key s root → holds m root ≡ true → IsNumbering numbers t → HasRowLives t → IsCollected m numbers t 0 0 × ((row_at t 0).key ≡ root)
 collected_root m numbers s t root nodes empty is held numbering indexed =
     let whole : t ≡ with_key (empty_scan nodes) root = is ∙ ap (λ v. with_key v root) empty in
     let one : length t.rows ≡ 1 = ap (λ (v : ScanValue). length v.rows) whole in
@@ -116,22 +84,22 @@ collected_root m numbers s t root nodes empty is held numbering indexed =
     )
 
 -- after a key is met that is reached
-module _ (m : Vertices) (old new : Numbers) (s t : ScanValue) (key n at : ℕ) (meets : Meets s t key) (p : IsCollected m old s n at) where
+module _ (m : Vertices) (old new : Numbers) (s t : ScanValue) (key n at : ℕ) (meets : MeetsKey s t key) (p : IsCollected m old s n at) where
   pub root_met : (row_at t 0).key ≡ (row_at s 0).key
   root_met = ap (λ (r : VertexRow). r.key) (meets.rows 0 p.some)
 
   leads_met : (e : EdgeRow) → LeadsToRow s e → LeadsToRow t e
   leads_met e l = record { row = l.row; target = l.target; within = omega (arith, l.within, meets.longer); key = ap (λ (r : VertexRow). r.key) (meets.rows l.row l.within) ∙ l.key }
 
-  pub collected_met : IsNumbering new t → IsIndexed t → IsReached m (row_at s 0).key key → IsCollected m new t n at
+  pub collected_met : IsNumbering new t → HasRowLives t → IsWithinReach m (row_at s 0).key key → IsCollected m new t n at
   collected_met numbering indexed reached = record {
     some = omega (arith, p.some, meets.longer);
     within = omega (arith, p.within, meets.longer);
     numbering = numbering;
     indexed = indexed;
-    reached = λ k h. elim (cases_lt k (length s.rows)) as (λ _. IsReached m (row_at t 0).key (row_at t k).key) [
-      | inl lt ↦ subst (λ (x : ℕ). IsReached m x (row_at t k).key) (sym root_met) (subst (λ (r : VertexRow). IsReached m (row_at s 0).key r.key) (sym (meets.rows k lt)) (p.reached k lt))
-      | inr ge ↦ subst (λ (x : ℕ). IsReached m x (row_at t k).key) (sym root_met) (subst (IsReached m (row_at s 0).key) (sym (meets.fresh k ge h)) reached)
+    reached = λ k h. elim (cases_lt k (length s.rows)) as (λ _. IsWithinReach m (row_at t 0).key (row_at t k).key) [
+      | inl lt ↦ subst (λ (x : ℕ). IsWithinReach m x (row_at t k).key) (sym root_met) (subst (λ (r : VertexRow). IsWithinReach m (row_at s 0).key r.key) (sym (meets.rows k lt)) (p.reached k lt))
+      | inr ge ↦ subst (λ (x : ℕ). IsWithinReach m x (row_at t k).key) (sym root_met) (subst (IsWithinReach m (row_at s 0).key) (sym (meets.fresh k ge h)) reached)
     ];
     next = meets.next ∙ p.next;
     started = meets.started ∙ p.started;
@@ -196,9 +164,9 @@ module _ (m : Vertices) (numbers : Numbers) (s t : ScanValue) (n at : ℕ) (p : 
   collected_kept later next started keys ends targets = record {
     some = omega (arith, p.some, keeps.long);
     within = omega (arith, p.within, keeps.long);
-    numbering = λ k h. ap (get nat_cmp numbers) (keeps.keys k) ∙ p.numbering k (omega (arith, keeps.long));
+    numbering = numbering_kept numbers s t keeps.long keeps.keys p.numbering;
     indexed = λ k h. keeps.lives k ∙ p.indexed k (omega (arith, keeps.long));
-    reached = λ k h. subst (λ (x : ℕ). IsReached m x (row_at t k).key) (sym (keeps.keys 0)) (subst (IsReached m (row_at s 0).key) (sym (keeps.keys k)) (p.reached k (omega (arith, keeps.long))));
+    reached = λ k h. subst (λ (x : ℕ). IsWithinReach m x (row_at t k).key) (sym (keeps.keys 0)) (subst (IsWithinReach m (row_at s 0).key) (sym (keeps.keys k)) (p.reached k (omega (arith, keeps.long))));
     next = next;
     started = started;
     done = λ k h. ap (map told) (keeps.done k h) ∙ (p.done k h ∙ ap (edges_at m) (sym (keeps.keys k)));
@@ -300,20 +268,20 @@ path_more g a b c (x ∷ y ∷ p) path b_key c_key pair =
     longer (z ∷ v ∷ q) h = (x ∷ z ∷ v ∷ q, (path.0, subst (λ (v : ℕ). is_some (weight_of g x v) ≡ true) (sym h.0) path.1, subst (λ (u : ℕ). IsPath g u c (z ∷ v ∷ q)) (sym h.0) h))
 
 -- the target of an edge of a vertex that is reached
-module _ (m : Vertices) (rises : Rises m) (sound : IsGraph (graph_of m)) (a key : ℕ) (edges : Edges) (found : get nat_cmp m key ≡ Some edges) where
+module _ (m : Vertices) (rises : Rises m) (sound : IsGraph (graph_in_maps m)) (a key : ℕ) (edges : Edges) (found : get nat_cmp m key ≡ Some edges) where
   looked_up : All (λ e. get nat_cmp edges e.0 ≡ Some e.1) edges.entries
   looked_up = All-found nat_cmp_total edges (rises.inner key edges found)
 
   module _ (done : List (ℕ × ℕ)) (e : ℕ × ℕ) (rest : List (ℕ × ℕ)) (is : done ++ e ∷ rest ≡ edges.entries) where
-    weight_is : weight_of (graph_of m) key e.0 ≡ Some e.1
+    weight_is : weight_of (graph_in_maps m) key e.0 ≡ Some e.1
     weight_is = weight-held m rises.outer key e.0 ∙ (ap (λ o. weight_by o e.0) found ∙ in_middle (λ e. get nat_cmp edges e.0 ≡ Some e.1) done e rest edges.entries is looked_up)
 
     pub edge_weighed : 1 ≤ e.1
     edge_weighed = sound.weighed key e.0 e.1 weight_is
 
-    pub target_reached : IsReached m a key → IsReached m a e.0
+    pub target_reached : IsWithinReach m a key → IsWithinReach m a e.0
     target_reached r =
-        let more = path_more (graph_of m) a key e.0 r.path r.is_path (sound.from_key key e.0 e.1 weight_is) (sound.to_key key e.0 e.1 weight_is) (ap (λ o. is_some o) weight_is) in
+        let more = path_more (graph_in_maps m) a key e.0 r.path r.is_path (sound.from_key key e.0 e.1 weight_is) (sound.to_key key e.0 e.1 weight_is) (ap (λ o. is_some o) weight_is) in
         record { path = more.0; is_path = more.1 }
 
 -- ---- at the end
@@ -322,12 +290,7 @@ pub collected_is_complete : (m : Vertices) (numbers : Numbers) (s : ScanValue) �
 collected_is_complete m numbers s p = record {
   has_root = p.some;
   all_started = p.started;
-  keys_differ = λ j k lt h same.
-      let one : get nat_cmp numbers (row_at s j).key ≡ Some j = p.numbering j (omega arith) in
-      let two : get nat_cmp numbers (row_at s k).key ≡ Some k = p.numbering k h in
-      let both : Some j ≡ Some k = sym one ∙ (ap (get nat_cmp numbers) same ∙ two) in
-      let equal : j ≡ k = cc in
-      omega arith;
+  keys_differ = p.numbering.differ;
   target_keys = λ q t h e.
       let l = All-get_or (LeadsToRow s) s.edges q blank_edge h p.targets in
       let both : Some l.row ≡ Some t = sym l.target ∙ e in
@@ -374,7 +337,7 @@ module _ (m : Vertices) (numbers : Numbers) (s : ScanValue) (root : ℕ)
     (keys_law : (key : ℕ) → has (graph_of_scan s) key ≡ list_any (λ row. row.key == key) s.rows)
     (weights_law : (k key : ℕ) → k < length s.rows → weight_of (graph_of_scan s) (row_at s k).key key ≡ weight_to key (edges_of s (row_at s k)))
     (scan_sound : IsGraph (graph_of_scan s)) (rises : Rises m) (p : IsCollected m numbers s (length s.rows) (length s.rows)) (rooted : (row_at s 0).key ≡ root) where
-  same_weights : (a b : ℕ) → has (graph_of_scan s) a ≡ true → weight_of (graph_of_scan s) a b ≡ weight_of (graph_of m) a b
+  same_weights : (a b : ℕ) → has (graph_of_scan s) a ≡ true → weight_of (graph_of_scan s) a b ≡ weight_of (graph_in_maps m) a b
   same_weights a b there =
       let from = row_of_key a s.rows (sym (keys_law a) ∙ there) in
       let row = row_at s from.0 in
@@ -386,26 +349,26 @@ module _ (m : Vertices) (numbers : Numbers) (s : ScanValue) (root : ℕ)
       ∙ (held_list (get nat_cmp m a) b ∙ sym (weight-held m rises.outer a b))))))
 
   -- a path from a key of the scan ends at one
-  closed : (a b : ℕ) (path : List ℕ) → has (graph_of_scan s) a ≡ true → IsPath (graph_of m) a b path → has (graph_of_scan s) b ≡ true
+  closed : (a b : ℕ) (path : List ℕ) → has (graph_of_scan s) a ≡ true → IsPath (graph_in_maps m) a b path → has (graph_of_scan s) b ≡ true
   closed a b [] there path = absurd path
   closed a b (x ∷ []) there path = ap (has (graph_of_scan s)) (sym path.1 ∙ path.0) ∙ there
   closed a b (x ∷ y ∷ path) there way =
       let from : has (graph_of_scan s) x ≡ true = ap (has (graph_of_scan s)) way.0 ∙ there in
-      closed y b (y ∷ path) (step x y from (weight_of (graph_of m) x y) refl way.1) way.2
+      closed y b (y ∷ path) (step x y from (weight_of (graph_in_maps m) x y) refl way.1) way.2
     where
-      step : (x y : ℕ) → has (graph_of_scan s) x ≡ true → (o : Option ℕ) → weight_of (graph_of m) x y ≡ o → is_some (weight_of (graph_of m) x y) ≡ true → has (graph_of_scan s) y ≡ true
+      step : (x y : ℕ) → has (graph_of_scan s) x ≡ true → (o : Option ℕ) → weight_of (graph_in_maps m) x y ≡ o → is_some (weight_of (graph_in_maps m) x y) ≡ true → has (graph_of_scan s) y ≡ true
       step x y from None e some = absurd (true≢false (sym some ∙ ap (λ o. is_some o) e))
       step x y from (Some w) e some = scan_sound.to_key x y w (same_weights x y from ∙ e)
 
   root_there : has (graph_of_scan s) root ≡ true
   root_there = keys_law root ∙ (ap (λ q. list_any (λ row. row.key == q) s.rows) (sym rooted) ∙ key_of_row s.rows 0 p.some)
 
-  pub collected_is_part : IsPart (graph_of m) root (graph_of_scan s)
+  pub collected_is_part : IsPart (graph_in_maps m) root (graph_of_scan s)
   collected_is_part = record {
     keys = λ x. (
       λ there. (let from = row_of_key x s.rows (sym (keys_law x) ∙ there) in
           let r = p.reached from.0 from.1 in
-          (r.path, subst (λ (b : ℕ). IsPath (graph_of m) root b r.path) from.2 (subst (λ (a : ℕ). IsPath (graph_of m) a (row_at s from.0).key r.path) rooted r.is_path))),
+          (r.path, subst (λ (b : ℕ). IsPath (graph_in_maps m) root b r.path) from.2 (subst (λ (a : ℕ). IsPath (graph_in_maps m) a (row_at s from.0).key r.path) rooted r.is_path))),
       λ way. closed root x way.0 root_there way.1,
     );
     pairs = λ x y w. (
@@ -436,13 +399,13 @@ row_begins m numbers s t r key rest p inside is none key_is all =
       left = ap (λ (es : List EdgeRow). map told es ++ rest) none ∙ all;
     }
 
-module _ (m : Vertices) (rises : Rises m) (sound : IsGraph (graph_of m)) (edges : Edges) (key : ℕ) (found : get nat_cmp m key ≡ Some edges) (r root : ℕ) where
+module _ (m : Vertices) (rises : Rises m) (sound : IsGraph (graph_in_maps m)) (edges : Edges) (key : ℕ) (found : get nat_cmp m key ≡ Some edges) (r root : ℕ) where
   whole_is : (s : ScanValue) (rest : List (ℕ × ℕ)) → map told (last_edges s) ++ rest ≡ edges_at m key → map told (last_edges s) ++ rest ≡ edges.entries
   whole_is s rest left = left ∙ ap edge_list found
 
-  pub row_meets : (old new : Numbers) (s t : ScanValue) (e : ℕ × ℕ) (rest : List (ℕ × ℕ)) → IsInRow m old s r key root (e ∷ rest) → Meets s t e.0 → IsNumbering new t → IsIndexed t → IsInRow m new t r key root (e ∷ rest)
+  pub row_meets : (old new : Numbers) (s t : ScanValue) (e : ℕ × ℕ) (rest : List (ℕ × ℕ)) → IsInRow m old s r key root (e ∷ rest) → MeetsKey s t e.0 → IsNumbering new t → HasRowLives t → IsInRow m new t r key root (e ∷ rest)
   row_meets old new s t e rest p meets numbering indexed =
-      let from = subst (IsReached m (row_at s 0).key) p.keyed (p.collected.reached r p.inside) in
+      let from = subst (IsWithinReach m (row_at s 0).key) p.keyed (p.collected.reached r p.inside) in
       let reached = target_reached m rises sound (row_at s 0).key key edges found (map told (last_edges s)) e rest (whole_is s (e ∷ rest) p.left) from in
       let at : s.next - 1 ≡ r = omega (arith, p.collected.next) in
       let same : row_at t (t.next - 1) ≡ row_at s (s.next - 1) = ap (λ n. row_at t (n - 1)) meets.next ∙ meets.rows (s.next - 1) (subst (λ (n : ℕ). n < length s.rows) (sym at) p.inside) in

@@ -6,3 +6,4 @@ pub mod Replays
 pub mod Steps
 pub mod Texts
 pub mod Collects
+pub mod Numbering

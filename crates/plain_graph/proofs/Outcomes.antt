@@ -1,5 +1,5 @@
 -- What is answered to each call, by look-ups, and what then stands after it.
-use Rattle.std.proofs.Common.{◌≡◌, ℕ, ◌<◌, ◌&&◌, ◌==◌, eqb, eqb-true, Bool, true, false, cond, Option, Some, None, List, Result, Ok, Err, refl, sym, ap, subst, ◌∙◌}
+use Rattle.std.proofs.Common.{◌≡◌, ℕ, ◌<◌, ◌&&◌, ◌==◌, eqb, eqb-true, true≢false, Bool, true, false, cond, Option, Some, None, List, Result, Ok, Err, refl, sym, ap, subst, ◌∙◌}
 use Rattle.std.specs.Prelude.{IfOk, OnOk}
 use Rattle.std.specs.Option.{option_eq}
 use Rattle.graph_kinds.specs.declared.call.Call.{Call}
@@ -12,7 +12,7 @@ use Rattle.graph_kinds.specs.Path.{least_cost, cheapest_path}
 use Rattle.graph_kinds.specs.declared.answer.Answer.{Answer}
 use Rattle.graph_kinds.specs.Answer.{answer, alters, after, change, plain, on_keys, by_weight, by_path, by_levels, by_cost, is_change, there_with, IsPathCall, IsWellMade}
 use Rattle.graph_kinds.proofs.Calls.{after_valid}
-use Rattle.plain_graph.specs.Calls.{CostIsBelow, replacing}
+use Rattle.plain_graph.specs.Calls.{CostIsBelow, outcome_of_put}
 
 -- by the outcome, the graph is changed or stays
 pub after_outcome : (g : Graph) (c : Call) (o : Outcome) → plain o ≡ answer g c → cond (is_change o) (change g c) g ≡ after g c
@@ -94,8 +94,13 @@ module _ (g : Graph) (a b : ℕ) (t : Bool) (x : Option ℕ) (both : (has g a &&
   unfolding answer
   answer_has_edge = on_pair out.Edge out.NoEdge
 
+-- what equals a weight is that weight
+pub is_some_of : (x : Option ℕ) (w : ℕ) → true ≡ option_eq eqb x (Some w) → x ≡ Some w
+is_some_of None w e = absurd (true≢false e)
+is_some_of (Some x) w e = ap (λ n. Some n) (eqb-true x w (sym e))
+
 -- an add of an edge, by the weight before: where it's this one, it's present, and else replaced
-pub add_by : (w : ℕ) (x : Option ℕ) → by_weight x (there_with w) out.Added ≡ cond (option_eq eqb x (Some w)) (plain (out.Present w)) (plain (replacing x))
+pub add_by : (w : ℕ) (x : Option ℕ) → by_weight x (there_with w) out.Added ≡ cond (option_eq eqb x (Some w)) (plain (out.Present w)) (plain (outcome_of_put x))
 add_by w None = refl
 add_by w (Some x) = by (x == w) refl
   where
@@ -104,23 +109,23 @@ add_by w (Some x) = by (x == w) refl
     by false e = refl
 
 module _ (g : Graph) (a b w : ℕ) (x : Option ℕ) (both : (has g a && has g b) ≡ true) (weight : weight_of g a b ≡ x) where
-  added_by : cond (option_eq eqb x (Some w)) (plain (out.Present w)) (plain (replacing x)) ≡ answer g (AddEdge a b w)
+  added_by : cond (option_eq eqb x (Some w)) (plain (out.Present w)) (plain (outcome_of_put x)) ≡ answer g (AddEdge a b w)
   added_by = sym (add_by w x) ∙ answer_add_edge g a b true x both weight w
 
   pub present_is : true ≡ option_eq eqb x (Some w) → plain (out.Present w) ≡ answer g (AddEdge a b w)
-  present_is same = ap (λ t. cond t (plain (out.Present w)) (plain (replacing x))) same ∙ added_by
+  present_is same = ap (λ t. cond t (plain (out.Present w)) (plain (outcome_of_put x))) same ∙ added_by
 
   module _ (other : false ≡ option_eq eqb x (Some w)) where
-    replaced : plain (replacing x) ≡ answer g (AddEdge a b w)
-    replaced = ap (λ t. cond t (plain (out.Present w)) (plain (replacing x))) other ∙ added_by
+    replaced : plain (outcome_of_put x) ≡ answer g (AddEdge a b w)
+    replaced = ap (λ t. cond t (plain (out.Present w)) (plain (outcome_of_put x))) other ∙ added_by
 
-    pub replaced_is : (o : Outcome) → o ≡ replacing x → plain o ≡ answer g (AddEdge a b w)
+    pub replaced_is : (o : Outcome) → o ≡ outcome_of_put x → plain o ≡ answer g (AddEdge a b w)
     replaced_is o is = ap plain is ∙ replaced
 
     pub replaced_after : change g (AddEdge a b w) ≡ after g (AddEdge a b w)
-    replaced_after = sym (ap (λ t. cond t (change g (AddEdge a b w)) g) (changes x)) ∙ after_outcome g (AddEdge a b w) (replacing x) replaced
+    replaced_after = sym (ap (λ t. cond t (change g (AddEdge a b w)) g) (changes x)) ∙ after_outcome g (AddEdge a b w) (outcome_of_put x) replaced
       where
-        changes : (x : Option ℕ) → is_change (replacing x) ≡ true
+        changes : (x : Option ℕ) → is_change (outcome_of_put x) ≡ true
         changes None = refl
         changes (Some y) = refl
 

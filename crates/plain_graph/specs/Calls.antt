@@ -17,6 +17,6 @@ CostIsBelow limit (Cost c) = c < limit
 CostIsBelow limit _ = Unit {0}
 
 -- the outcome of an edge's add, by the other weight that the edge had before
-abbrev pub replacing : Option ℕ → Outcome
-replacing None = Added
-replacing (Some x) = Changed x
+abbrev pub outcome_of_put : Option ℕ → Outcome
+outcome_of_put None = Added
+outcome_of_put (Some x) = Changed x

@@ -23,8 +23,8 @@ abbrev pub pairs_in : Vertices → List ((ℕ × ℕ) × ℕ)
 pairs_in m = flat_map pairs_from m.entries
 
 -- the graph that the maps hold
-unfoldable pub graph_of : Vertices → Graph
-graph_of m = record { keys = finite_set.from_list (keys m); pairs = finite_map.from_entries (pairs_in m) }
+unfoldable pub graph_in_maps : Vertices → Graph
+graph_in_maps m = record { keys = finite_set.from_list (keys m); pairs = finite_map.from_entries (pairs_in m) }
 
 -- how many edges maps of edges have
 abbrev pub edges_in : List Edges → ℕ
@@ -51,19 +51,18 @@ pub record Rises (m : Vertices) : Type 0 where
 
 -- what the maps of a plain graph and the count beside them keep: keys rise, what the maps hold is a graph with at
 -- most 65,536 vertices and edges, and the count is that of its edges
-pub record IsKept (m : Vertices) (edges : ℕ) : Type 0 where
+pub record IsCountedGraph (m : Vertices) (edges : ℕ) : Type 0 where
   pub rising : Rises m
-  pub sound : IsGraph (graph_of m)
-  pub few : key_count (graph_of m) + pair_count (graph_of m) ≤ 65536
-  pub counted : edges ≡ pair_count (graph_of m)
+  pub sound : IsGraph (graph_in_maps m)
+  pub few : key_count (graph_in_maps m) + pair_count (graph_in_maps m) ≤ 65536
+  pub counted : edges ≡ pair_count (graph_in_maps m)
 
--- the index of the maps: the same vertices, and each edge the other way round
+-- the index of the maps: each edge the other way round. It may lack a vertex to which no edge leads
 pub record IsMirror (m sources : Vertices) : Type 0 where
   pub rising : Rises sources
-  pub keys : (k : ℕ) → holds sources k ≡ holds m k
   pub weights : (a b : ℕ) → weight_held sources b a ≡ weight_held m a b
 
 -- what a plain graph keeps: its maps and its count, and the index beside them
-pub record IsIndexed (m sources : Vertices) (edges : ℕ) : Type 0 where
-  pub kept : IsKept m edges
+pub record IsIndexedGraph (m sources : Vertices) (edges : ℕ) : Type 0 where
+  pub kept : IsCountedGraph m edges
   pub mirror : IsMirror m sources

@@ -6,8 +6,8 @@
 ghost use Rattle.std.specs.Prelude.{◌≡◌, ◌+◌, ◌≤◌, ◌<◌, ◌^◌, ◌&&◌, IfOk, OnOk, OnErr};
 ghost use Rattle.graph_kinds.specs.Graph.{has, key_count, pair_count, IsGraph};
 ghost use Rattle.graph_kinds.specs.Answer.{IsWellMade, plain, answer, after};
-ghost use Rattle.plain_graph.specs.Calls.{CostIsBelow, IsAdd, replacing};
-ghost use Rattle.scan_record.specs.Asked.{answered};
+ghost use Rattle.plain_graph.specs.Calls.{CostIsBelow, IsAdd, outcome_of_put};
+ghost use Rattle.scan_record.specs.Asked.{answer_in_region};
 
 use crate::graph::PlainGraph;
 use graph_kinds::{Answer, Call, Keys, Memory, Outcome, parts_are_answered_alike};
@@ -27,7 +27,7 @@ fn bare(alloc: Global, outcome: Outcome) -> Answer
 
 // The outcome of an edge's add, by the other weight that it had before.
 fn put_in_place_of(before: Option<u32>) -> Outcome
-    ensures { result ≡ replacing before }
+    ensures { result ≡ outcome_of_put before }
 {
     match before {
         Some(weight) => Outcome::Changed(weight),
@@ -37,7 +37,7 @@ fn put_in_place_of(before: Option<u32>) -> Outcome
 
 // The answer that stands in the answer region of a scan, copied.
 fn copied(alloc: Global, outcome: Outcome, scan: &Scan) -> Result<Answer, Memory>
-    ensures { IfOk result (λ a. a ≡ answered outcome scan.now) }
+    ensures { IfOk result (λ a. a ≡ answer_in_region outcome scan.now) }
 {
     Ok(Answer {
         outcome,
@@ -91,11 +91,12 @@ impl PlainGraph {
         ensures change { OnOk result (self.new ≡ after self.old (Call.AddVertex key)) }
         ensures stays { OnErr result (self.new ≡ self.old) }
     {
-        if self.has(key) {
-            return Ok(Outcome::Present(0));
+        let fresh = self.enter_vertex(key)?;
+        if fresh {
+            Ok(Outcome::Added)
+        } else {
+            Ok(Outcome::Present(0))
         }
-        self.put_vertex(key)?;
-        Ok(Outcome::Added)
     }
 
     /// Takes the vertex out with its edges, where it is there.
@@ -103,11 +104,11 @@ impl PlainGraph {
         ensures answer { plain result ≡ answer self.old (Call.RemoveVertex key) }
         ensures change { self.new ≡ after self.old (Call.RemoveVertex key) }
     {
-        if !self.has(key) {
-            return Outcome::Absent;
+        if self.cut_vertex(key) {
+            Outcome::Removed(0)
+        } else {
+            Outcome::Absent
         }
-        self.cut_vertex(key);
-        Outcome::Removed(0)
     }
 
     /// Whether the key is a vertex, as an answer.
@@ -133,11 +134,10 @@ impl PlainGraph {
         if !self.has_both(from, to) {
             return Ok(Outcome::NoVertex);
         }
-        let before = self.weight(from, to);
+        let before = self.enter_edge(from, to, weight)?;
         if before == Some(weight) {
             return Ok(Outcome::Present(weight));
         }
-        self.put_edge(from, to, weight)?;
         Ok(put_in_place_of(before))
     }
 
@@ -149,11 +149,10 @@ impl PlainGraph {
         if !self.has_both(from, to) {
             return Outcome::NoVertex;
         }
-        let Some(weight) = self.weight(from, to) else {
-            return Outcome::NoEdge;
-        };
-        self.cut_edge(from, to);
-        Outcome::Removed(weight)
+        match self.cut_edge(from, to) {
+            Some(weight) => Outcome::Removed(weight),
+            None => Outcome::NoEdge,
+        }
     }
 
     /// The weight of the edge, as an answer.

@@ -1,11 +1,11 @@
 //! The graph of one caller, in ordered maps.
 //!
 //! A map has each vertex by its key with the map of its out-edges. Beside it stand the count of the edges and an
-//! index, which has the edges that lead to each vertex. Contracts see the graph that the map holds (`graph_of`); what
-//! map, count and index keep is `IsIndexed`, both of `specs/Kept.antt`. The scan of the last path and the numbers of
-//! its rows are kept for the next one, and are no part of the graph.
+//! index, which has the edges that lead to each vertex. Contracts see the graph that the map holds (`graph_in_maps`);
+//! what map, count and index keep is `IsIndexedGraph`, both of `specs/Kept.antt`. The scan of the last path and the
+//! numbers of its rows are kept for the next one, and are no part of the graph.
 
-ghost use Rattle.std.specs.Prelude.{◌≡◌, ℕ, ◌+◌, ◌≤◌, ◌<◌, ◌==◌, [], true, cond, IfOk, OnOk, OnErr};
+ghost use Rattle.std.specs.Prelude.{◌≡◌, ℕ, ◌+◌, ◌≤◌, ◌<◌, ◌==◌, [], true, cond, not, IfOk, OnOk, OnErr};
 ghost use Rattle.std.specs.Prelude.{None, IsSome, IfSome, IfNone};
 ghost use Rattle.std.specs.BTreeMap.{keys};
 ghost use Rattle.std.specs.FinMap as finite_map;
@@ -16,6 +16,7 @@ ghost use Rattle.graph_kinds.specs.Answer.{change};
 ghost use Rattle.scan_record.specs.Scan.{IsComplete, row_at};
 ghost use Rattle.scan_record.specs.ScanGraph.{graph_of_scan};
 
+use crate::numbers::Numbers;
 use crate::{index, maps, parts};
 use graph_kinds::{Call, Memory};
 use scan_record::Scan;
@@ -31,7 +32,7 @@ pub struct PlainGraph {
     sources: BTreeMap<u32, BTreeMap<u32, u32>>,
     edges: u32,
     scan: Option<Scan>,
-    numbers: BTreeMap<u32, u32>,
+    numbers: Numbers,
 }
 
 impl Model for PlainGraph {
@@ -41,11 +42,11 @@ impl Model for PlainGraph {
 
     ghost coded = { graph_code };
 
-    ghost use Rattle.plain_graph.specs.Kept.{graph_of, IsIndexed};
+    ghost use Rattle.plain_graph.specs.Kept.{graph_in_maps, IsIndexedGraph};
 
-    ghost view = { λ g. graph_of g.vertices };
+    ghost view = { λ g. graph_in_maps g.vertices };
 
-    ghost invariant = { λ g. IsIndexed g.vertices g.sources g.edges };
+    ghost invariant = { λ g. IsIndexedGraph g.vertices g.sources g.edges };
 }
 
 impl PlainGraph {
@@ -59,7 +60,7 @@ impl PlainGraph {
             sources: BTreeMap::new(alloc),
             edges: 0,
             scan: None,
-            numbers: BTreeMap::new(alloc),
+            numbers: Numbers::new(alloc),
         }
     }
 
@@ -120,10 +121,21 @@ impl PlainGraph {
         ensures ok { OnOk result (self.new ≡ change self.old (Call.AddVertex key)) }
         ensures err { OnErr result (self.new ≡ self.old) }
     {
-        if self.vertices.contains_key(&key) {
-            return Ok(());
-        }
-        index::insert_vertex(&mut self.vertices, &mut self.sources, self.alloc, key)
+        self.enter_vertex(key)?;
+        Ok(())
+    }
+
+    /// Makes the key a vertex where it is none, and tells whether it was none. O(log V), by one look-up.
+    ///
+    /// # Errors
+    /// `Memory` where there is no room for it; the graph is unchanged then.
+    pub(crate) fn enter_vertex(&mut self, key: u32) -> Result<bool, Memory>
+        requires { key_count self.old + pair_count self.old < 65536 }
+        ensures ok { OnOk result (self.new ≡ change self.old (Call.AddVertex key)) }
+        ensures err { OnErr result (self.new ≡ self.old) }
+        ensures fresh { IfOk result (λ fresh. fresh ≡ not (has self.old key)) }
+    {
+        maps::enter_vertex(&mut self.vertices, self.alloc, key)
     }
 
     /// Puts the edge between two vertices, or gives the one that is there its new weight. O(log V + log E).
@@ -138,29 +150,59 @@ impl PlainGraph {
         ensures ok { OnOk result (self.new ≡ change self.old (Call.AddEdge from to weight)) }
         ensures err { OnErr result (self.new ≡ self.old) }
     {
-        if index::insert_edge(&mut self.vertices, &mut self.sources, from, to, weight)?.is_none() {
-            self.edges += 1;
-        }
+        self.enter_edge(from, to, weight)?;
         Ok(())
     }
 
-    /// Takes out a vertex with its edges and the edges to it. O((1 + degree) log V), in-edges counted.
-    pub(crate) fn cut_vertex(&mut self, key: u32)
-        ensures { self.new ≡ change self.old (Call.RemoveVertex key) }
+    /// Puts the edge between two vertices, or gives the one that is there its new weight, and answers the weight
+    /// before. O(log V + log E).
+    ///
+    /// # Errors
+    /// `Memory` where there is no room for it; the graph is unchanged then.
+    pub(crate) fn enter_edge(
+        &mut self,
+        from: u32,
+        to: u32,
+        weight: u32,
+    ) -> Result<Option<u32>, Memory>
+        requires from_key { has self.old from ≡ true }
+        requires to_key { has self.old to ≡ true }
+        requires weighed { 1 ≤ weight }
+        requires room { key_count self.old + pair_count self.old < 65536 }
+        ensures ok { OnOk result (self.new ≡ change self.old (Call.AddEdge from to weight)) }
+        ensures err { OnErr result (self.new ≡ self.old) }
+        ensures before { IfOk result (λ w. w ≡ weight_of self.old from to) }
     {
-        self.cut_edges_to(key);
-        self.cut_edges_from(key);
-        self.cut_bare_vertex(key);
+        let (vertices, sources) = (&mut self.vertices, &mut self.sources);
+        let before = index::insert_edge(vertices, sources, self.alloc, from, to, weight)?;
+        if before.is_none() {
+            self.edges += 1;
+        }
+        Ok(before)
     }
 
-    /// Takes out a vertex that no edge leads from or to. O(log V).
-    fn cut_bare_vertex(&mut self, key: u32)
+    /// Takes out a vertex with its edges and the edges to it, and tells whether it was there. O((1 + degree) log V),
+    /// in-edges counted.
+    pub(crate) fn cut_vertex(&mut self, key: u32) -> bool
+        ensures cut { self.new ≡ change self.old (Call.RemoveVertex key) }
+        ensures was { result ≡ has self.old key }
+        ensures sound { IsGraph self.old }
+    {
+        self.allocator();
+        self.cut_edges_to(key);
+        self.cut_edges_from(key);
+        self.cut_bare_vertex(key)
+    }
+
+    /// Takes out a vertex that no edge leads from or to, and tells whether it was there. O(log V).
+    fn cut_bare_vertex(&mut self, key: u32) -> bool
         requires no_source { (a : ℕ) → weight_of self.old a key ≡ None }
         requires no_target { (b : ℕ) → weight_of self.old key b ≡ None }
-        ensures { self.new ≡ change self.old (Call.RemoveVertex key) }
+        ensures cut { self.new ≡ change self.old (Call.RemoveVertex key) }
+        ensures was { result ≡ has self.old key }
     {
-        index::remove_vertex(&mut self.vertices, &mut self.sources, key);
-        self.numbers.remove(&key);
+        self.numbers.forget(key);
+        index::remove_vertex(&mut self.vertices, &mut self.sources, key)
     }
 
     /// Takes out the edges that lead to a key. O(in-degree · log V).
@@ -199,13 +241,16 @@ impl PlainGraph {
         maps::first_target(&self.vertices, key)
     }
 
-    /// Takes out the edge between two keys. O(log V + log E).
-    pub(crate) fn cut_edge(&mut self, from: u32, to: u32)
-        ensures { self.new ≡ change self.old (Call.RemoveEdge from to) }
+    /// Takes out the edge between two keys, if there is one, and answers its weight. O(log V + log E).
+    pub(crate) fn cut_edge(&mut self, from: u32, to: u32) -> Option<u32>
+        ensures cut { self.new ≡ change self.old (Call.RemoveEdge from to) }
+        ensures was { result ≡ weight_of self.old from to }
     {
-        if index::remove_edge(&mut self.vertices, &mut self.sources, from, to).is_some() {
+        let weight = index::remove_edge(&mut self.vertices, &mut self.sources, from, to);
+        if weight.is_some() {
             self.edges -= 1;
         }
+        weight
     }
 
     /// A scan that holds the part that is reached from a root, with the root's row first and no answer yet.

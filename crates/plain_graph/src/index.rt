@@ -1,8 +1,9 @@
 //! The maps of a plain graph with their index: beside the out-edges of each vertex, the edges that lead to it.
 //!
 //! The index is a second map of the same form, with each edge the other way round (`IsMirror` of
-//! `specs/Kept.antt`). So the sources of a vertex are found without a look at any other vertex. All functions leave
-//! the maps mirrored; what they leave is said by look-ups in the first map.
+//! `specs/Kept.antt`). So the sources of a vertex are found without a look at any other vertex. A vertex comes into the
+//! index with the first edge that leads to it. All functions leave the maps mirrored; what they leave is said by
+//! look-ups in the first map.
 
 ghost use Rattle.std.specs.Prelude.{◌≡◌, ℕ, ◌==◌, ◌&&◌, ◌||◌, true, false, cond, IfOk, OnOk, OnErr};
 ghost use Rattle.std.specs.Prelude.{Some, None};
@@ -12,35 +13,6 @@ use crate::maps::{self, Vertices};
 use graph_kinds::Memory;
 use std::alloc::Global;
 
-/// Puts a vertex without edges at a key that has none. O(log V).
-///
-/// # Errors
-/// `Memory` where there is no room for it; all look-ups are as before then.
-pub fn insert_vertex(
-    vertices: &mut Vertices,
-    sources: &mut Vertices,
-    alloc: Global,
-    key: u32,
-) -> Result<(), Memory>
-    requires absent { holds vertices.old key ≡ false }
-    requires rises { Rises vertices.old }
-    requires mirror { IsMirror vertices.old sources.old }
-    ensures rises { Rises vertices.new }
-    ensures mirror { IsMirror vertices.new sources.new }
-    ensures keys { OnOk result ((q : ℕ) → holds vertices.new q ≡ ((key == q) || holds vertices.old q)) }
-    ensures weights { (a b : ℕ) → weight_held vertices.new a b ≡ weight_held vertices.old a b }
-    ensures stays { OnErr result ((q : ℕ) → holds vertices.new q ≡ holds vertices.old q) }
-{
-    maps::insert_vertex(sources, alloc, key)?;
-    match maps::insert_vertex(vertices, alloc, key) {
-        Ok(()) => Ok(()),
-        Err(refusal) => {
-            maps::remove_vertex(sources, key);
-            Err(refusal)
-        }
-    }
-}
-
 /// Puts an edge between two vertices that are there, or its new weight, and answers the weight before.
 /// O(log V + log E).
 ///
@@ -49,12 +21,12 @@ pub fn insert_vertex(
 pub fn insert_edge(
     vertices: &mut Vertices,
     sources: &mut Vertices,
+    alloc: Global,
     from: u32,
     to: u32,
     weight: u32,
 ) -> Result<Option<u32>, Memory>
     requires from_key { holds vertices.old from ≡ true }
-    requires to_key { holds vertices.old to ≡ true }
     requires rises { Rises vertices.old }
     requires mirror { IsMirror vertices.old sources.old }
     ensures rises { Rises vertices.new }
@@ -65,7 +37,7 @@ pub fn insert_edge(
     ensures before { IfOk result (λ w. w ≡ weight_held vertices.old from to) }
     ensures stays { OnErr result ((a b : ℕ) → weight_held vertices.new a b ≡ weight_held vertices.old a b) }
 {
-    maps::insert_edge(sources, to, from, weight)?;
+    maps::insert_edge_anywhere(sources, alloc, to, from, weight)?;
     match maps::insert_edge(vertices, from, to, weight) {
         Ok(before) => Ok(before),
         Err(refusal) => {
@@ -96,8 +68,8 @@ pub fn remove_edge(
     weight
 }
 
-/// Takes out a vertex that no edge leads from or to. O(log V).
-pub fn remove_vertex(vertices: &mut Vertices, sources: &mut Vertices, key: u32)
+/// Takes out a vertex that no edge leads from or to, and tells whether it was there. O(log V).
+pub fn remove_vertex(vertices: &mut Vertices, sources: &mut Vertices, key: u32) -> bool
     requires rises { Rises vertices.old }
     requires mirror { IsMirror vertices.old sources.old }
     requires no_source { (a : ℕ) → weight_held vertices.old a key ≡ None }
@@ -106,7 +78,8 @@ pub fn remove_vertex(vertices: &mut Vertices, sources: &mut Vertices, key: u32)
     ensures mirror { IsMirror vertices.new sources.new }
     ensures keys { (q : ℕ) → holds vertices.new q ≡ cond (key == q) false (holds vertices.old q) }
     ensures weights { (a b : ℕ) → weight_held vertices.new a b ≡ weight_held vertices.old a b }
+    ensures was { result ≡ holds vertices.old key }
 {
     maps::remove_vertex(sources, key);
-    maps::remove_vertex(vertices, key);
+    maps::remove_vertex(vertices, key)
 }

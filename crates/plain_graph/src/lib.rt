@@ -5,6 +5,7 @@ mod calls;
 mod graph;
 mod index;
 mod maps;
+mod numbers;
 mod parts;
 mod rows;
 mod text;

@@ -3,7 +3,7 @@
 //! A plain graph has two of them, which `index` keeps alike. What the functions leave is said by look-ups (`holds`
 //! and `weight_held` of `specs/Kept.antt`); all of them keep `Rises`.
 
-ghost use Rattle.std.specs.Prelude.{◌≡◌, ℕ, ◌+◌, ◌≤◌, ◌==◌, ◌&&◌, ◌||◌, true, false, cond, IfOk, OnOk, OnErr};
+ghost use Rattle.std.specs.Prelude.{◌≡◌, ℕ, ◌+◌, ◌≤◌, ◌==◌, ◌&&◌, true, false, cond, not, IfOk, OnOk, OnErr};
 ghost use Rattle.std.specs.Prelude.{Some, None, IsSome, IfSome, IfNone};
 ghost use Rattle.plain_graph.specs.Kept.{Rises, holds, weight_held};
 ghost use Rattle.std.specs.Ordering.{nat_cmp};
@@ -12,6 +12,7 @@ ghost use Rattle.std.specs.BTreeMap.{get};
 use graph_kinds::Memory;
 use std::alloc::Global;
 use std::collections::BTreeMap;
+use std::collections::btree_map::Entry;
 
 /// The edges out of a vertex: the weight of each by the key of its target.
 pub type Edges = BTreeMap<u32, u32>;
@@ -19,20 +20,28 @@ pub type Edges = BTreeMap<u32, u32>;
 /// The vertices by their keys, each with its edges.
 pub type Vertices = BTreeMap<u32, BTreeMap<u32, u32>>;
 
-/// Puts a vertex without edges at a key that has none. O(log V).
+/// Puts a vertex without edges at a key that has none, and tells whether it had none. O(log V), by one look-up.
 ///
 /// # Errors
 /// `Memory` where there is no room for it; all look-ups are as before then.
-pub fn insert_vertex(vertices: &mut Vertices, alloc: Global, key: u32) -> Result<(), Memory>
-    requires absent { holds vertices.old key ≡ false }
-    requires rises { Rises vertices.old }
+pub fn enter_vertex(vertices: &mut Vertices, alloc: Global, key: u32) -> Result<bool, Memory>
+    requires { Rises vertices.old }
     ensures rises { Rises vertices.new }
-    ensures keys { OnOk result ((q : ℕ) → holds vertices.new q ≡ ((key == q) || holds vertices.old q)) }
+    ensures there { OnOk result (holds vertices.new key ≡ true) }
+    ensures others { (q : ℕ) → (key == q) ≡ false → holds vertices.new q ≡ holds vertices.old q }
     ensures weights { (a b : ℕ) → weight_held vertices.new a b ≡ weight_held vertices.old a b }
-    ensures stays { OnErr result ((q : ℕ) → holds vertices.new q ≡ holds vertices.old q) }
+    ensures stays { OnErr result (holds vertices.new key ≡ holds vertices.old key) }
+    ensures fresh { IfOk result (λ fresh. fresh ≡ not (holds vertices.old key)) }
 {
-    match vertices.insert(key, BTreeMap::new(alloc)) {
-        Ok(_) => Ok(()),
+    match vertices.entry(key) {
+        Ok(Entry::Vacant(place)) => {
+            place.insert(BTreeMap::new(alloc));
+            Ok(true)
+        }
+        Ok(Entry::Occupied(place)) => {
+            place.into_mut();
+            Ok(false)
+        }
         Err(_) => Err(Memory),
     }
 }
@@ -66,6 +75,33 @@ pub fn insert_edge(
     }
 }
 
+/// The same, and puts the vertex without edges before, where it isn't there. O(log V + log E).
+///
+/// # Errors
+/// `Memory` where there is no room for it; the weights are as before then.
+pub fn insert_edge_anywhere(
+    vertices: &mut Vertices,
+    alloc: Global,
+    from: u32,
+    to: u32,
+    weight: u32,
+) -> Result<Option<u32>, Memory>
+    requires rises { Rises vertices.old }
+    ensures rises { Rises vertices.new }
+    ensures weights { OnOk result ((a b : ℕ)
+        → weight_held vertices.new a b ≡ cond ((from == a) && (to == b)) (Some weight) (weight_held vertices.old a b)) }
+    ensures stays { OnErr result ((a b : ℕ) → weight_held vertices.new a b ≡ weight_held vertices.old a b) }
+{
+    let Ok(place) = vertices.entry(from) else {
+        return Err(Memory);
+    };
+    let edges = place.or_insert(BTreeMap::new(alloc));
+    match edges.insert(to, weight) {
+        Ok(before) => Ok(before),
+        Err(_) => Err(Memory),
+    }
+}
+
 /// Takes out an edge, if there is one, and answers its weight. O(log V + log E).
 pub fn remove_edge(vertices: &mut Vertices, from: u32, to: u32) -> Option<u32>
     requires { Rises vertices.old }
@@ -81,15 +117,16 @@ pub fn remove_edge(vertices: &mut Vertices, from: u32, to: u32) -> Option<u32>
     }
 }
 
-/// Takes out a vertex with the edges out of it. O(log V), and O(1) for each of them.
-pub fn remove_vertex(vertices: &mut Vertices, key: u32)
+/// Takes out a vertex with the edges out of it, and tells whether it was there. O(log V), and O(1) for each of them.
+pub fn remove_vertex(vertices: &mut Vertices, key: u32) -> bool
     requires { Rises vertices.old }
     ensures rises { Rises vertices.new }
     ensures keys { (q : ℕ) → holds vertices.new q ≡ cond (key == q) false (holds vertices.old q) }
     ensures weights { (a b : ℕ)
         → weight_held vertices.new a b ≡ cond (key == a) None (weight_held vertices.old a b) }
+    ensures was { result ≡ holds vertices.old key }
 {
-    vertices.remove(&key);
+    vertices.remove(&key).is_some()
 }
 
 /// The least target of the edges out of a vertex; none where there is no such edge or no such vertex. O(log V + log E).

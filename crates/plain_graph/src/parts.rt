@@ -1,27 +1,23 @@
 //! A scan that holds the part of the graph that is reached from a key, for the calls that ask for a path.
 //!
 //! The root has row 0, and each key to which an edge leads from a row has the next row when it is first met, so the
-//! rows come breadth first and the part is collected and nothing else. The numbers of rows by key are kept from scan
-//! to scan and never cleared: one counts only where the row that it names has the key (as in Briggs and Torczon 1993).
-//! What stands at the end is `IsCollected` of `specs/Collecting.antt`.
+//! rows come breadth first and the part is collected and nothing else. The number of a key's row is found by
+//! `numbers`. What stands at the end is `IsCollected` of `specs/Collecting.antt`.
 
 ghost use Rattle.std.specs.Prelude.{◌≡◌, ◌≢◌, ℕ, ◌+◌, ◌<◌, ◌≤◌, [], true, length, IfOk, OnOk, IfSome, IfNone};
 ghost use Rattle.graph_kinds.specs.Graph.{IsGraph};
 ghost use Rattle.graph_kinds.specs.Part.{part};
 ghost use Rattle.scan_record.specs.Scan.{IsScan, IsComplete, row_at, empty_scan};
 ghost use Rattle.scan_record.specs.ScanGraph.{graph_of_scan};
-ghost use Rattle.plain_graph.specs.Kept.{Rises, graph_of, holds};
-ghost use Rattle.plain_graph.specs.Collecting.{IsNumbering, IsIndexed, Meets, IsCollected, with_key};
+ghost use Rattle.plain_graph.specs.Kept.{Rises, graph_in_maps, holds};
+ghost use Rattle.plain_graph.specs.Collecting.{IsNumbering, HasRowLives, MeetsKey, IsCollected, with_key};
 
 use crate::maps::Vertices;
+use crate::numbers::Numbers;
 use graph_kinds::{Memory, parts_are_answered_alike};
 use packed_link::Life;
 use scan_record::{EdgeRow, Scan, complete_scans_are_graphs, scan_graph_looked_up};
 use std::alloc::Global;
-use std::collections::BTreeMap;
-
-/// The number of the row of each key, where it is still right.
-pub type Numbers = BTreeMap<u32, u32>;
 
 /// For how many rows and edges the first scan has room.
 const FIRST_ROOM: u32 = 1_024;
@@ -42,10 +38,10 @@ pub fn scan_of_part(
     root: u32,
 ) -> Result<Scan, Memory>
     requires rises { Rises vertices.now }
-    requires sound { IsGraph (graph_of vertices.now) }
+    requires sound { IsGraph (graph_in_maps vertices.now) }
     requires held { holds vertices.now root ≡ true }
     ensures complete { IfOk result (λ s. IsComplete s) }
-    ensures graph { IfOk result (λ s. graph_of_scan s ≡ part (graph_of vertices.now) root) }
+    ensures graph { IfOk result (λ s. graph_of_scan s ≡ part (graph_in_maps vertices.now) root) }
     ensures root { IfOk result (λ s. (row_at s 0).key ≡ root) }
     ensures no_keys { IfOk result (λ s. s.keys ≡ []) }
     ensures no_ends { IfOk result (λ s. s.ends ≡ []) }
@@ -58,7 +54,7 @@ pub fn scan_of_part(
         None => Scan::new(alloc, FIRST_ROOM)?,
     };
     let mut room = scan.nodes();
-    while !collect(&mut scan, numbers, vertices, root)? {
+    while !collect(alloc, &mut scan, numbers, vertices, root)? {
         if room == MOST_ROOM {
             return Err(Memory);
         }
@@ -79,18 +75,20 @@ fn is_valid(scan: &Scan)
 /// Clears a scan and collects the part that is reached from a root, and tells whether there is room for it.
 /// O(part · log V), and what the scan held.
 fn collect(
+    alloc: Global,
     scan: &mut Scan,
     numbers: &mut Numbers,
     vertices: &Vertices,
     root: u32,
 ) -> Result<bool, Memory>
     requires rises { Rises vertices.now }
-    requires sound { IsGraph (graph_of vertices.now) }
+    requires sound { IsGraph (graph_in_maps vertices.now) }
     requires held { holds vertices.now root ≡ true }
     ensures collected { IfOk result (λ whole. whole ≡ true
         → IsCollected vertices.now numbers.new scan.new (length scan.new.rows) (length scan.new.rows)) }
     ensures root { IfOk result (λ whole. whole ≡ true → (row_at scan.new 0).key ≡ root) }
 {
+    numbers.prepare(alloc)?;
     scan.clear();
     if scan.nodes() == 0 {
         return Ok(false);
@@ -106,20 +104,6 @@ fn collect(
     Ok(true)
 }
 
-/// The number of the row that has a key, if there is one. O(log V).
-fn row_of(scan: &Scan, numbers: &Numbers, key: u32) -> Option<u32>
-    requires { IsNumbering numbers.now scan.now }
-    ensures row { IfSome result (λ row. (row < length scan.now.rows) × ((row_at scan.now row).key ≡ key)) }
-    ensures none { IfNone result ((k : ℕ) → k < length scan.now.rows → (row_at scan.now k).key ≢ key) }
-{
-    let row = *numbers.get(&key)?;
-    if row < scan.vertices() && scan.vertex(row).key == key {
-        Some(row)
-    } else {
-        None
-    }
-}
-
 /// Pushes the next row, with a key that has none, and notes its number, which it gives. O(log V).
 ///
 /// # Errors
@@ -127,21 +111,17 @@ fn row_of(scan: &Scan, numbers: &Numbers, key: u32) -> Option<u32>
 fn push_key(scan: &mut Scan, numbers: &mut Numbers, key: u32) -> Result<u32, Memory>
     requires room { length scan.old.rows < scan.old.nodes }
     requires numbering { IsNumbering numbers.old scan.old }
-    requires indexed { IsIndexed scan.old }
+    requires indexed { HasRowLives scan.old }
     requires absent { (k : ℕ) → k < length scan.old.rows → (row_at scan.old k).key ≢ key }
     ensures number { IfOk result (λ row. row ≡ length scan.old.rows) }
     ensures pushed { OnOk result (scan.new ≡ with_key scan.old key) }
     ensures numbering { OnOk result (IsNumbering numbers.new scan.new) }
-    ensures indexed { OnOk result (IsIndexed scan.new) }
+    ensures indexed { OnOk result (HasRowLives scan.new) }
 {
     let row = scan.vertices();
-    match numbers.insert(key, row) {
-        Ok(_) => {
-            scan.push_vertex(Life { index: row, tag: 1 }, key);
-            Ok(row)
-        }
-        Err(_) => Err(Memory),
-    }
+    numbers.note(scan, key)?;
+    scan.push_vertex(Life { index: row, tag: 1 }, key);
+    Ok(row)
 }
 
 /// The number of the row of a key, which is pushed where the key has none yet; none where there is no room for it.
@@ -151,14 +131,14 @@ fn push_key(scan: &mut Scan, numbers: &mut Numbers, key: u32) -> Result<u32, Mem
 /// `Memory` where there is no room to note it.
 fn meet(scan: &mut Scan, numbers: &mut Numbers, key: u32) -> Result<Option<u32>, Memory>
     requires numbering { IsNumbering numbers.old scan.old }
-    requires indexed { IsIndexed scan.old }
+    requires indexed { HasRowLives scan.old }
     ensures row { IfOk result (λ found. IfSome found (λ row.
         (row < length scan.new.rows) × ((row_at scan.new row).key ≡ key))) }
-    ensures meets { OnOk result (Meets scan.old scan.new key) }
+    ensures meets { OnOk result (MeetsKey scan.old scan.new key) }
     ensures numbering { OnOk result (IsNumbering numbers.new scan.new) }
-    ensures indexed { OnOk result (IsIndexed scan.new) }
+    ensures indexed { OnOk result (HasRowLives scan.new) }
 {
-    if let Some(row) = row_of(scan, numbers, key) {
+    if let Some(row) = numbers.row_of(scan, key) {
         return Ok(Some(row));
     }
     if scan.vertices() == scan.nodes() {
@@ -182,7 +162,7 @@ fn push_row(
     requires row { row < length scan.old.rows }
     requires collected { IsCollected vertices.now numbers.old scan.old row row }
     requires rises { Rises vertices.now }
-    requires sound { IsGraph (graph_of vertices.now) }
+    requires sound { IsGraph (graph_in_maps vertices.now) }
     ensures collected { IfOk result (λ whole. whole ≡ true
         → IsCollected vertices.now numbers.new scan.new (row + 1) (row + 1)) }
     ensures root { IfOk result (λ whole. whole ≡ true → (row_at scan.new 0).key ≡ (row_at scan.old 0).key) }

@@ -9,8 +9,8 @@ abbrev pub root_of : ScanValue → ℕ
 root_of s = (row_at s 0).key
 
 -- an outcome with what stands in the answer region
-abbrev pub answered : Outcome → ScanValue → Answer
-answered outcome s = record { outcome = outcome; keys = s.keys; ends = s.ends }
+abbrev pub answer_in_region : Outcome → ScanValue → Answer
+answer_in_region outcome s = record { outcome = outcome; keys = s.keys; ends = s.ends }
 
 -- no row and no edge is changed: only the answer region and the work room are written
 pub record KeepsRows (old new : ScanValue) : Type 0 where

@@ -11,7 +11,7 @@ use Rattle.scan_record.specs.Asked.{root_of}
 use Rattle.scan_record.specs.Scan.{ScanValue}
 use Rattle.scan_record.specs.ScanGraph.{graph_of_scan}
 use Rattle.scan_record.proofs.ScanFacts.{row_key, graph_kept, rows_kept}
-use Rattle.path_costs.specs.Search.{key_of}
+use Rattle.path_costs.specs.Search.{key_of_row}
 use Rattle.path_costs.proofs.Expanding.{rows_long}
 use Rattle.path_costs.proofs.path.cheapest.Goals as goal
 
@@ -23,7 +23,7 @@ least c =
     let kept = c.search.ensures.kept in
     let row = c.in-Some.row in
     let found = c.in-Some.ensures.found in
-    let key : (r : ℕ) → key_of old r ≡ key_of s r = λ r. ap (λ (v : VertexRow). v.key) (sym (rows_kept old s kept r)) in
+    let key : (r : ℕ) → key_of_row old r ≡ key_of_row s r = λ r. ap (λ (v : VertexRow). v.key) (sym (rows_kept old s kept r)) in
     ap₂ (λ (g : Graph) (a : ℕ). least_cost g a c.args.goal) (sym (graph_kept old s kept)) (key 0)
     ∙ (ap (least_cost (graph_of_scan s) (root_of s)) (sym found.1 ∙ key row)
     ∙ (found.3.costs row (omega (arith, found.0, rows_long old s kept)) found.2 ∙ ap (λ (k : ℕ). Some k) (sym c.cost-cost.ensures)))
@@ -34,11 +34,11 @@ path c =
     let old = c.args.scan.now in
     let s = c.search.new.scan in
     let kept = c.search.ensures.kept in
-    let key : (r : ℕ) → key_of s r ≡ key_of old r = λ r. ap (λ (v : VertexRow). v.key) (rows_kept old s kept r) in
+    let key : (r : ℕ) → key_of_row s r ≡ key_of_row old r = λ r. ap (λ (v : VertexRow). v.key) (rows_kept old s kept r) in
     let keys = ap (λ (t : ScanValue). t.keys) c.write_back.ensures in
-    let there = subst (λ (p : List ℕ). IsPath (graph_of_scan s) (root_of s) (key_of s c.in-Some.row) p) (sym keys) c.gather-count.ensures.path in
-    let on_graph = subst (λ (g : Graph). IsPath g (root_of s) (key_of s c.in-Some.row) c.write_back.new.scan.keys) (graph_kept old s kept) there in
-    let from_root = subst (λ (a : ℕ). IsPath (graph_of_scan old) a (key_of s c.in-Some.row) c.write_back.new.scan.keys) (key 0) on_graph in
+    let there = subst (λ (p : List ℕ). IsPath (graph_of_scan s) (root_of s) (key_of_row s c.in-Some.row) p) (sym keys) c.gather-count.ensures.path in
+    let on_graph = subst (λ (g : Graph). IsPath g (root_of s) (key_of_row s c.in-Some.row) c.write_back.new.scan.keys) (graph_kept old s kept) there in
+    let from_root = subst (λ (a : ℕ). IsPath (graph_of_scan old) a (key_of_row s c.in-Some.row) c.write_back.new.scan.keys) (key 0) on_graph in
     subst (λ (b : ℕ). IsPath (graph_of_scan old) (root_of old) b c.write_back.new.scan.keys) (key c.in-Some.row ∙ c.in-Some.ensures.found.1) from_root
 
 -- that goes by the least keys

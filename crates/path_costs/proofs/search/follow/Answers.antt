@@ -2,7 +2,7 @@ use Rattle.std.proofs.Common.{◌≡◌, ℕ, ◌+◌, ◌<◌, set, sym, ap, �
 use Rattle.scan_record.specs.declared.rows.VertexRow.{VertexRow}
 use Rattle.scan_record.specs.Scan.{ScanValue}
 use Rattle.path_costs.specs.Heap.{states_of, state_of}
-use Rattle.path_costs.specs.Search.{key_of, parent_of, row_cost, FollowsPair}
+use Rattle.path_costs.specs.Search.{key_of_row, parent_of, row_cost, FollowsPair}
 use Rattle.path_costs.proofs.HeapPlaces.{zero_state, some_state}
 use Rattle.path_costs.proofs.FollowCases.{new_follows, cheaper_follows, lesser_follows, tie_parent, dear_waits, both_written}
 use Rattle.path_costs.proofs.search.follow.Goals as goal
@@ -52,7 +52,7 @@ returns-then-vertex-clause-follows c =
     let scan = c.vertices.ensures.valid in
     let met = some_state s scan c.args.row c.requires.row (λ e. c.if-work-eq-NOT_MET.false (c.work.ensures ∙ e)) in
     let tie : row_cost s c.args.row ≡ row_cost s c.args.from + c.args.weight = omega (arith, c.cost.ensures, c.cost-known.ensures, c.if-cost-known.false, c.if-known-cost.false) in
-    let parent : c.vertex-2.result.key ≡ key_of s (parent_of s c.args.row) = ap (λ (v : VertexRow). v.key) c.vertex-2.ensures ∙ ap (key_of s) c.work-2.ensures in
-    let less : key_of s c.args.from < key_of s (parent_of s c.args.row) = omega (arith, parent, ap (λ (v : VertexRow). v.key) c.vertex.ensures, c.if-vertex.true) in
+    let parent : c.vertex-2.result.key ≡ key_of_row s (parent_of s c.args.row) = ap (λ (v : VertexRow). v.key) c.vertex-2.ensures ∙ ap (key_of_row s) c.work-2.ensures in
+    let less : key_of_row s c.args.from < key_of_row s (parent_of s c.args.row) = omega (arith, parent, ap (λ (v : VertexRow). v.key) c.vertex.ensures, c.if-vertex.true) in
     subst (λ (t : ScanValue). FollowsPair s t c.args.from c.args.row c.args.weight) (sym c.set_work-then-vertex.ensures)
     (lesser_follows s scan c.args.from c.args.row c.args.weight c.requires.open c.requires.row c.requires.pair met tie (omega arith) less)

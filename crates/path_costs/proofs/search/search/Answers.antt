@@ -7,7 +7,7 @@ use Rattle.scan_record.specs.Scan.{ScanValue}
 use Rattle.scan_record.specs.Asked.{KeepsRows}
 use Rattle.scan_record.proofs.ScanFacts.{graph_kept, rows_kept, complete_kept, kept_on}
 use Rattle.path_costs.specs.Heap.{state_of}
-use Rattle.path_costs.specs.Search.{key_of}
+use Rattle.path_costs.specs.Search.{key_of_row}
 use Rattle.path_costs.proofs.HeapPlaces.{waits}
 use Rattle.path_costs.proofs.Expanding.{rows_long}
 use Rattle.path_costs.proofs.Settling.{nowhere, settled_tree}
@@ -67,13 +67,13 @@ loop-waiting-preserved c =
     let taken : IsTaken s mid row = is_taken s mid row c.vertices.ensures.valid c.loop-waiting.invariant.search c.take-row.ensures.row c.take-row.ensures.waited c.take-row.ensures.least c.take-row.ensures.states c.take-row.ensures.rest in
     let first = slots_kept s mid c.take-row.ensures.rest in
     let kept = kept_on s mid new first c.expand-waiting.ensures.kept in
-    let key : (r : ℕ) → key_of new r ≡ key_of s r = λ r. ap (λ (v : VertexRow). v.key) (rows_kept s new kept r) in
+    let key : (r : ℕ) → key_of_row new r ≡ key_of_row s r = λ r. ap (λ (v : VertexRow). v.key) (rows_kept s new kept r) in
     record {
       kept = kept_on old s new c.loop-waiting.invariant.kept kept;
       heap = c.expand-waiting.ensures.heap;
       search = c.expand-waiting.ensures.search;
       not_yet = λ r h e f. elim (cases_eq r row) as (λ _. ⊥) [
-        | inl same ↦ c.if-vertex-goal.false (ap (λ (v : VertexRow). v.key) (c.vertex.ensures ∙ rows_kept s mid first row) ∙ (ap (key_of s) (sym same) ∙ (sym (key r) ∙ f)))
+        | inl same ↦ c.if-vertex-goal.false (ap (λ (v : VertexRow). v.key) (c.vertex.ensures ∙ rows_kept s mid first row) ∙ (ap (key_of_row s) (sym same) ∙ (sym (key r) ∙ f)))
         | inr ne ↦
             let was : state_of s r ≡ 1 = taken.only r (c.expand-waiting.ensures.only r e) ne in
             c.loop-waiting.invariant.not_yet r (omega (arith, h, rows_long s new kept)) was (sym (key r) ∙ f)

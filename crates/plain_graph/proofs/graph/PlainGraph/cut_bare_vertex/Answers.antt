@@ -1,4 +1,6 @@
-use Rattle.std.proofs.Common.{◌∙◌}
+use Rattle.std.proofs.Common.{ap, sym, ◌∙◌}
+use Rattle.graph_kinds.specs.Graph.{Graph, has}
+use Rattle.plain_graph.proofs.Held.{has-held}
 use Rattle.plain_graph.proofs.Steps.{weight-looked_up, view-cut_vertex, kept-cut_vertex}
 use Rattle.plain_graph.proofs.graph.PlainGraph.cut_bare_vertex.Goals as goal
 
@@ -15,6 +17,9 @@ invariant_of-self c = record {
       c.remove_vertex.ensures.keys c.remove_vertex.ensures.weights c.requires.no_source c.requires.no_target;
 }
 
-pub returns : goal.returns
-returns c = view-cut_vertex c.self.inside.vertices c.remove_vertex.new.vertices c.args.self.now c.self.view_is c.self.invariant.kept c.remove_vertex.ensures.rises c.args.key
+pub returns-clause-cut : goal.returns-clause-cut
+returns-clause-cut c = view-cut_vertex c.self.inside.vertices c.remove_vertex.new.vertices c.args.self.now c.self.view_is c.self.invariant.kept c.remove_vertex.ensures.rises c.args.key
     c.remove_vertex.ensures.keys c.remove_vertex.ensures.weights c.requires.no_source c.requires.no_target
+
+pub returns-clause-was : goal.returns-clause-was
+returns-clause-was c = c.remove_vertex.ensures.was ∙ (sym (has-held c.self.inside.vertices c.args.key) ∙ ap (λ (g : Graph). has g c.args.key) c.self.view_is)
