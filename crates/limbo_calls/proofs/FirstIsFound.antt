@@ -1,5 +1,5 @@
 -- The first vertex of the only bucket is found, marked and unlinked.
-use Rattle.std.proofs.Common.{◌≡◌, ◌≢◌, ℕ, ◌+◌, ◌<◌, ◌≤◌, true, List, [], ◌∷◌, ◌++◌, Some, inl, refl, sym, ap, ap₂, ◌∙◌, subst, arith, ⊎_elim}
+use Rattle.std.proofs.Common.{◌≡◌, ◌≢◌, ℕ, ◌<◌, true, List, [], ◌∷◌, ◌++◌, inl, refl, sym, ap, ap₂, ◌∙◌, subst, arith, ⊎_elim}
 use Rattle.packed_link.specs.Link.{index_of, mark_of, nowhere, tag_of}
 use Rattle.packed_link.specs.Layout.{Sizes, IsLayout, bucket_at, link_at}
 use Rattle.packed_link.specs.declared.link.Life.{Life}
@@ -23,7 +23,7 @@ use Rattle.core_stretches.proofs.MakesAddUp.{makes_chain, makes_look, makes_won}
 use Rattle.core_stretches.proofs.MakesTell.{makes_goes, makes_later}
 use Rattle.limbo_calls.specs.Steady.{IsFirst, IsSteady}
 use Rattle.limbo_calls.proofs.FirstIsLinked.{only_unmarked}
-use Rattle.limbo_calls.proofs.StaysSteady.{pass_by, steady_look, steady_on}
+use Rattle.limbo_calls.proofs.StaysSteady.{pass_by, steady_on}
 
 -- the word of the bucket was loaded, and leads to a vertex
 module _ (n : ℕ) (v m : View) (at seen : ℕ) (z : IsLayout v.sizes) (sound : IsSound v) (s : IsSteady true n v) (l : Looked v at seen m) (at_is : at ≡ bucket_at v.sizes 0) (one : v.sizes.buckets ≡ 1) (some : index_of seen ≢ nowhere) where

@@ -1,5 +1,5 @@
 -- A node is taken, filled and linked as the first of the only bucket.
-use Rattle.std.proofs.Common.{◌≡◌, ◌≢◌, ℕ, ◌+◌, ◌%◌, ◌<◌, ◌≤◌, true, false, List, [], ◌∷◌, ◌++◌, Some, inl, refl, sym, ap, ◌∙◌, subst, arith}
+use Rattle.std.proofs.Common.{◌≡◌, ℕ, ◌+◌, ◌%◌, true, false, List, [], ◌∷◌, ◌++◌, inl, refl, sym, ap, ◌∙◌, subst, arith}
 use Rattle.packed_link.specs.Link.{index_of, mark_of, nowhere, pack}
 use Rattle.packed_link.specs.Layout.{Sizes, IsLayout, bucket_at}
 use Rattle.packed_link.specs.declared.link.Life.{Life}

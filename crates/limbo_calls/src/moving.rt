@@ -23,7 +23,12 @@ pub fn move_on(table: &GraphTable, token: &mut Token, limbo: &Limbo, _steps: u32
 }
 
 /// Loads the epoch and takes out the oldest node, where it's ripe then; and puts it back once, and takes it out again.
-pub fn take_ripe(table: &GraphTable, token: &mut Token, limbo: &mut Limbo, _steps: u32) -> Option<Ripe>
+pub fn take_ripe(
+    table: &GraphTable,
+    token: &mut Token,
+    limbo: &mut Limbo,
+    _steps: u32,
+) -> Option<Ripe>
     requires table { IsOf table.now token.old }
     requires steady { IsSteady false _steps token.old.view }
     requires limbo { IsLimboOf None token.old.view limbo.old.nodes }

@@ -35,9 +35,9 @@ pub leads_somewhere : (v m : View) (seen : ℕ) → IsLayout v.sizes → HasSeen
 leads_somewhere v m seen z h =
     let kept : IsKept v.sizes m.front = subst (λ (s : Sizes). IsKept s m.front) h.later.sizes h.later.kept in
     subst (λ (word : ℕ). (index_of word < v.sizes.nodes) ⊎ (index_of word ≡ nowhere)) h.word (⊎_elim
-        (λ (none : index_of (word_at v.sizes m.front (free_at v.sizes)) ≡ nowhere). inr none)
-        (λ (there : index_of (word_at v.sizes m.front (free_at v.sizes)) < v.sizes.nodes). inl there)
-        (first_leads v.sizes z m.front kept))
+    (λ (none : index_of (word_at v.sizes m.front (free_at v.sizes)) ≡ nowhere). inr none)
+    (λ (there : index_of (word_at v.sizes m.front (free_at v.sizes)) < v.sizes.nodes). inl there)
+    (first_leads v.sizes z m.front kept))
 
 pub leads_to_node : (v m : View) (seen : ℕ) → IsLayout v.sizes → HasSeen v m seen → index_of seen ≢ nowhere → index_of seen < v.sizes.nodes
 leads_to_node v m seen z h some = ⊎_elim

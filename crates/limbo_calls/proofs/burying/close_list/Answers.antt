@@ -1,6 +1,6 @@
-use Rattle.std.proofs.Common.{◌≡◌, ap, ap₂, sym, ◌∙◌, arith, false, true}
+use Rattle.std.proofs.Common.{◌≡◌, ap₂, sym, ◌∙◌, false, true}
 use borrow.Author.Tests.{eqb-true}
-use Rattle.packed_link.specs.Link.{index_of, mark_of, nowhere}
+use Rattle.packed_link.specs.Link.{mark_of}
 use Rattle.packed_link.specs.Layout.{Sizes, second_at}
 use Rattle.packed_link.specs.declared.link.Life.{Life}
 use Rattle.limbo_calls.proofs.StaysSteady.{low_mark}

@@ -1,6 +1,6 @@
-use Rattle.std.proofs.Common.{◌≡◌, ◌≢◌, ℕ, true, ap, ap₂, sym, ◌∙◌, subst, arith}
+use Rattle.std.proofs.Common.{◌≡◌, ◌≢◌, ℕ, true, ap, sym, ◌∙◌, subst, arith}
 use Rattle.packed_link.specs.Link.{index_of, nowhere}
-use Rattle.packed_link.specs.Layout.{Sizes, IsLayout, bucket_at, link_at}
+use Rattle.packed_link.specs.Layout.{Sizes, bucket_at, link_at}
 use Rattle.limbo_calls.specs.Steady.{IsFirst}
 use Rattle.limbo_calls.proofs.FirstIsFound.{first_there, first_found}
 use Rattle.limbo_calls.proofs.StaysSteady.{steady_look}

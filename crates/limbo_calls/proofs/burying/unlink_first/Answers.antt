@@ -1,5 +1,5 @@
-use Rattle.std.proofs.Common.{◌≡◌, ℕ, false, true, refl, ap, sym, ◌∙◌, subst, arith}
-use Rattle.packed_link.specs.Link.{index_of, mark_of}
+use Rattle.std.proofs.Common.{◌≡◌, false, true, refl, ap, sym, ◌∙◌, subst}
+use Rattle.packed_link.specs.Link.{mark_of}
 use Rattle.packed_link.specs.Layout.{Sizes, bucket_at, link_at}
 use Rattle.packed_link.specs.declared.link.Life.{Life}
 use Rattle.core_stretches.specs.Holdings.{IsUnlinkedVertex}
