@@ -1,0 +1,4 @@
+pub mod FirstIsFound
+pub mod FirstIsLinked
+pub mod ListIsClosed
+pub mod StaysSteady
