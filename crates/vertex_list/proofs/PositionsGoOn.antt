@@ -106,6 +106,10 @@ gap_makes v w own p z stays apart h = gap_goes v w p z (makes_goes v w own stays
 pub dead_makes : (v w : View) (own : List Event) (p : PositionValue) → IsLayout v.sizes → Every StaysInPass own → Makes v own w → LeadsToDead v p → LeadsToDead w p
 dead_makes v w own p z stays h = dead_goes v w p z (makes_goes v w own stays h)
 
+-- the place of a position is that of a word which leads to vertices, a bucket's or the link of a vertex that was met
+pub position_leads : (passed : Bool) (v : View) (p : PositionValue) → IsLayout v.sizes → IsPosition passed v p → LeadsToVertex v p.place
+position_leads passed v p z h = place_leads_on passed p.key v z p.place (place_still passed p.key h.then v (subst IsLayout (goes_sizes h.then v h.goes) z) h.goes p.place h.stands)
+
 -- no word of a fresh node is the place of a position, so filling it leaves the position
 pub place_apart : (passed : Bool) (v : View) (p : PositionValue) (x : Life) (field : ℕ) → IsLayout v.sizes → field < 4 → IsHeldFresh v x → IsPosition passed v p → key_at v.sizes x.index + field ≢ p.place
 place_apart passed v p x field z low f h same = ⊎_elim
