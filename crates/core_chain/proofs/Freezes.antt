@@ -1,7 +1,7 @@
 -- Freezing goes from the head on, one word after another, and at the end nothing on the chain can change.
 use Rattle.std.proofs.Common.{◌≡◌, ◌≢◌, ℕ, sym, ap, ◌∙◌, subst, arith, inl}
 use Rattle.packed_link.specs.Link.{nowhere}
-use Rattle.core_chain.specs.Chain.{Chain, Position, Head, Node, IsOn, IsChain, Precedes, rank_of}
+use Rattle.core_chain.specs.Chain.{Chain, Position, Head, Node, IsOn, IsChain, Precedes}
 use Rattle.core_chain.specs.Steps.{SetsMark, Freezes, Untouched, IsFrozenTo}
 use Rattle.core_chain.specs.Steps.{Step, insert, mark, replace, unlink, freeze_head, freeze}
 use Rattle.core_chain.proofs.Orders.{if_same, by_order, LeadsOnChain, rank_of-changed, since_of-changed, before_still}

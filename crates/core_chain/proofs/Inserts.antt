@@ -6,8 +6,7 @@ use Rattle.packed_link.specs.Link.{nowhere}
 use Rattle.core_chain.specs.Chain.{Chain, Position, Head, Node, IsOn, IsChain, Precedes, rank_of, since_of}
 use Rattle.core_chain.specs.Steps.{ChangesOnly, Inserts, Replaces, Joins, IsFrozenTo, Keeps}
 use Rattle.core_chain.proofs.Orders.{if_same, if_equal, by_order, LeadsOnChain, NotPast, RisesBehind, IsChain-by}
-use Rattle.core_chain.proofs.Orders.{rank_of-changed, since_of-changed, before_still, before_same, before_both}
-use Rattle.core_chain.proofs.Orders.{before_then}
+use Rattle.core_chain.proofs.Orders.{rank_of-changed, since_of-changed, before_still, before_same, before_then}
 use Rattle.core_chain.proofs.Orders.{IsBelow-rank}
 
 -- a node is put behind an unmarked word: it stands behind the word, and its key is less than that of the successor

@@ -16,14 +16,18 @@ use Rattle.core_stretches.specs.Moments.{Lacks}
 use Rattle.core_stretches.proofs.WordsLeadOn.{WordLaws, WalkLaws, IsCountedWord, low_at, low_link, low_else, goes_sizes}
 
 -- a life that was met is that of its node still
-pub vertex_life_still : (v w : View) → IsLayout v.sizes → GoesOn v w → (x : ℕ) → MetVertex v (life_in v.sizes v.front x) → MetVertex w (life_in w.sizes w.front x)
+pub vertex_life_still : (v w : View) → IsLayout v.sizes → GoesOn v w → (x : ℕ) → MetVertex v (life_in v.sizes v.front x)
+    → MetVertex w (life_in w.sizes w.front x)
 vertex_life_still v w z g x m =
     let h = vertex_still v w z g (life_in v.sizes v.front x) m in
-    let same : life_in v.sizes v.front x ≡ life_in w.sizes w.front x = ap (λ (t : ℕ). record { index = x; tag = t }) h.life.tag in
+    let same : life_in v.sizes v.front x ≡ life_in w.sizes w.front x = ap
+    (λ (t : ℕ). record { index = x; tag = t }) h.life.tag in
     subst (MetVertex w) same h
 
 -- the link of a vertex that was met leads to none, or to a vertex of a greater key
-pub link_leads : (v : View) → IsLayout v.sizes → IsKept v.sizes v.front → (x : Life) → MetVertex v x → index_of (word_at v.sizes v.front (link_at v.sizes x.index)) ≢ nowhere → IsVertexBehind v x (index_of (word_at v.sizes v.front (link_at v.sizes x.index)))
+pub link_leads : (v : View) → IsLayout v.sizes → IsKept v.sizes v.front → (x : Life) → MetVertex v x → index_of
+    (word_at v.sizes v.front (link_at v.sizes x.index)) ≢ nowhere → IsVertexBehind v x
+    (index_of (word_at v.sizes v.front (link_at v.sizes x.index)))
 link_leads v z kept x m some = ⊎_elim
     (λ (none : index_of (word_at v.sizes v.front (link_at v.sizes x.index)) ≡ nowhere). absurd (some none))
     (λ (h : IsVertexBehind v x (index_of (word_at v.sizes v.front (link_at v.sizes x.index)))). h)
@@ -43,26 +47,40 @@ module _ (key : ℕ) where
       let same = key_still v w z g x h.met.life.there h.met.met in
       record {
         met = vertex_life_still v w z g x h.met;
-        of_bucket = subst (λ (y : Sizes). key_in w x % y.buckets ≡ key % y.buckets) (sym (goes_sizes v w g)) (ap (λ (k : ℕ). k % v.sizes.buckets) same ∙ h.of_bucket);
+        of_bucket = subst (λ (y : Sizes). key_in w x % y.buckets ≡ key % y.buckets) (sym (goes_sizes v w g))
+            (ap (λ (k : ℕ). k % v.sizes.buckets) same ∙ h.of_bucket);
       }
 
   before_counted : (v : View) → IsLayout v.sizes → (place : ℕ) → IsBefore key v place → IsCountedWord v place
   before_counted v z place before = ⊎_elim
-      (λ (b : place ≡ bucket_at v.sizes (key % v.sizes.buckets)). inl (key % v.sizes.buckets, omega (arith, z.some_buckets), b))
-      (λ (b : (x : Life) × IsVertexBelow v key place x). inr (b.0.index, 1, omega arith, b.1.met.met, b.1.place_is ∙ omega arith))
+      (λ (b : place ≡ bucket_at v.sizes (key % v.sizes.buckets)). inl
+      (key % v.sizes.buckets, omega (arith, z.some_buckets), b))
+      (λ (b : (x : Life) × IsVertexBelow v key place x). inr (
+        b.0.index,
+        1,
+        omega arith,
+        b.1.met.met,
+        b.1.place_is
+            ∙ omega arith,
+      ))
       before
 
-  before_leads : (v : View) → IsLayout v.sizes → IsKept v.sizes v.front → HasPass v → (place : ℕ) → IsBefore key v place → index_of (word_at v.sizes v.front place) ≢ nowhere → IsOfBucket key v (index_of (word_at v.sizes v.front place))
+  before_leads : (v : View) → IsLayout v.sizes → IsKept v.sizes v.front → HasPass v → (place : ℕ) → IsBefore key v place
+      → index_of (word_at v.sizes v.front place) ≢ nowhere → IsOfBucket key v (index_of (word_at v.sizes v.front place))
   before_leads v z kept opened place before some = ⊎_elim
       (λ (b : place ≡ bucket_at v.sizes (key % v.sizes.buckets)).
       subst (λ (i : ℕ). IsOfBucket key v (index_of (word_at v.sizes v.front i))) (sym b)
       (⊎_elim
-      (λ (none : index_of (word_at v.sizes v.front (bucket_at v.sizes (key % v.sizes.buckets))) ≡ nowhere). absurd (some (ap (λ (i : ℕ). index_of (word_at v.sizes v.front i)) b ∙ none)))
-      (λ (h : IsVertexIn v (key % v.sizes.buckets) (index_of (word_at v.sizes v.front (bucket_at v.sizes (key % v.sizes.buckets))))). h)
+      (λ (none : index_of (word_at v.sizes v.front (bucket_at v.sizes (key % v.sizes.buckets))) ≡ nowhere). absurd
+      (some (ap (λ (i : ℕ). index_of (word_at v.sizes v.front i)) b ∙ none)))
+      (λ (h : IsVertexIn v (key % v.sizes.buckets) (index_of (word_at v.sizes v.front
+      (bucket_at v.sizes (key % v.sizes.buckets))))). h)
       (head_shown v z kept opened (key % v.sizes.buckets) (omega (arith, z.some_buckets)))))
       (λ (b : (x : Life) × IsVertexBelow v key place x).
-      let k = link_leads v z kept b.0 b.1.met (λ none. some (ap (λ (i : ℕ). index_of (word_at v.sizes v.front i)) b.1.place_is ∙ none)) in
-      subst (λ (i : ℕ). IsOfBucket key v (index_of (word_at v.sizes v.front i))) (sym b.1.place_is) (record { met = k.met; of_bucket = k.bucket ∙ b.1.bucket }))
+      let k = link_leads v z kept b.0 b.1.met (λ none. some (ap
+      (λ (i : ℕ). index_of (word_at v.sizes v.front i)) b.1.place_is ∙ none)) in
+      subst (λ (i : ℕ). IsOfBucket key v (index_of (word_at v.sizes v.front i))) (sym b.1.place_is)
+      (record { met = k.met; of_bucket = k.bucket ∙ b.1.bucket }))
       before
 
   pub vertex_words : WordLaws (IsOfBucket key) (IsBefore key)
@@ -84,26 +102,41 @@ module _ (key : ℕ) where
       (λ (b : (x : Life) × IsVertexBelow v key place x).
       let same = low_link v.sizes v.front b.0.index in
       let below = b.1.below in
-      subst (λ (i : ℕ). low_at v.sizes v.front i ≤ key) (sym b.1.place_is) (subst (λ (n : ℕ). n ≤ key) (sym same) (omega (arith, below))))
+      subst (λ (i : ℕ). low_at v.sizes v.front i ≤ key) (sym b.1.place_is)
+      (subst (λ (n : ℕ). n ≤ key) (sym same) (omega (arith, below))))
       before
 
-  before_rises : (v : View) → IsLayout v.sizes → IsKept v.sizes v.front → (place : ℕ) → IsBefore key v place → mark_of (word_at v.sizes v.front place) ≡ 0 → index_of (word_at v.sizes v.front place) ≢ nowhere → low_at v.sizes v.front place ≤ key_in v (index_of (word_at v.sizes v.front place))
+  before_rises : (v : View) → IsLayout v.sizes → IsKept v.sizes v.front → (place : ℕ) → IsBefore key v place → mark_of
+      (word_at v.sizes v.front place) ≡ 0 → index_of (word_at v.sizes v.front place) ≢ nowhere
+      → low_at v.sizes v.front place ≤ key_in v (index_of (word_at v.sizes v.front place))
   before_rises v z kept place before live some = ⊎_elim
       (λ (b : place ≡ bucket_at v.sizes (key % v.sizes.buckets)).
       let low : key % v.sizes.buckets < v.sizes.buckets = omega (arith, z.some_buckets) in
       let field : (place - key_at v.sizes 0) % 4 ≡ 0 = omega (arith, b, low) in
       omega (arith, low_else v.sizes v.front place 0 field refl))
       (λ (b : (x : Life) × IsVertexBelow v key place x).
-      let k = link_leads v z kept b.0 b.1.met (λ none. some (ap (λ (i : ℕ). index_of (word_at v.sizes v.front i)) b.1.place_is ∙ none)) in
+      let k = link_leads v z kept b.0 b.1.met (λ none. some (ap
+      (λ (i : ℕ). index_of (word_at v.sizes v.front i)) b.1.place_is ∙ none)) in
       let same = low_link v.sizes v.front b.0.index in
       let rising = k.rising in
-      subst (λ (i : ℕ). low_at v.sizes v.front i ≤ key_in v (index_of (word_at v.sizes v.front i))) (sym b.1.place_is) (subst (λ (n : ℕ). n ≤ key_in v (index_of (word_at v.sizes v.front (link_at v.sizes b.0.index)))) (sym same) (omega (arith, rising))))
+      subst (λ (i : ℕ). low_at v.sizes v.front i ≤ key_in v (index_of (word_at v.sizes v.front i))) (sym b.1.place_is)
+      (subst (λ (n : ℕ). n ≤ key_in v (index_of (word_at v.sizes v.front (link_at v.sizes b.0.index)))) (sym same)
+      (omega (arith, rising))))
       before
 
-  before_absent : (v : View) → IsLayout v.sizes → IsKept v.sizes v.front → HasPass v → (place : ℕ) → IsBefore key v place → mark_of (word_at v.sizes v.front place) ≡ 0 → (index_of (word_at v.sizes v.front place) ≢ nowhere → key < key_in v (index_of (word_at v.sizes v.front place))) → Lacks key v.front
+  before_absent : (v : View) → IsLayout v.sizes → IsKept v.sizes v.front → HasPass v → (place : ℕ)
+      → IsBefore key v place → mark_of (word_at v.sizes v.front place) ≡ 0 →
+      (index_of (word_at v.sizes v.front place) ≢ nowhere → key < key_in v (index_of (word_at v.sizes v.front place)))
+      → Lacks key v.front
   before_absent v z kept opened place before live above = record {
     none = passed_vertex v z kept key place before live
-        (λ some. record { life = life_in v.sizes v.front (index_of (word_at v.sizes v.front place)); is = refl; met = (before_leads v z kept opened place before some).met; above = above some });
+        (λ some. record {
+          life = life_in v.sizes v.front (index_of (word_at v.sizes v.front place));
+          is = refl;
+          met =
+              (before_leads v z kept opened place before some).met;
+          above = above some;
+        });
   }
 
   pub vertex_walks : WalkLaws key (IsOfBucket key) (IsBefore key) (Lacks key)
@@ -111,6 +144,10 @@ module _ (key : ℕ) where
     words = vertex_words;
     low = before_low;
     rises = before_rises;
-    behind = λ v x h below. inr (life_in v.sizes v.front x, record { met = h.met; place_is = refl; below = below; bucket = h.of_bucket });
+    behind = λ v x h below. inr (
+      life_in v.sizes v.front x,
+      record
+          { met = h.met; place_is = refl; below = below; bucket = h.of_bucket },
+    );
     absent = before_absent;
   }

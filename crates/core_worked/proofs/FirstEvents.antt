@@ -12,19 +12,98 @@ pub eight_events_kept : IsKept tiny eight_events
 unfolding machine word_at state
 eight_events_kept = record {
   steps = (
-    record { by = λ t. absurd (true≢false t); as_kind = record { life = refl; there = lit< tt; place = refl; word = refl; caller = refl } },
+    record {
+      by = λ t. absurd (true≢false t);
+      as_kind = record
+          { life = refl; there = lit< tt; place = refl; word = refl; caller = refl };
+    },
     (
-      record { by = λ _. lit< tt; as_kind = record { life = refl; there = lit< tt; place = refl; loaded = []; before = record { rest = record blank { kind = DrawNumber; place = 1; word = 1 } ∷ []; whole = refl }; word = refl; closed = refl } },
+      record {
+        by = λ _. lit< tt;
+        as_kind = record {
+          life = refl;
+          there = lit< tt;
+          place = refl;
+          loaded = [];
+          before =
+              record { rest = record blank { kind = DrawNumber; place = 1; word = 1 } ∷ []; whole = refl };
+          word = refl;
+          closed = refl;
+        };
+      },
       (
-        record { by = λ _. lit< tt; as_kind = record { life = refl; there = lit< tt; place = refl; seen = refl; word = refl; holds_none = λ x t f. let m = f.fresh in absurd (cc); limit = lit< tt } },
+        record {
+          by = λ _. lit< tt;
+          as_kind = record {
+            life = refl;
+            there = lit< tt;
+            place = refl;
+            seen = refl;
+            word =
+                refl;
+            holds_none = λ x t f. let m = f.fresh in absurd (cc);
+            limit = lit< tt;
+          };
+        },
         (
-          record { by = λ _. lit< tt; as_kind = record { life = refl; there = lit< tt; field = 0; place = (refl, lit< tt); word = lit< tt; link = λ h. absurd (omega (arith, h)); fresh = record { fresh = refl; mine = refl } } },
+          record {
+            by = λ _. lit< tt;
+            as_kind = record {
+              life = refl;
+              there = lit< tt;
+              field = 0;
+              place =
+                  (refl, lit< tt);
+              word = lit< tt;
+              link = λ h. absurd
+                  (omega (arith, h));
+              fresh = record { fresh = refl; mine = refl };
+            };
+          },
           (
-            record { by = λ _. lit< tt; as_kind = record { life = refl; there = lit< tt; field = 1; place = (refl, lit< tt); word = lit< tt; link = λ _. (refl, refl); fresh = record { fresh = refl; mine = refl } } },
+            record {
+              by = λ _. lit< tt;
+              as_kind = record {
+                life = refl;
+                there = lit< tt;
+                field = 1;
+                place =
+                    (refl, lit< tt);
+                word = lit< tt;
+                link = λ _. (refl, refl);
+                fresh = record { fresh = refl; mine = refl };
+              };
+            },
             (
-              record { by = λ _. lit< tt; as_kind = record { life = refl; there = lit< tt; field = 2; place = (refl, lit< tt); word = lit< tt; link = λ h. absurd (omega (arith, h)); fresh = record { fresh = refl; mine = refl } } },
+              record {
+                by = λ _. lit< tt;
+                as_kind = record {
+                  life = refl;
+                  there = lit< tt;
+                  field = 2;
+                  place =
+                      (refl, lit< tt);
+                  word = lit< tt;
+                  link = λ h. absurd
+                      (omega (arith, h));
+                  fresh = record { fresh = refl; mine = refl };
+                };
+              },
               (
-                record { by = λ _. lit< tt; as_kind = record { life = refl; there = lit< tt; field = 3; place = (refl, lit< tt); word = lit< tt; link = λ h. absurd (omega (arith, h)); fresh = record { fresh = refl; mine = refl } } },
+                record {
+                  by = λ _. lit< tt;
+                  as_kind = record {
+                    life = refl;
+                    there = lit< tt;
+                    field = 3;
+                    place =
+                        (refl, lit< tt);
+                    word = lit< tt;
+                    link = λ h. absurd
+                        (omega (arith, h));
+                    fresh = record { fresh = refl; mine = refl };
+                  };
+                },
                 (
                   record {
                     by = λ _. lit< tt;
@@ -36,10 +115,23 @@ eight_events_kept = record {
                       place = inl (refl, lit< tt);
                       linked = λ x h. absurd (omega (arith, h));
                       unmarked = refl;
-                      gap = record { bucket_word = λ j h t. omega (arith, t); bucket = λ x h. absurd (omega (arith, h)); below = λ x h. absurd (omega (arith, h)); above = λ ne. absurd (ne refl) };
+                      gap = record {
+                        bucket_word = λ j h t. omega (arith, t);
+                        bucket = λ x h. absurd
+                            (omega (arith, h));
+                        below = λ x h. absurd (omega (arith, h));
+                        above = λ ne. absurd
+                            (ne refl);
+                      };
                       word = refl;
                       fresh = record { fresh = refl; mine = refl };
-                      filled = record { key_word = refl; key_fits = lit< tt; link_word = refl; second_word = refl; third_word = refl };
+                      filled = record {
+                        key_word = refl;
+                        key_fits = lit< tt;
+                        link_word = refl;
+                        second_word = refl;
+                        third_word = refl;
+                      };
                       pass = refl;
                     };
                   },

@@ -1,5 +1,6 @@
 -- The laws of views and moments at steps of the worked journal.
-use Rattle.std.proofs.Common.{◌≡◌, ℕ, zero, suc, ◌+◌, ◌^◌, ◌<◌, ◌≤◌, ◌⊎◌, true, false, true≢false, [], ◌∷◌, ◌++◌, Some, None, length, drop, refl, sym, subst, arith, inl, inr, lit<, lit≤}
+use Rattle.std.proofs.Common.{◌≡◌, ℕ, zero, suc, ◌+◌, ◌^◌, ◌<◌, ◌≤◌, ◌⊎◌, true, false, true≢false, [], ◌∷◌, ◌++◌, Some}
+use Rattle.std.proofs.Common.{None, length, drop, refl, sym, subst, arith, inl, inr, lit<, lit≤}
 use mathlib.Core.Option.{some, some-injective, some-ne-none}
 use lib.ListN.{get_elem?}
 use Rattle.packed_link.specs.Link.{pack, mark_of, tag_of}
@@ -48,7 +49,9 @@ use Rattle.core_rule.proofs.SpentSince.{unlink_counts}
 use Rattle.core_worked.specs.KnownSteps.{view_at}
 use Rattle.core_worked.specs.LawSteps.{closing_table, closing_view, view_behind, view_drawing}
 use Rattle.core_worked.specs.TwoLives.{two_lives}
-use Rattle.core_worked.proofs.KnownSteps.{front_kept, makes_freeze_edge, makes_store, makes_store_edge, makes_unlink_vertex, may_freeze_edge, may_store_edge, may_unlink_vertex, met_edge}
+use Rattle.core_worked.proofs.KnownSteps.{front_kept, makes_freeze_edge, makes_store, makes_store_edge}
+use Rattle.core_worked.proofs.KnownSteps.{makes_unlink_vertex, may_freeze_edge, may_store_edge, may_unlink_vertex}
+use Rattle.core_worked.proofs.KnownSteps.{met_edge}
 use Rattle.core_worked.proofs.SmallSteps.{quiet_from, whole}
 use Rattle.core_worked.proofs.TwoLives.{before, event, two_lives_kept}
 use Rattle.core_worked.proofs.TwoLivesShown.{small_layout}
@@ -63,11 +66,13 @@ longer n m is = record { rest = drop n (before m); whole = is }
 -- laws of core_journal and core_kept
 
 pub still_unmarked : vertex_marked (before 30) (first_life 0) ≡ false
-still_unmarked = not_before (λ l. vertex_marked l (first_life 0)) (λ past more g. vertex_marked_more past more (first_life 0) g) (before 30) (before 40) (longer 30 40 refl) refl
+still_unmarked = not_before (λ l. vertex_marked l (first_life 0))
+    (λ past more g. vertex_marked_more past more (first_life 0) g) (before 30) (before 40) (longer 30 40 refl) refl
 
 pub one_pass : pass_in small (before 42) 0 ≡ pass_in small (before 40) 0
 unfolding state
-one_pass = pass_between small 0 (before 40) (before 42) (before 44) (kept 44) (longer 40 42 refl) (longer 42 44 refl) refl refl
+one_pass = pass_between small 0 (before 40) (before 42) (before 44) (kept 44) (longer 40 42 refl)
+    (longer 42 44 refl) refl refl
 
 pub bucket_live : mark_of (word_at small two_lives (bucket_at small 0)) ≡ 0
 bucket_live = bucket_unmarked small small_layout two_lives two_lives_kept 0 (lit< tt)
@@ -79,7 +84,8 @@ cut_linked = cut_was_linked small small_layout (before 28) (event 28) (kept 29) 
 
 pub keeps_38 : KeepsList small (before 38) 0
 unfolding state
-keeps_38 = has_keeps small small_layout (before 38) (kept 38) 0 (record { there = lit< tt; used = tt; vertex = refl; unfinished = λ f. true≢false (sym (f.edges 3 refl)) })
+keeps_38 = has_keeps small small_layout (before 38) (kept 38) 0
+    (record { there = lit< tt; used = tt; vertex = refl; unfinished = λ f. true≢false (sym (f.edges 3 refl)) })
 
 pub key_listed : word_at small (before 38) (key_at small 3) ≡ 2
 unfolding state link_of
@@ -89,13 +95,20 @@ pub linked_listed : (node_in small (before 38) 3).mode ≡ Linked
 unfolding state
 linked_listed = listed_linked small small_layout (before 38) (kept 38) 0 3 (lit< tt) refl refl refl
 
--- steps of caller 0: a store to the fresh node 3, the unlink of a vertex, the freezing of an edge, and the store of a link
+-- steps of caller 0: a store to the fresh node 3, the unlink of a vertex, the freezing of an edge, and the store of a
+-- link
 
 pub stored : Steps (view_at 0 34) (Some (event 34)) (view_behind 34)
 stored = record { view = refl; grown = before 34; reaches = makes_store.reaches; front = refl; kept = kept 35 }
 
 pub unlinked : Steps (view_at 0 41) (Some (event 41)) (view_behind 41)
-unlinked = record { view = refl; grown = before 41; reaches = makes_unlink_vertex.reaches; front = refl; kept = kept 42 }
+unlinked = record {
+  view = refl;
+  grown = before 41;
+  reaches = makes_unlink_vertex.reaches;
+  front = refl;
+  kept = kept 42;
+}
 
 pub frozen : Steps (view_at 0 43) (Some (event 43)) (view_behind 43)
 frozen = record { view = refl; grown = before 43; reaches = makes_freeze_edge.reaches; front = refl; kept = kept 44 }
@@ -105,7 +118,8 @@ given = record { view = refl; grown = before 47; reaches = makes_store_edge.reac
 
 -- the unlink alone was made, elsewhere than at the link of node 1
 pub own_elsewhere : Own (Elsewhere (link_at small 1)) (view_at 0 41) (view_behind 41)
-own_elsewhere = own_event (Elsewhere (link_at small 1)) (view_at 0 41) (view_behind 41) (event 41) unlinked (λ is. apart is)
+own_elsewhere = own_event (Elsewhere (link_at small 1)) (view_at 0 41) (view_behind 41) (event 41) unlinked
+    (λ is. apart is)
   where
     apart : bucket_at small 0 ≡ link_at small 1 → ⊥
     apart is = absurd (omega (arith, is))
@@ -119,7 +133,8 @@ unfolding state
 goes_41 = record { view = refl; grows = longer 41 44 refl; kept = kept 44; pass = refl }
 
 pub moment_between : GoesOn (view_at 0 41) (moved_on (view_at 0 41) (before 42) 41)
-moment_between = (goes_between (view_at 0 41) (view_behind 43) goes_41 opened_41 (before 42) (longer 41 42 refl) (longer 42 44 refl)).0
+moment_between = (goes_between (view_at 0 41) (view_behind 43) goes_41 opened_41 (before 42) (longer 41 42 refl)
+    (longer 42 44 refl)).0
 
 pub alike_41 : IsAlike (view_at 0 41) (view_drawing 41)
 alike_41 = record { sizes = refl; front = refl; number = refl }
@@ -128,13 +143,16 @@ pub met_drawing : MetVertex (view_drawing 41) (first_life 0)
 met_drawing = met_vertex_alike (view_at 0 41) (view_drawing 41) alike_41 (first_life 0) (may_unlink_vertex.vertex)
 
 pub unlink_drawing : MayUnlinkVertex (view_drawing 41) (bucket_at small 0) (pack 0 0 0) 1 (first_life 0)
-unlink_drawing = may_unlink_vertex_alike (view_at 0 41) (view_drawing 41) alike_41 (bucket_at small 0) (pack 0 0 0) 1 (first_life 0) may_unlink_vertex
+unlink_drawing = may_unlink_vertex_alike (view_at 0 41) (view_drawing 41) alike_41 (bucket_at small 0) (pack 0 0 0) 1
+    (first_life 0) may_unlink_vertex
 
 pub tag_low : tag_of (word_at small (before 48) (free_at small)) ≤ 2 ^ 37
-tag_low = free_tag_low (view_at 0 50) small_layout (kept 50) (before 48) (longer 48 50 refl) (word_at small (before 48) (free_at small)) refl
+tag_low = free_tag_low (view_at 0 50) small_layout (kept 50) (before 48) (longer 48 50 refl)
+    (word_at small (before 48) (free_at small)) refl
 
 pub epoch_is_low : word_at small (before 46) (epoch_at small) ≤ 2 ^ 38
-epoch_is_low = epoch_low (view_at 0 50) small_layout (kept 50) (before 46) (longer 46 50 refl) (word_at small (before 46) (epoch_at small)) refl
+epoch_is_low = epoch_low (view_at 0 50) small_layout (kept 50) (before 46) (longer 46 50 refl)
+    (word_at small (before 46) (epoch_at small)) refl
 
 life_0 : IsLifeAt (view_at 0 50) (first_life 0)
 unfolding state
@@ -166,13 +184,19 @@ unfolding state
 spent_2 = record { spent = refl; mine = refl }
 
 pub spent_2_kept : IsKeptSpent small (before 43) (before 44) 2
-spent_2_kept = (own_spent_by_kind (view_at 0 43) (view_behind 43) (Some (event 43)) small_layout frozen 2 (lit< tt) refl spent_2).1
+spent_2_kept = (own_spent_by_kind (view_at 0 43) (view_behind 43) (Some (event 43)) small_layout frozen 2
+    (lit< tt) refl spent_2).1
 
 -- what second words tell
 
 pub met_0 : MetVertex (view_at 0 43) (first_life 0)
 unfolding state
-met_0 = record { life = record { there = lit< tt; tag = refl }; met = record { pass = refl; free = λ h. absurd (cc); fresh = λ h. absurd (cc); spent = λ _. lit< tt }; vertex = refl }
+met_0 = record {
+  life = record { there = lit< tt; tag = refl };
+  met = record
+      { pass = refl; free = λ h. absurd (cc); fresh = λ h. absurd (cc); spent = λ _. lit< tt };
+  vertex = refl;
+}
 
 pub head_tells : vertex_marked (before 43) (first_life 0) ≡ true
 unfolding machine word_at
@@ -186,7 +210,8 @@ pub target_tells : IsTargetShown (view_at 0 41) (first_life 3)
 target_tells = target_shown (view_at 0 41) small_layout (kept 41) (first_life 0) (first_life 3) met_3
 
 pub target_stays : word_at small (before 44) (second_at small 3) ≡ word_at small (before 41) (second_at small 3)
-target_stays = (edge_words_still (view_at 0 41) (view_behind 43) small_layout goes_41 (first_life 0) (first_life 3) met_3).0
+target_stays = (edge_words_still (view_at 0 41) (view_behind 43) small_layout goes_41 (first_life 0)
+    (first_life 3) met_3).0
 
 -- freezing and retiring
 
@@ -195,7 +220,8 @@ unfolding state
 keeps_44 = (own_list).1
   where
     own_list : IsSpentVertex small (before 44) 0 0 × KeepsList small (before 44) 0
-    own_list = own_list_still (view_at 0 43) (view_behind 43) (Some (event 43)) small_layout frozen 0 ((λ h. absurd (cc)), (λ h. absurd (cc))) may_freeze_edge.spent may_freeze_edge.list
+    own_list = own_list_still (view_at 0 43) (view_behind 43) (Some (event 43)) small_layout frozen 0
+        ((λ h. absurd (cc)), (λ h. absurd (cc))) may_freeze_edge.spent may_freeze_edge.list
 
 pub whole_list : (state small (before 44)).edges 0 ≡ 3 ∷ []
 unfolding machine word_at state
@@ -206,7 +232,8 @@ pub freezing_leaves : changes (before 43) (event 43) ≡ false
 freezing_leaves = frozen_leaves small small_layout (before 43) (event 43) (kept 44) refl
 
 pub edge_stays_behind : is_listed (state small (before 43)) 0 3 ≡ true
-edge_stays_behind = (edge_behind (view_at 0 43) small_layout (before 43) makes_freeze_edge.reaches (first_life 0) (second_at small 0) (first_life 3) may_freeze_edge).2
+edge_stays_behind = (edge_behind (view_at 0 43) small_layout (before 43) makes_freeze_edge.reaches (first_life 0)
+    (second_at small 0) (first_life 3) may_freeze_edge).2
 
 pub retired_3 : IsRetired None (view_at 0 47) (first_life 3) 2
 unfolding machine word_at state
@@ -219,14 +246,18 @@ retired_3 = record {
 }
 
 pub retired_behind : IsRetired None (view_behind 47) (first_life 3) 2
-retired_behind = retired_still (view_at 0 47) (view_behind 47) (Some (event 47)) small_layout given None (first_life 3) 2 (λ h. absurd (cc)) retired_3
+retired_behind = retired_still (view_at 0 47) (view_behind 47) (Some (event 47)) small_layout given None
+    (first_life 3) 2 (λ h. absurd (cc)) retired_3
 
-pub spent_at_44 : (x : ℕ) → (node_in small (before 44) x).mode ≡ Spent → (node_in small (before 44) x).who ≡ 0 → IsSpentWith small (before 44) 0 x
+pub spent_at_44 : (x : ℕ) → (node_in small (before 44) x).mode ≡ Spent → (node_in small (before 44) x).who ≡ 0
+    → IsSpentWith small (before 44) 0 x
 spent_at_44 x spent mine = record { spent = spent; mine = mine }
 
 pub room_at_44 : length {A = ℕ} (2 ∷ 3 ∷ []) + 1 ≤ 8
 unfolding state
-room_at_44 = room_for_one (view_at 0 44) (kept 44) (2 ∷ 3 ∷ []) (((λ h. omega (arith, h)), tt), (tt, tt)) (spent_at_44 2 refl refl, (spent_at_44 3 refl refl, tt)) 0 (spent_at_44 0 refl refl) ((λ h. omega (arith, h)), ((λ h. omega (arith, h)), tt))
+room_at_44 = room_for_one (view_at 0 44) (kept 44) (2 ∷ 3 ∷ []) (((λ h. omega (arith, h)), tt), (tt, tt))
+    (spent_at_44 2 refl refl, (spent_at_44 3 refl refl, tt)) 0 (spent_at_44 0 refl refl)
+    ((λ h. omega (arith, h)), ((λ h. omega (arith, h)), tt))
 
 -- the count of numbers, and the end of a table
 
@@ -252,7 +283,15 @@ fits_closing = record {
 }
 
 pub closing_ruled : Ruled small closing_table
-closing_ruled = record { journal = two_lives; drawer = 0; owner = λ _. 0; words = refl; kept = two_lives_kept; seats = one }
+closing_ruled = record {
+  journal = two_lives;
+  drawer = 0;
+  owner = λ _. 0;
+  words = refl;
+  kept = two_lives_kept;
+  seats =
+      one;
+}
   where
     one : (seat : ℕ) (v : View) → get_elem? (closing_view ∷ []) seat ≡ some v → Fits small two_lives 0 (λ _. 0) seat v
     one zero v at = subst (Fits small two_lives 0 (λ _. 0) 0) (some-injective closing_view v at) fits_closing

@@ -22,3 +22,5 @@ pub mod WorkedAlike
 pub mod WorkedKept
 pub mod WorkedLists
 pub mod WorkedTokens
+pub mod WorkedGraph
+pub mod TargetAnew

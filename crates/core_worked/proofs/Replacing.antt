@@ -1,5 +1,6 @@
 -- The worked journal in which edges are replaced is kept: its events, one by one.
-use Rattle.std.proofs.Common.{◌≡◌, ℕ, true≢false, List, [], ◌∷◌, ◌++◌, take, drop, get_or, refl, sym, arith, inl, inr, lit<, lit≤}
+use Rattle.std.proofs.Common.{◌≡◌, ℕ, true≢false, List, [], ◌∷◌, ◌++◌, take, drop, get_or, refl, sym, arith, inl, inr}
+use Rattle.std.proofs.Common.{lit<, lit≤}
 use Rattle.packed_link.specs.Link.{pack, nowhere}
 use Rattle.packed_link.specs.Layout.{link_at}
 use Rattle.core_journal.specs.declared.event.Event.{Event}
@@ -30,7 +31,9 @@ next : (n : ℕ) → IsKept small (first n) → Allowed small (first n) (event n
 next n = kept_snoc small (first n) (event n)
 
 -- a node that was spent by event 73 is ripe once the epoch is 2
-ripe : (past : List Event) (x : ℕ) → IsPrefix (first 76) past → (node_in small past x).mode ≡ Spent → (node_in small past x).who ≡ 0 → (node_in small (first 74) x).mode ≡ Spent → (node_in small (first 74) x).tag ≡ (node_in small past x).tag
+ripe : (past : List Event) (x : ℕ) → IsPrefix (first 76) past → (node_in small past x).mode ≡ Spent →
+    (node_in small past x).who ≡ 0 → (node_in small (first 74) x).mode ≡ Spent → (node_in small (first 74) x).tag ≡
+    (node_in small past x).tag
     → IsRipe small past 0 x
 unfolding machine word_at
 ripe past x p spent mine was same = record {
@@ -59,23 +62,39 @@ kept_27 = next 26 kept_26 (announced (first 26) 0 (lit< tt) refl refl)
 
 pub kept_28 : IsKept small (first 28)
 unfolding machine word_at state
-kept_28 = next 27 kept_27 (record { by = λ _. lit< tt; as_kind = record { life = refl; there = lit< tt; place = refl; seen = refl; word = refl; holds_none = none_fresh (first 27) refl; limit = lit< tt } })
+kept_28 = next 27 kept_27 (record {
+  by = λ _. lit< tt;
+  as_kind = record {
+    life = refl;
+    there = lit< tt;
+    place = refl;
+    seen = refl;
+    word = refl;
+    holds_none = none_fresh
+        (first 27) refl;
+    limit = lit< tt;
+  };
+})
 
 pub kept_29 : IsKept small (first 29)
 unfolding state
-kept_29 = next 28 kept_28 (filled (first 28) 3 0 2 (lit< tt) (lit< tt) (lit< tt) (lit< tt) (λ h. absurd (omega (arith, h))) refl (record { fresh = refl; mine = refl }))
+kept_29 = next 28 kept_28 (filled (first 28) 3 0 2 (lit< tt) (lit< tt) (lit< tt) (lit< tt)
+    (λ h. absurd (omega (arith, h))) refl (record { fresh = refl; mine = refl }))
 
 pub kept_30 : IsKept small (first 30)
 unfolding state
-kept_30 = next 29 kept_29 (filled (first 29) 3 1 (pack nowhere 0 1) (lit< tt) (lit< tt) (lit< tt) (lit< tt) (λ _. (refl, refl)) refl (record { fresh = refl; mine = refl }))
+kept_30 = next 29 kept_29 (filled (first 29) 3 1 (pack nowhere 0 1) (lit< tt) (lit< tt) (lit< tt) (lit< tt)
+    (λ _. (refl, refl)) refl (record { fresh = refl; mine = refl }))
 
 pub kept_31 : IsKept small (first 31)
 unfolding state
-kept_31 = next 30 kept_30 (filled (first 30) 3 2 (pack 1 0 1) (lit< tt) (lit< tt) (lit< tt) (lit< tt) (λ h. absurd (omega (arith, h))) refl (record { fresh = refl; mine = refl }))
+kept_31 = next 30 kept_30 (filled (first 30) 3 2 (pack 1 0 1) (lit< tt) (lit< tt) (lit< tt) (lit< tt)
+    (λ h. absurd (omega (arith, h))) refl (record { fresh = refl; mine = refl }))
 
 pub kept_32 : IsKept small (first 32)
 unfolding state
-kept_32 = next 31 kept_31 (filled (first 31) 3 3 6 (lit< tt) (lit< tt) (lit< tt) (lit< tt) (λ h. absurd (omega (arith, h))) refl (record { fresh = refl; mine = refl }))
+kept_32 = next 31 kept_31 (filled (first 31) 3 3 6 (lit< tt) (lit< tt) (lit< tt) (lit< tt)
+    (λ h. absurd (omega (arith, h))) refl (record { fresh = refl; mine = refl }))
 
 pub kept_33 : IsKept small (first 33)
 unfolding machine word_at state link_of
@@ -115,12 +134,30 @@ kept_34 = next 33 kept_33 (record {
     unmarked = refl;
     word = refl;
     fresh = record { fresh = refl; mine = refl };
-    filled = record { key_word = refl; key_fits = lit< tt; link_word = refl; second_word = refl; third_word = refl; some = lit≤ tt; weight_fits = lit< tt };
+    filled = record {
+      key_word = refl;
+      key_fits = lit< tt;
+      link_word = refl;
+      second_word = refl;
+      third_word = refl;
+      some
+          = lit≤ tt;
+      weight_fits = lit< tt;
+    };
     key = refl;
     source = refl;
     target = refl;
     other = λ h. omega (arith, h);
-    raised = record { number = 32; since = lit< tt; raise = event 32; at = refl; kind = refl; by = refl; vertex = refl; linked = refl };
+    raised = record {
+      number = 32;
+      since = lit< tt;
+      raise = event 32;
+      at = refl;
+      kind = refl;
+      by = refl;
+      vertex = refl;
+      linked = refl;
+    };
     pass = refl;
   };
 })
@@ -137,23 +174,39 @@ kept_36 = next 35 kept_35 (announced (first 35) 0 (lit< tt) refl refl)
 
 pub kept_37 : IsKept small (first 37)
 unfolding machine word_at state
-kept_37 = next 36 kept_36 (record { by = λ _. lit< tt; as_kind = record { life = refl; there = lit< tt; place = refl; seen = refl; word = refl; holds_none = none_fresh (first 36) refl; limit = lit< tt } })
+kept_37 = next 36 kept_36 (record {
+  by = λ _. lit< tt;
+  as_kind = record {
+    life = refl;
+    there = lit< tt;
+    place = refl;
+    seen = refl;
+    word = refl;
+    holds_none = none_fresh
+        (first 36) refl;
+    limit = lit< tt;
+  };
+})
 
 pub kept_38 : IsKept small (first 38)
 unfolding state
-kept_38 = next 37 kept_37 (filled (first 37) 4 0 2 (lit< tt) (lit< tt) (lit< tt) (lit< tt) (λ h. absurd (omega (arith, h))) refl (record { fresh = refl; mine = refl }))
+kept_38 = next 37 kept_37 (filled (first 37) 4 0 2 (lit< tt) (lit< tt) (lit< tt) (lit< tt)
+    (λ h. absurd (omega (arith, h))) refl (record { fresh = refl; mine = refl }))
 
 pub kept_39 : IsKept small (first 39)
 unfolding state
-kept_39 = next 38 kept_38 (filled (first 38) 4 1 (pack nowhere 0 1) (lit< tt) (lit< tt) (lit< tt) (lit< tt) (λ _. (refl, refl)) refl (record { fresh = refl; mine = refl }))
+kept_39 = next 38 kept_38 (filled (first 38) 4 1 (pack nowhere 0 1) (lit< tt) (lit< tt) (lit< tt) (lit< tt)
+    (λ _. (refl, refl)) refl (record { fresh = refl; mine = refl }))
 
 pub kept_40 : IsKept small (first 40)
 unfolding state
-kept_40 = next 39 kept_39 (filled (first 39) 4 2 (pack 1 0 1) (lit< tt) (lit< tt) (lit< tt) (lit< tt) (λ h. absurd (omega (arith, h))) refl (record { fresh = refl; mine = refl }))
+kept_40 = next 39 kept_39 (filled (first 39) 4 2 (pack 1 0 1) (lit< tt) (lit< tt) (lit< tt) (lit< tt)
+    (λ h. absurd (omega (arith, h))) refl (record { fresh = refl; mine = refl }))
 
 pub kept_41 : IsKept small (first 41)
 unfolding state
-kept_41 = next 40 kept_40 (filled (first 40) 4 3 7 (lit< tt) (lit< tt) (lit< tt) (lit< tt) (λ h. absurd (omega (arith, h))) refl (record { fresh = refl; mine = refl }))
+kept_41 = next 40 kept_40 (filled (first 40) 4 3 7 (lit< tt) (lit< tt) (lit< tt) (lit< tt)
+    (λ h. absurd (omega (arith, h))) refl (record { fresh = refl; mine = refl }))
 
 pub kept_42 : IsKept small (first 42)
 unfolding machine word_at state link_of
@@ -193,12 +246,30 @@ kept_43 = next 42 kept_42 (record {
     unmarked = refl;
     word = refl;
     fresh = record { fresh = refl; mine = refl };
-    filled = record { key_word = refl; key_fits = lit< tt; link_word = refl; second_word = refl; third_word = refl; some = lit≤ tt; weight_fits = lit< tt };
+    filled = record {
+      key_word = refl;
+      key_fits = lit< tt;
+      link_word = refl;
+      second_word = refl;
+      third_word = refl;
+      some
+          = lit≤ tt;
+      weight_fits = lit< tt;
+    };
     key = refl;
     source = refl;
     target = refl;
     other = λ h. omega (arith, h);
-    raised = record { number = 41; since = lit< tt; raise = event 41; at = refl; kind = refl; by = refl; vertex = refl; linked = refl };
+    raised = record {
+      number = 41;
+      since = lit< tt;
+      raise = event 41;
+      at = refl;
+      kind = refl;
+      by = refl;
+      vertex = refl;
+      linked = refl;
+    };
     pass = refl;
   };
 })
@@ -248,7 +319,16 @@ kept_47 = next 46 kept_46 (record {
     linked = record { linked = refl; edge = refl };
     unmarked = refl;
     word = refl;
-    raised = record { number = 45; since = lit< tt; raise = event 45; at = refl; kind = refl; by = refl; vertex = refl; linked = refl };
+    raised = record {
+      number = 45;
+      since = lit< tt;
+      raise = event 45;
+      at = refl;
+      kind = refl;
+      by = refl;
+      vertex = refl;
+      linked = refl;
+    };
     pass = refl;
   };
 })
@@ -328,23 +408,39 @@ kept_52 = next 51 kept_51 (announced (first 51) 0 (lit< tt) refl refl)
 
 pub kept_53 : IsKept small (first 53)
 unfolding machine word_at state
-kept_53 = next 52 kept_52 (record { by = λ _. lit< tt; as_kind = record { life = refl; there = lit< tt; place = refl; seen = refl; word = refl; holds_none = none_fresh (first 52) refl; limit = lit< tt } })
+kept_53 = next 52 kept_52 (record {
+  by = λ _. lit< tt;
+  as_kind = record {
+    life = refl;
+    there = lit< tt;
+    place = refl;
+    seen = refl;
+    word = refl;
+    holds_none = none_fresh
+        (first 52) refl;
+    limit = lit< tt;
+  };
+})
 
 pub kept_54 : IsKept small (first 54)
 unfolding state
-kept_54 = next 53 kept_53 (filled (first 53) 5 0 2 (lit< tt) (lit< tt) (lit< tt) (lit< tt) (λ h. absurd (omega (arith, h))) refl (record { fresh = refl; mine = refl }))
+kept_54 = next 53 kept_53 (filled (first 53) 5 0 2 (lit< tt) (lit< tt) (lit< tt) (lit< tt)
+    (λ h. absurd (omega (arith, h))) refl (record { fresh = refl; mine = refl }))
 
 pub kept_55 : IsKept small (first 55)
 unfolding state
-kept_55 = next 54 kept_54 (filled (first 54) 5 1 (pack nowhere 0 1) (lit< tt) (lit< tt) (lit< tt) (lit< tt) (λ _. (refl, refl)) refl (record { fresh = refl; mine = refl }))
+kept_55 = next 54 kept_54 (filled (first 54) 5 1 (pack nowhere 0 1) (lit< tt) (lit< tt) (lit< tt) (lit< tt)
+    (λ _. (refl, refl)) refl (record { fresh = refl; mine = refl }))
 
 pub kept_56 : IsKept small (first 56)
 unfolding state
-kept_56 = next 55 kept_55 (filled (first 55) 5 2 (pack 1 0 1) (lit< tt) (lit< tt) (lit< tt) (lit< tt) (λ h. absurd (omega (arith, h))) refl (record { fresh = refl; mine = refl }))
+kept_56 = next 55 kept_55 (filled (first 55) 5 2 (pack 1 0 1) (lit< tt) (lit< tt) (lit< tt) (lit< tt)
+    (λ h. absurd (omega (arith, h))) refl (record { fresh = refl; mine = refl }))
 
 pub kept_57 : IsKept small (first 57)
 unfolding state
-kept_57 = next 56 kept_56 (filled (first 56) 5 3 8 (lit< tt) (lit< tt) (lit< tt) (lit< tt) (λ h. absurd (omega (arith, h))) refl (record { fresh = refl; mine = refl }))
+kept_57 = next 56 kept_56 (filled (first 56) 5 3 8 (lit< tt) (lit< tt) (lit< tt) (lit< tt)
+    (λ h. absurd (omega (arith, h))) refl (record { fresh = refl; mine = refl }))
 
 pub kept_58 : IsKept small (first 58)
 unfolding machine word_at state key_of
@@ -361,7 +457,16 @@ kept_58 = next 57 kept_57 (record {
     gap = record { below = λ x h. absurd (omega (arith, h)); above = λ ne. absurd (ne refl) };
     word = refl;
     fresh = record { fresh = refl; mine = refl };
-    filled = record { key_word = refl; key_fits = lit< tt; link_word = refl; second_word = refl; third_word = refl; some = lit≤ tt; weight_fits = lit< tt };
+    filled = record {
+      key_word = refl;
+      key_fits = lit< tt;
+      link_word = refl;
+      second_word = refl;
+      third_word = refl;
+      some
+          = lit≤ tt;
+      weight_fits = lit< tt;
+    };
     target_key = refl;
     source_met = linked_met small (first 57) 0 refl 0 refl;
     target = record { there = lit< tt; life = refl; used = tt; vertex = refl };
@@ -382,23 +487,39 @@ kept_60 = next 59 kept_59 (announced (first 59) 0 (lit< tt) refl refl)
 
 pub kept_61 : IsKept small (first 61)
 unfolding machine word_at state
-kept_61 = next 60 kept_60 (record { by = λ _. lit< tt; as_kind = record { life = refl; there = lit< tt; place = refl; seen = refl; word = refl; holds_none = none_fresh (first 60) refl; limit = lit< tt } })
+kept_61 = next 60 kept_60 (record {
+  by = λ _. lit< tt;
+  as_kind = record {
+    life = refl;
+    there = lit< tt;
+    place = refl;
+    seen = refl;
+    word = refl;
+    holds_none = none_fresh
+        (first 60) refl;
+    limit = lit< tt;
+  };
+})
 
 pub kept_62 : IsKept small (first 62)
 unfolding state
-kept_62 = next 61 kept_61 (filled (first 61) 6 0 2 (lit< tt) (lit< tt) (lit< tt) (lit< tt) (λ h. absurd (omega (arith, h))) refl (record { fresh = refl; mine = refl }))
+kept_62 = next 61 kept_61 (filled (first 61) 6 0 2 (lit< tt) (lit< tt) (lit< tt) (lit< tt)
+    (λ h. absurd (omega (arith, h))) refl (record { fresh = refl; mine = refl }))
 
 pub kept_63 : IsKept small (first 63)
 unfolding state
-kept_63 = next 62 kept_62 (filled (first 62) 6 1 (pack nowhere 0 1) (lit< tt) (lit< tt) (lit< tt) (lit< tt) (λ _. (refl, refl)) refl (record { fresh = refl; mine = refl }))
+kept_63 = next 62 kept_62 (filled (first 62) 6 1 (pack nowhere 0 1) (lit< tt) (lit< tt) (lit< tt) (lit< tt)
+    (λ _. (refl, refl)) refl (record { fresh = refl; mine = refl }))
 
 pub kept_64 : IsKept small (first 64)
 unfolding state
-kept_64 = next 63 kept_63 (filled (first 63) 6 2 (pack 1 0 1) (lit< tt) (lit< tt) (lit< tt) (lit< tt) (λ h. absurd (omega (arith, h))) refl (record { fresh = refl; mine = refl }))
+kept_64 = next 63 kept_63 (filled (first 63) 6 2 (pack 1 0 1) (lit< tt) (lit< tt) (lit< tt) (lit< tt)
+    (λ h. absurd (omega (arith, h))) refl (record { fresh = refl; mine = refl }))
 
 pub kept_65 : IsKept small (first 65)
 unfolding state
-kept_65 = next 64 kept_64 (filled (first 64) 6 3 9 (lit< tt) (lit< tt) (lit< tt) (lit< tt) (λ h. absurd (omega (arith, h))) refl (record { fresh = refl; mine = refl }))
+kept_65 = next 64 kept_64 (filled (first 64) 6 3 9 (lit< tt) (lit< tt) (lit< tt) (lit< tt)
+    (λ h. absurd (omega (arith, h))) refl (record { fresh = refl; mine = refl }))
 
 pub kept_66 : IsKept small (first 66)
 unfolding machine word_at state link_of
@@ -438,12 +559,30 @@ kept_67 = next 66 kept_66 (record {
     unmarked = refl;
     word = refl;
     fresh = record { fresh = refl; mine = refl };
-    filled = record { key_word = refl; key_fits = lit< tt; link_word = refl; second_word = refl; third_word = refl; some = lit≤ tt; weight_fits = lit< tt };
+    filled = record {
+      key_word = refl;
+      key_fits = lit< tt;
+      link_word = refl;
+      second_word = refl;
+      third_word = refl;
+      some
+          = lit≤ tt;
+      weight_fits = lit< tt;
+    };
     key = refl;
     source = refl;
     target = refl;
     other = λ h. omega (arith, h);
-    raised = record { number = 65; since = lit< tt; raise = event 65; at = refl; kind = refl; by = refl; vertex = refl; linked = refl };
+    raised = record {
+      number = 65;
+      since = lit< tt;
+      raise = event 65;
+      at = refl;
+      kind = refl;
+      by = refl;
+      vertex = refl;
+      linked = refl;
+    };
     pass = refl;
   };
 })
@@ -460,7 +599,18 @@ kept_69 = next 68 kept_68 (announced (first 68) 0 (lit< tt) refl refl)
 
 pub kept_70 : IsKept small (first 70)
 unfolding machine word_at state
-kept_70 = next 69 kept_69 (record { by = λ _. lit< tt; as_kind = record { life = refl; there = lit< tt; place = refl; linked = record { linked = refl; vertex = refl }; unmarked = refl; word = refl; pass = refl } })
+kept_70 = next 69 kept_69 (record {
+  by = λ _. lit< tt;
+  as_kind = record {
+    life = refl;
+    there = lit< tt;
+    place = refl;
+    linked = record { linked = refl; vertex = refl };
+    unmarked = refl;
+    word = refl;
+    pass = refl;
+  };
+})
 
 pub kept_71 : IsKept small (first 71)
 unfolding machine word_at state
@@ -484,7 +634,18 @@ kept_71 = next 70 kept_70 (record {
 
 pub kept_72 : IsKept small (first 72)
 unfolding machine word_at state
-kept_72 = next 71 kept_71 (record { by = λ _. lit< tt; as_kind = record { life = refl; there = lit< tt; place = refl; spent = record { spent = refl; vertex = refl; mine = refl }; unmarked = refl; word = refl } })
+kept_72 = next 71 kept_71 (record {
+  by = λ _. lit< tt;
+  as_kind = record {
+    life = refl;
+    there = lit< tt;
+    place = refl;
+    spent = record { spent = refl; vertex = refl; mine = refl };
+    unmarked
+        = refl;
+    word = refl;
+  };
+})
 
 pub kept_73 : IsKept small (first 73)
 unfolding machine word_at state

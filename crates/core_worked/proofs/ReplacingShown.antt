@@ -2,7 +2,10 @@
 use Rattle.std.proofs.Common.{◌≡◌, [], ◌∷◌, map, refl, lit<}
 use Rattle.std.specs.Prelude.{Contains}
 use Rattle.core_journal.specs.declared.event.Kind.{Kind}
-use Rattle.core_journal.specs.declared.event.Kind.TheVariants.{DrawNumber, PopFree, StorePrivate, LinkVertex, MarkVertex, UnlinkVertex, LinkEdge, Raise, MarkEdge, UnlinkEdge, Announce, Withdraw, MoveEpoch, FreezeHead, FreezeEdge, StoreFree, PushFree, ReplaceEdge}
+use Rattle.core_journal.specs.declared.event.Kind.TheVariants.{DrawNumber, PopFree, StorePrivate, LinkVertex}
+use Rattle.core_journal.specs.declared.event.Kind.TheVariants.{MarkVertex, UnlinkVertex, LinkEdge, Raise, MarkEdge}
+use Rattle.core_journal.specs.declared.event.Kind.TheVariants.{UnlinkEdge, Announce, Withdraw, MoveEpoch, FreezeHead}
+use Rattle.core_journal.specs.declared.event.Kind.TheVariants.{FreezeEdge, StoreFree, PushFree, ReplaceEdge}
 use Rattle.core_journal.specs.declared.event.Event.{Event}
 use Rattle.core_journal.specs.GraphOf.{graph_of}
 use Rattle.core_journal.specs.Life.{key_of, link_of}
@@ -10,7 +13,8 @@ use Rattle.core_journal.specs.Machine.{machine, word_at}
 use Rattle.core_journal.specs.State.{state}
 use Rattle.core_journal.specs.Worked.{small}
 use Rattle.core_kept.specs.Standings.{StandsAs, OnFreeList, OnChain, SpentBy}
-use Rattle.core_worked.specs.Replacing.{replaced_once, replaced_twice, removed_then, added_anew, replaced_anew, frozen_behind, replacing_journal, replacing_words}
+use Rattle.core_worked.specs.Replacing.{replaced_once, replaced_twice, removed_then, added_anew, replaced_anew}
+use Rattle.core_worked.specs.Replacing.{frozen_behind, replacing_journal, replacing_words}
 use Rattle.core_worked.specs.TwoLives.{two_keys, key_two}
 use Rattle.core_worked.proofs.Replacing.{first}
 

@@ -1,5 +1,6 @@
 -- The worked journal with all kinds of events but replacements is kept: its events, one by one.
-use Rattle.std.proofs.Common.{◌≡◌, ℕ, ◌%◌, ◌<◌, true≢false, List, [], ◌∷◌, ◌++◌, take, drop, get_or, refl, sym, arith, inl, inr, lit<, lit≤}
+use Rattle.std.proofs.Common.{◌≡◌, ℕ, ◌%◌, ◌<◌, true≢false, List, [], ◌∷◌, ◌++◌, take, drop, get_or, refl, sym, arith}
+use Rattle.std.proofs.Common.{inl, inr, lit<, lit≤}
 use Rattle.packed_link.specs.Link.{pack, nowhere}
 use Rattle.packed_link.specs.Layout.{key_at, second_at}
 use Rattle.core_journal.specs.declared.event.Event.{Event}
@@ -14,7 +15,8 @@ use Rattle.core_kept.specs.Kept.{Allowed, IsKept}
 use Rattle.core_kept.specs.Nodes.{node_in, IsLinkedVertex, IsRipe}
 use Rattle.core_worked.specs.TwoLives.{two_lives}
 use Rattle.core_kept.proofs.Induction.{kept_snoc}
-use Rattle.core_worked.proofs.SmallSteps.{whole, none_fresh, announced, filled, withdrawn, moved, at_link, frozen_list, on_none, on_one}
+use Rattle.core_worked.proofs.SmallSteps.{whole, none_fresh, announced, filled, withdrawn, moved, at_link, frozen_list}
+use Rattle.core_worked.proofs.SmallSteps.{on_none, on_one}
 
 -- a front of the journal, and the event of a number
 abbrev pub before : ℕ → List Event
@@ -27,7 +29,9 @@ next : (n : ℕ) → IsKept small (before n) → Allowed small (before n) (event
 next n = kept_snoc small (before n) (event n)
 
 -- a node that was spent by event 43 is ripe once the epoch is 2
-pub ripe : (past : List Event) (x : ℕ) → IsPrefix (before 47) past → (node_in small past x).mode ≡ Spent → (node_in small past x).who ≡ 0 → (node_in small (before 45) x).mode ≡ Spent → (node_in small (before 45) x).tag ≡ (node_in small past x).tag
+pub ripe : (past : List Event) (x : ℕ) → IsPrefix (before 47) past → (node_in small past x).mode ≡ Spent →
+    (node_in small past x).who ≡ 0 → (node_in small (before 45) x).mode ≡ Spent → (node_in small (before 45) x).tag ≡
+    (node_in small past x).tag
     → IsRipe small past 0 x
 unfolding machine word_at
 ripe past x p spent mine was same = record {
@@ -49,11 +53,19 @@ ripe past x p spent mine was same = record {
 
 kept_1 : IsKept small (before 1)
 unfolding machine word_at state
-kept_1 = next 0 (record { steps = tt }) (record { by = λ t. absurd (true≢false t); as_kind = record { life = refl; there = lit< tt; place = refl; word = refl; caller = refl } })
+kept_1 = next 0 (record { steps = tt }) (record {
+  by = λ t. absurd
+      (true≢false t);
+  as_kind = record { life = refl; there = lit< tt; place = refl; word = refl; caller = refl };
+})
 
 kept_2 : IsKept small (before 2)
 unfolding machine word_at state
-kept_2 = next 1 kept_1 (record { by = λ t. absurd (true≢false t); as_kind = record { life = refl; there = lit< tt; place = refl; word = refl; caller = refl } })
+kept_2 = next 1 kept_1 (record {
+  by = λ t. absurd (true≢false t);
+  as_kind = record
+      { life = refl; there = lit< tt; place = refl; word = refl; caller = refl };
+})
 
 pub kept_3 : IsKept small (before 3)
 unfolding machine word_at state
@@ -61,23 +73,39 @@ kept_3 = next 2 kept_2 (announced (before 2) 0 (lit< tt) refl refl)
 
 pub kept_4 : IsKept small (before 4)
 unfolding machine word_at state
-kept_4 = next 3 kept_3 (record { by = λ _. lit< tt; as_kind = record { life = refl; there = lit< tt; place = refl; seen = refl; word = refl; holds_none = none_fresh (before 3) refl; limit = lit< tt } })
+kept_4 = next 3 kept_3 (record {
+  by = λ _. lit< tt;
+  as_kind = record {
+    life = refl;
+    there = lit< tt;
+    place = refl;
+    seen = refl;
+    word = refl;
+    holds_none = none_fresh
+        (before 3) refl;
+    limit = lit< tt;
+  };
+})
 
 kept_5 : IsKept small (before 5)
 unfolding state
-kept_5 = next 4 kept_4 (filled (before 4) 0 0 1 (lit< tt) (lit< tt) (lit< tt) (lit< tt) (λ h. absurd (omega (arith, h))) refl (record { fresh = refl; mine = refl }))
+kept_5 = next 4 kept_4 (filled (before 4) 0 0 1 (lit< tt) (lit< tt) (lit< tt) (lit< tt)
+    (λ h. absurd (omega (arith, h))) refl (record { fresh = refl; mine = refl }))
 
 kept_6 : IsKept small (before 6)
 unfolding state
-kept_6 = next 5 kept_5 (filled (before 5) 0 1 (pack nowhere 0 1) (lit< tt) (lit< tt) (lit< tt) (lit< tt) (λ _. (refl, refl)) refl (record { fresh = refl; mine = refl }))
+kept_6 = next 5 kept_5 (filled (before 5) 0 1 (pack nowhere 0 1) (lit< tt) (lit< tt) (lit< tt) (lit< tt)
+    (λ _. (refl, refl)) refl (record { fresh = refl; mine = refl }))
 
 kept_7 : IsKept small (before 7)
 unfolding state
-kept_7 = next 6 kept_6 (filled (before 6) 0 2 (pack nowhere 0 1) (lit< tt) (lit< tt) (lit< tt) (lit< tt) (λ h. absurd (omega (arith, h))) refl (record { fresh = refl; mine = refl }))
+kept_7 = next 6 kept_6 (filled (before 6) 0 2 (pack nowhere 0 1) (lit< tt) (lit< tt) (lit< tt) (lit< tt)
+    (λ h. absurd (omega (arith, h))) refl (record { fresh = refl; mine = refl }))
 
 pub kept_8 : IsKept small (before 8)
 unfolding state
-kept_8 = next 7 kept_7 (filled (before 7) 0 3 0 (lit< tt) (lit< tt) (lit< tt) (lit< tt) (λ h. absurd (omega (arith, h))) refl (record { fresh = refl; mine = refl }))
+kept_8 = next 7 kept_7 (filled (before 7) 0 3 0 (lit< tt) (lit< tt) (lit< tt) (lit< tt)
+    (λ h. absurd (omega (arith, h))) refl (record { fresh = refl; mine = refl }))
 
 kept_9 : IsKept small (before 9)
 unfolding machine word_at state
@@ -91,7 +119,13 @@ kept_9 = next 8 kept_8 (record {
     place = inl (refl, lit< tt);
     linked = λ x h. absurd (omega (arith, h));
     unmarked = refl;
-    gap = record { bucket_word = λ j h t. omega (arith, t); bucket = λ x h. absurd (omega (arith, h)); below = λ x h. absurd (omega (arith, h)); above = λ ne. absurd (ne refl) };
+    gap = record {
+      bucket_word = λ j h t. omega (arith, t);
+      bucket = λ x h. absurd
+          (omega (arith, h));
+      below = λ x h. absurd (omega (arith, h));
+      above = λ ne. absurd (ne refl);
+    };
     word = refl;
     fresh = record { fresh = refl; mine = refl };
     filled = record { key_word = refl; key_fits = lit< tt; link_word = refl; second_word = refl; third_word = refl };
@@ -109,23 +143,39 @@ kept_11 = next 10 kept_10 (announced (before 10) 0 (lit< tt) refl refl)
 
 kept_12 : IsKept small (before 12)
 unfolding machine word_at state
-kept_12 = next 11 kept_11 (record { by = λ _. lit< tt; as_kind = record { life = refl; there = lit< tt; place = refl; seen = refl; word = refl; holds_none = none_fresh (before 11) refl; limit = lit< tt } })
+kept_12 = next 11 kept_11 (record {
+  by = λ _. lit< tt;
+  as_kind = record {
+    life = refl;
+    there = lit< tt;
+    place = refl;
+    seen = refl;
+    word = refl;
+    holds_none = none_fresh
+        (before 11) refl;
+    limit = lit< tt;
+  };
+})
 
 kept_13 : IsKept small (before 13)
 unfolding state
-kept_13 = next 12 kept_12 (filled (before 12) 1 0 2 (lit< tt) (lit< tt) (lit< tt) (lit< tt) (λ h. absurd (omega (arith, h))) refl (record { fresh = refl; mine = refl }))
+kept_13 = next 12 kept_12 (filled (before 12) 1 0 2 (lit< tt) (lit< tt) (lit< tt) (lit< tt)
+    (λ h. absurd (omega (arith, h))) refl (record { fresh = refl; mine = refl }))
 
 kept_14 : IsKept small (before 14)
 unfolding state
-kept_14 = next 13 kept_13 (filled (before 13) 1 1 (pack nowhere 0 1) (lit< tt) (lit< tt) (lit< tt) (lit< tt) (λ _. (refl, refl)) refl (record { fresh = refl; mine = refl }))
+kept_14 = next 13 kept_13 (filled (before 13) 1 1 (pack nowhere 0 1) (lit< tt) (lit< tt) (lit< tt) (lit< tt)
+    (λ _. (refl, refl)) refl (record { fresh = refl; mine = refl }))
 
 kept_15 : IsKept small (before 15)
 unfolding state
-kept_15 = next 14 kept_14 (filled (before 14) 1 2 (pack nowhere 0 1) (lit< tt) (lit< tt) (lit< tt) (lit< tt) (λ h. absurd (omega (arith, h))) refl (record { fresh = refl; mine = refl }))
+kept_15 = next 14 kept_14 (filled (before 14) 1 2 (pack nowhere 0 1) (lit< tt) (lit< tt) (lit< tt) (lit< tt)
+    (λ h. absurd (omega (arith, h))) refl (record { fresh = refl; mine = refl }))
 
 pub kept_16 : IsKept small (before 16)
 unfolding state
-kept_16 = next 15 kept_15 (filled (before 15) 1 3 0 (lit< tt) (lit< tt) (lit< tt) (lit< tt) (λ h. absurd (omega (arith, h))) refl (record { fresh = refl; mine = refl }))
+kept_16 = next 15 kept_15 (filled (before 15) 1 3 0 (lit< tt) (lit< tt) (lit< tt) (lit< tt)
+    (λ h. absurd (omega (arith, h))) refl (record { fresh = refl; mine = refl }))
 
 kept_17 : IsKept small (before 17)
 unfolding machine word_at state
@@ -164,23 +214,39 @@ kept_19 = next 18 kept_18 (announced (before 18) 0 (lit< tt) refl refl)
 
 kept_20 : IsKept small (before 20)
 unfolding machine word_at state
-kept_20 = next 19 kept_19 (record { by = λ _. lit< tt; as_kind = record { life = refl; there = lit< tt; place = refl; seen = refl; word = refl; holds_none = none_fresh (before 19) refl; limit = lit< tt } })
+kept_20 = next 19 kept_19 (record {
+  by = λ _. lit< tt;
+  as_kind = record {
+    life = refl;
+    there = lit< tt;
+    place = refl;
+    seen = refl;
+    word = refl;
+    holds_none = none_fresh
+        (before 19) refl;
+    limit = lit< tt;
+  };
+})
 
 kept_21 : IsKept small (before 21)
 unfolding state
-kept_21 = next 20 kept_20 (filled (before 20) 2 0 2 (lit< tt) (lit< tt) (lit< tt) (lit< tt) (λ h. absurd (omega (arith, h))) refl (record { fresh = refl; mine = refl }))
+kept_21 = next 20 kept_20 (filled (before 20) 2 0 2 (lit< tt) (lit< tt) (lit< tt) (lit< tt)
+    (λ h. absurd (omega (arith, h))) refl (record { fresh = refl; mine = refl }))
 
 kept_22 : IsKept small (before 22)
 unfolding state
-kept_22 = next 21 kept_21 (filled (before 21) 2 1 (pack nowhere 0 1) (lit< tt) (lit< tt) (lit< tt) (lit< tt) (λ _. (refl, refl)) refl (record { fresh = refl; mine = refl }))
+kept_22 = next 21 kept_21 (filled (before 21) 2 1 (pack nowhere 0 1) (lit< tt) (lit< tt) (lit< tt) (lit< tt)
+    (λ _. (refl, refl)) refl (record { fresh = refl; mine = refl }))
 
 kept_23 : IsKept small (before 23)
 unfolding state
-kept_23 = next 22 kept_22 (filled (before 22) 2 2 (pack 1 0 1) (lit< tt) (lit< tt) (lit< tt) (lit< tt) (λ h. absurd (omega (arith, h))) refl (record { fresh = refl; mine = refl }))
+kept_23 = next 22 kept_22 (filled (before 22) 2 2 (pack 1 0 1) (lit< tt) (lit< tt) (lit< tt) (lit< tt)
+    (λ h. absurd (omega (arith, h))) refl (record { fresh = refl; mine = refl }))
 
 pub kept_24 : IsKept small (before 24)
 unfolding state
-kept_24 = next 23 kept_23 (filled (before 23) 2 3 5 (lit< tt) (lit< tt) (lit< tt) (lit< tt) (λ h. absurd (omega (arith, h))) refl (record { fresh = refl; mine = refl }))
+kept_24 = next 23 kept_23 (filled (before 23) 2 3 5 (lit< tt) (lit< tt) (lit< tt) (lit< tt)
+    (λ h. absurd (omega (arith, h))) refl (record { fresh = refl; mine = refl }))
 
 kept_25 : IsKept small (before 25)
 unfolding machine word_at state key_of
@@ -197,7 +263,16 @@ kept_25 = next 24 kept_24 (record {
     gap = record { below = λ x h. absurd (omega (arith, h)); above = λ ne. absurd (ne refl) };
     word = refl;
     fresh = record { fresh = refl; mine = refl };
-    filled = record { key_word = refl; key_fits = lit< tt; link_word = refl; second_word = refl; third_word = refl; some = lit≤ tt; weight_fits = lit< tt };
+    filled = record {
+      key_word = refl;
+      key_fits = lit< tt;
+      link_word = refl;
+      second_word = refl;
+      third_word = refl;
+      some
+          = lit≤ tt;
+      weight_fits = lit< tt;
+    };
     target_key = refl;
     source_met = linked_met small (before 24) 0 refl 0 refl;
     target = record { there = lit< tt; life = refl; used = tt; vertex = refl };
@@ -251,7 +326,16 @@ kept_29 = next 28 kept_28 (record {
     linked = record { linked = refl; edge = refl };
     unmarked = refl;
     word = refl;
-    raised = record { number = 27; since = lit< tt; raise = event 27; at = refl; kind = refl; by = refl; vertex = refl; linked = refl };
+    raised = record {
+      number = 27;
+      since = lit< tt;
+      raise = event 27;
+      at = refl;
+      kind = refl;
+      by = refl;
+      vertex = refl;
+      linked = refl;
+    };
     pass = refl;
   };
 })
@@ -289,23 +373,39 @@ kept_32 = next 31 kept_31 (announced (before 31) 0 (lit< tt) refl refl)
 
 kept_33 : IsKept small (before 33)
 unfolding machine word_at state
-kept_33 = next 32 kept_32 (record { by = λ _. lit< tt; as_kind = record { life = refl; there = lit< tt; place = refl; seen = refl; word = refl; holds_none = none_fresh (before 32) refl; limit = lit< tt } })
+kept_33 = next 32 kept_32 (record {
+  by = λ _. lit< tt;
+  as_kind = record {
+    life = refl;
+    there = lit< tt;
+    place = refl;
+    seen = refl;
+    word = refl;
+    holds_none = none_fresh
+        (before 32) refl;
+    limit = lit< tt;
+  };
+})
 
 kept_34 : IsKept small (before 34)
 unfolding state
-kept_34 = next 33 kept_33 (filled (before 33) 3 0 2 (lit< tt) (lit< tt) (lit< tt) (lit< tt) (λ h. absurd (omega (arith, h))) refl (record { fresh = refl; mine = refl }))
+kept_34 = next 33 kept_33 (filled (before 33) 3 0 2 (lit< tt) (lit< tt) (lit< tt) (lit< tt)
+    (λ h. absurd (omega (arith, h))) refl (record { fresh = refl; mine = refl }))
 
 kept_35 : IsKept small (before 35)
 unfolding state
-kept_35 = next 34 kept_34 (filled (before 34) 3 1 (pack nowhere 0 1) (lit< tt) (lit< tt) (lit< tt) (lit< tt) (λ _. (refl, refl)) refl (record { fresh = refl; mine = refl }))
+kept_35 = next 34 kept_34 (filled (before 34) 3 1 (pack nowhere 0 1) (lit< tt) (lit< tt) (lit< tt) (lit< tt)
+    (λ _. (refl, refl)) refl (record { fresh = refl; mine = refl }))
 
 kept_36 : IsKept small (before 36)
 unfolding state
-kept_36 = next 35 kept_35 (filled (before 35) 3 2 (pack 1 0 1) (lit< tt) (lit< tt) (lit< tt) (lit< tt) (λ h. absurd (omega (arith, h))) refl (record { fresh = refl; mine = refl }))
+kept_36 = next 35 kept_35 (filled (before 35) 3 2 (pack 1 0 1) (lit< tt) (lit< tt) (lit< tt) (lit< tt)
+    (λ h. absurd (omega (arith, h))) refl (record { fresh = refl; mine = refl }))
 
 pub kept_37 : IsKept small (before 37)
 unfolding state
-kept_37 = next 36 kept_36 (filled (before 36) 3 3 6 (lit< tt) (lit< tt) (lit< tt) (lit< tt) (λ h. absurd (omega (arith, h))) refl (record { fresh = refl; mine = refl }))
+kept_37 = next 36 kept_36 (filled (before 36) 3 3 6 (lit< tt) (lit< tt) (lit< tt) (lit< tt)
+    (λ h. absurd (omega (arith, h))) refl (record { fresh = refl; mine = refl }))
 
 kept_38 : IsKept small (before 38)
 unfolding machine word_at state key_of
@@ -322,7 +422,16 @@ kept_38 = next 37 kept_37 (record {
     gap = record { below = λ x h. absurd (omega (arith, h)); above = λ ne. absurd (ne refl) };
     word = refl;
     fresh = record { fresh = refl; mine = refl };
-    filled = record { key_word = refl; key_fits = lit< tt; link_word = refl; second_word = refl; third_word = refl; some = lit≤ tt; weight_fits = lit< tt };
+    filled = record {
+      key_word = refl;
+      key_fits = lit< tt;
+      link_word = refl;
+      second_word = refl;
+      third_word = refl;
+      some
+          = lit≤ tt;
+      weight_fits = lit< tt;
+    };
     target_key = refl;
     source_met = linked_met small (before 37) 0 refl 0 refl;
     target = record { there = lit< tt; life = refl; used = tt; vertex = refl };
@@ -343,7 +452,18 @@ kept_40 = next 39 kept_39 (announced (before 39) 0 (lit< tt) refl refl)
 
 pub kept_41 : IsKept small (before 41)
 unfolding machine word_at state
-kept_41 = next 40 kept_40 (record { by = λ _. lit< tt; as_kind = record { life = refl; there = lit< tt; place = refl; linked = record { linked = refl; vertex = refl }; unmarked = refl; word = refl; pass = refl } })
+kept_41 = next 40 kept_40 (record {
+  by = λ _. lit< tt;
+  as_kind = record {
+    life = refl;
+    there = lit< tt;
+    place = refl;
+    linked = record { linked = refl; vertex = refl };
+    unmarked = refl;
+    word = refl;
+    pass = refl;
+  };
+})
 
 pub kept_42 : IsKept small (before 42)
 unfolding machine word_at state
@@ -367,7 +487,18 @@ kept_42 = next 41 kept_41 (record {
 
 kept_43 : IsKept small (before 43)
 unfolding machine word_at state
-kept_43 = next 42 kept_42 (record { by = λ _. lit< tt; as_kind = record { life = refl; there = lit< tt; place = refl; spent = record { spent = refl; vertex = refl; mine = refl }; unmarked = refl; word = refl } })
+kept_43 = next 42 kept_42 (record {
+  by = λ _. lit< tt;
+  as_kind = record {
+    life = refl;
+    there = lit< tt;
+    place = refl;
+    spent = record { spent = refl; vertex = refl; mine = refl };
+    unmarked
+        = refl;
+    word = refl;
+  };
+})
 
 kept_44 : IsKept small (before 44)
 unfolding machine word_at state
@@ -474,7 +605,19 @@ kept_52 = next 51 kept_51 (announced (before 51) 2 (lit< tt) refl refl)
 
 kept_53 : IsKept small (before 53)
 unfolding machine word_at state
-kept_53 = next 52 kept_52 (record { by = λ _. lit< tt; as_kind = record { life = refl; there = lit< tt; place = refl; seen = refl; word = refl; holds_none = none_fresh (before 52) refl; limit = lit< tt } })
+kept_53 = next 52 kept_52 (record {
+  by = λ _. lit< tt;
+  as_kind = record {
+    life = refl;
+    there = lit< tt;
+    place = refl;
+    seen = refl;
+    word = refl;
+    holds_none = none_fresh
+        (before 52) refl;
+    limit = lit< tt;
+  };
+})
 
 pub two_lives_kept : IsKept small two_lives
 two_lives_kept = kept_53

@@ -3,7 +3,10 @@ use Rattle.std.proofs.Common.{◌≡◌, ◌≢◌, [], ◌∷◌, map, refl, in
 use Rattle.std.specs.Prelude.{Contains}
 use Rattle.packed_link.specs.Layout.{IsLayout}
 use Rattle.core_journal.specs.declared.event.Kind.{Kind}
-use Rattle.core_journal.specs.declared.event.Kind.TheVariants.{DrawNumber, PopFree, StorePrivate, LinkVertex, MarkVertex, UnlinkVertex, LinkEdge, Raise, MarkEdge, UnlinkEdge, Announce, Withdraw, MoveEpoch, FreezeHead, FreezeEdge, StoreFree, PushFree, ReplaceEdge}
+use Rattle.core_journal.specs.declared.event.Kind.TheVariants.{DrawNumber, PopFree, StorePrivate, LinkVertex}
+use Rattle.core_journal.specs.declared.event.Kind.TheVariants.{MarkVertex, UnlinkVertex, LinkEdge, Raise, MarkEdge}
+use Rattle.core_journal.specs.declared.event.Kind.TheVariants.{UnlinkEdge, Announce, Withdraw, MoveEpoch, FreezeHead}
+use Rattle.core_journal.specs.declared.event.Kind.TheVariants.{FreezeEdge, StoreFree, PushFree, ReplaceEdge}
 use Rattle.core_journal.specs.declared.event.Event.{Event}
 use Rattle.core_journal.specs.GraphOf.{graph_of}
 use Rattle.core_journal.specs.Life.{key_of, link_of}
@@ -11,10 +14,18 @@ use Rattle.core_journal.specs.Machine.{machine, word_at}
 use Rattle.core_journal.specs.State.{state}
 use Rattle.core_journal.specs.Worked.{small}
 use Rattle.core_kept.specs.Standings.{StandsAs, OnFreeList, FreshWith, OnChain, SpentBy}
-use Rattle.core_worked.specs.TwoLives.{two_lives, with_an_edge, without_edge, with_other, without_source, two_keys, key_two, lives_words}
+use Rattle.core_worked.specs.TwoLives.{two_lives, with_an_edge, without_edge, with_other, without_source, two_keys}
+use Rattle.core_worked.specs.TwoLives.{key_two, lives_words}
 
 pub small_layout : IsLayout small
-small_layout = record { some_callers = lit≤ tt; few_callers = lit≤ tt; some_nodes = lit≤ tt; few_nodes = lit≤ tt; some_buckets = lit≤ tt; few_buckets = lit≤ tt }
+small_layout = record {
+  some_callers = lit≤ tt;
+  few_callers = lit≤ tt;
+  some_nodes = lit≤ tt;
+  few_nodes = lit≤ tt;
+  some_buckets = lit≤ tt;
+  few_buckets = lit≤ tt;
+}
 
 pub kinds_stand : (k : Kind) → k ≢ ReplaceEdge → Contains (map (λ (e : Event). e.kind) two_lives) k
 kinds_stand DrawNumber _ = (0, lit< tt, refl)

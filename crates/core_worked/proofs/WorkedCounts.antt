@@ -1,5 +1,6 @@
 -- The laws of counts at worked journals.
-use Rattle.std.proofs.Common.{◌≡◌, ◌≢◌, ◌⊎◌, ℕ, zero, suc, ◌+◌, ◌-◌, ◌*◌, ◌<◌, ◌≤◌, Bool, true, false, not, ◌&&◌, ◌||◌, ◌==◌, None, Some, List, [], ◌∷◌, ◌++◌, take, refl, inl, ⊎_elim, arith, lit≤, All}
+use Rattle.std.proofs.Common.{◌≡◌, ◌≢◌, ◌⊎◌, ℕ, zero, suc, ◌+◌, ◌-◌, ◌*◌, ◌<◌, ◌≤◌, Bool, true, false, not, ◌&&◌, ◌||◌}
+use Rattle.std.proofs.Common.{◌==◌, None, Some, List, [], ◌∷◌, ◌++◌, take, refl, inl, ⊎_elim, arith, lit≤, All}
 use Rattle.std.specs.Prelude.{drop}
 use Rattle.std.specs.List.{sum_by, list_any}
 use Rattle.graph_kinds.specs.Graph.{key_count, pair_count}
@@ -27,7 +28,8 @@ use Rattle.core_counts.proofs.SumsOverCallers.{all_sum}
 use Rattle.core_counts.proofs.CountedAreFew.{few_by_links}
 use Rattle.core_counts.proofs.FewerOfEachLife.{fewer_in_all, fewer_cuts}
 use Rattle.core_counts.proofs.GraphNodes.{keys_are, pairs_are}
-use Rattle.core_counts.proofs.KnownSpentNodes.{got_itself, got_beyond, got_own, got_unlink, got_begins, got_done, got_more}
+use Rattle.core_counts.proofs.KnownSpentNodes.{got_itself, got_beyond, got_own, got_unlink, got_begins, got_done}
+use Rattle.core_counts.proofs.KnownSpentNodes.{got_more}
 use Rattle.core_counts.proofs.LivesGoOneWay.{one_way}
 use Rattle.core_counts.proofs.RaisesOfEdges.{once_opening, once_stays, once_raise, once_done, once_apart}
 use Rattle.core_counts.proofs.IdleCallers.{HasNothing, has_nothing}
@@ -50,11 +52,14 @@ unfolding link_of
 not_over = record { link = event 24; linked = refl; unmarked = refl; source = refl }
 
 at_start : RaisesOnce (take 27 two_lives) (take 27 two_lives) 0 0 []
-at_start = once_done 0 0 [] [] (take 27 two_lives) (record { rest = take 27 two_lives; whole = refl }) (λ i d low. absurd (omega (arith, low)))
-    (once_stays 0 0 [] [] [] (take 27 two_lives) (record { rest = take 27 two_lives; whole = refl }) refl (once_opening 0))
+at_start = once_done 0 0 [] [] (take 27 two_lives) (record { rest = take 27 two_lives; whole = refl })
+    (λ i d low. absurd (omega (arith, low)))
+    (once_stays 0 0 [] [] [] (take 27 two_lives) (record { rest = take 27 two_lives; whole = refl }) refl
+    (once_opening 0))
 
 pub raised : RaisesOnce (take 27 two_lives) (take 28 two_lives) 0 0 (first_life 2 ∷ [])
-raised = once_raise 0 0 [] (take 27 two_lives) (take 27 two_lives) (event 27) (first_life 2) (whole (take 27 two_lives)) not_over (λ i d low. absurd (omega (arith, low))) at_start
+raised = once_raise 0 0 [] (take 27 two_lives) (take 27 two_lives) (event 27) (first_life 2)
+    (whole (take 27 two_lives)) not_over (λ i d low. absurd (omega (arith, low))) at_start
 
 pub over : RaisesOnce two_lives two_lives 0 0 []
 over = once_done 0 0 (first_life 2 ∷ []) (take 27 two_lives) two_lives (front 27 refl) (λ i d low. by i d low)
@@ -65,9 +70,11 @@ over = once_done 0 0 (first_life 2 ∷ []) (take 27 two_lives) two_lives (front 
     by (suc i) d low = absurd (omega (arith, low))
 
 idle_apart : RaisesApart two_lives 1 0
-idle_apart = once_apart 1 0 [] [] two_lives (once_stays 1 0 [] [] [] two_lives (record { rest = two_lives; whole = refl }) refl (once_opening 1))
+idle_apart = once_apart 1 0 [] [] two_lives (once_stays 1 0 [] [] [] two_lives
+    (record { rest = two_lives; whole = refl }) refl (once_opening 1))
 
-pub few : all_made counted two_lives ≤ 6 * all_made pops two_lives + 2 * (all_made pops two_lives - all_made links_vertex two_lives) + 0
+pub few : all_made counted two_lives ≤ 6 * all_made pops two_lives + 2 *
+    (all_made pops two_lives - all_made links_vertex two_lives) + 0
 unfolding state
 few = few_by_links small small_layout two_lives two_lives_kept 2 (lit≤ tt) (λ i. 0) each
   where
@@ -82,7 +89,8 @@ sum_is = all_sum small counted 2 two_lives two_lives_kept (lit≤ tt)
 
 pub books_sum : all_made counted two_lives ≤ sum_by (λ (b : Book). made counted b.caller two_lives) two_books
 unfolding state
-books_sum = of_books small two_lives two_lives_kept counted two_books (λ (b : Book). made counted b.caller two_lives) each (omega arith, (omega arith, tt))
+books_sum = of_books small two_lives two_lives_kept counted two_books
+    (λ (b : Book). made counted b.caller two_lives) each (omega arith, (omega arith, tt))
   where
     each : (i : ℕ) → i < (state small two_lives).drawn → list_any (λ (b : Book). i == b.caller) two_books ≡ true
     each zero low = refl
@@ -111,11 +119,15 @@ pub all_one : IsAllGraph one_node one_vertex
 unfolding state
 all_one = record {
   free = none_left;
-  fresh = λ x t m. let is : (node_in one_node one_vertex x).mode ≡ Linked = at_zero (λ y. (node_in one_node one_vertex y).mode ≡ Linked) x t refl in absurd (cc);
-  spent = λ x t m. let is : (node_in one_node one_vertex x).mode ≡ Linked = at_zero (λ y. (node_in one_node one_vertex y).mode ≡ Linked) x t refl in absurd (cc);
+  fresh = λ x t m. let is : (node_in one_node one_vertex x).mode ≡ Linked = at_zero
+      (λ y. (node_in one_node one_vertex y).mode ≡ Linked) x t refl in absurd (cc);
+  spent = λ x t m. let is : (node_in one_node one_vertex x).mode ≡ Linked = at_zero
+      (λ y. (node_in one_node one_vertex y).mode ≡ Linked) x t refl in absurd (cc);
   marked = λ x t. at_zero (λ y. (node_in one_node one_vertex y).marked ≡ false) x t refl;
-  source = λ x t e. let is : (node_in one_node one_vertex x).vertex ≡ true = at_zero (λ y. (node_in one_node one_vertex y).vertex ≡ true) x t refl in absurd (cc);
-  target = λ x t e. let is : (node_in one_node one_vertex x).vertex ≡ true = at_zero (λ y. (node_in one_node one_vertex y).vertex ≡ true) x t refl in absurd (cc);
+  source = λ x t e. let is : (node_in one_node one_vertex x).vertex ≡ true = at_zero
+      (λ y. (node_in one_node one_vertex y).vertex ≡ true) x t refl in absurd (cc);
+  target = λ x t e. let is : (node_in one_node one_vertex x).vertex ≡ true = at_zero
+      (λ y. (node_in one_node one_vertex y).vertex ≡ true) x t refl in absurd (cc);
 }
   where
     at_zero : (P : ℕ → Type 0) (x : ℕ) → x < 1 → P 0 → P x
@@ -132,7 +144,9 @@ handed = ⊎_elim (λ (a : IsSpentWith small (take 43 two_lives) 0 3 ⊎ IsOwnUn
     (λ (b : IsSpentWith small (take 43 two_lives) 0 3). let s = b.spent in absurd (cc))
     (λ (b : IsOwnUnlink freezes_second 0 3). let u = b.unlinks in absurd (cc)) a)
     (λ (h : IsHandedOver small (take 43 two_lives) freezes_second 0 3). h)
-    (becoming small small_layout (take 43 two_lives) freezes_second (kept_at 43 refl) (last_allowed small (take 43 two_lives) freezes_second (kept_at 44 refl)) 0 3 (record { spent = refl; mine = refl }))
+    (becoming small small_layout (take 43 two_lives) freezes_second (kept_at 43 refl)
+    (last_allowed small (take 43 two_lives) freezes_second (kept_at 44 refl)) 0 3
+    (record { spent = refl; mine = refl }))
 
 -- whether a node isn't a vertex that's spent, but for one node
 abbrev is_spent : Mode → Bool
@@ -155,15 +169,22 @@ there past kept x m = used_there small past x kept (λ f. absurd (cc))
 
 none_finished : AreFinished small (take 41 two_lives) 0 None
 unfolding state
-none_finished = record { each = λ v _ s _. absurd (not_spent (take 41 two_lives) v (below 8 (no_spent (take 41 two_lives)) refl v (there (take 41 two_lives) (kept_at 41 refl) v s.spent)) 0 s) }
+none_finished = record {
+  each = λ v _ s _. absurd (not_spent (take 41 two_lives) v
+      (below 8 (no_spent (take 41 two_lives)) refl v (there (take 41 two_lives) (kept_at 41 refl) v s.spent)) 0 s);
+}
 
 got_head : GotOnly small (take 41 two_lives) (take 43 two_lives) 0 (Some 0) (0 ∷ [])
 unfolding state
 got_head =
     let first = got_itself small (take 41 two_lives) 0 None none_finished tt in
-    let cut : GotOnly small (take 41 two_lives) (take 42 two_lives) 0 None (0 ∷ []) = got_unlink small small_layout (take 41 two_lives) (event 41) (kept_at 42 refl) None refl (take 41 two_lives) [] first in
-    let begun : GotOnly small (take 41 two_lives) (take 42 two_lives) 0 (Some 0) (0 ∷ []) = got_begins small (take 41 two_lives) (take 42 two_lives) 0 0 (0 ∷ []) cut (record { spent = refl; vertex = refl; mine = refl }) in
-    got_own small small_layout (take 42 two_lives) (event 42) (kept_at 43 refl) (Some 0) (record { unlinks = refl; closes = λ _. refl; gives = λ _ h. absurd (cc) }) (take 41 two_lives) (0 ∷ []) begun
+    let cut : GotOnly small (take 41 two_lives) (take 42 two_lives) 0 None (0 ∷ []) = got_unlink small small_layout
+    (take 41 two_lives) (event 41) (kept_at 42 refl) None refl (take 41 two_lives) [] first in
+    let begun : GotOnly small (take 41 two_lives) (take 42 two_lives) 0 (Some 0) (0 ∷ []) = got_begins small
+    (take 41 two_lives) (take 42 two_lives) 0 0 (0 ∷ []) cut
+    (record { spent = refl; vertex = refl; mine = refl }) in
+    got_own small small_layout (take 42 two_lives) (event 42) (kept_at 43 refl) (Some 0)
+    (record { unlinks = refl; closes = λ _. refl; gives = λ _ h. absurd (cc) }) (take 41 two_lives) (0 ∷ []) begun
 
 frozen_end : IsFrozenToEnd small (take 44 two_lives) 0
 unfolding state
@@ -172,10 +193,16 @@ frozen_end = frozen_list (take 44 two_lives) refl refl refl
 got_end : GotOnly small (take 41 two_lives) (take 45 two_lives) 0 None (3 ∷ 0 ∷ [])
 unfolding state
 got_end =
-    let frozen : GotOnly small (take 41 two_lives) (take 44 two_lives) 0 (Some 0) (0 ∷ []) = got_own small small_layout (take 43 two_lives) (event 43) (kept_at 44 refl) (Some 0) (record { unlinks = refl; closes = λ h. absurd (cc); gives = λ _ h. absurd (cc) }) (take 41 two_lives) (0 ∷ []) got_head in
+    let frozen : GotOnly small (take 41 two_lives) (take 44 two_lives) 0 (Some 0) (0 ∷ []) = got_own small small_layout
+    (take 43 two_lives) (event 43) (kept_at 44 refl) (Some 0)
+    (record { unlinks = refl; closes = λ h. absurd (cc); gives = λ _ h. absurd (cc) }) (take 41 two_lives)
+    (0 ∷ []) got_head in
     let both = got_more small (take 41 two_lives) (take 44 two_lives) 0 3 (Some 0) (0 ∷ []) frozen in
-    let done : GotOnly small (take 41 two_lives) (take 44 two_lives) 0 None (3 ∷ 0 ∷ []) = got_done small (take 41 two_lives) (take 44 two_lives) 0 0 (3 ∷ 0 ∷ []) both frozen_end (λ y on. part y on) in
-    got_own small small_layout (take 44 two_lives) (event 44) (kept_at 45 refl) None (record { unlinks = refl; closes = λ h. absurd (cc); gives = λ h. absurd h }) (take 41 two_lives) (3 ∷ 0 ∷ []) done
+    let done : GotOnly small (take 41 two_lives) (take 44 two_lives) 0 None (3 ∷ 0 ∷ []) = got_done small
+    (take 41 two_lives) (take 44 two_lives) 0 0 (3 ∷ 0 ∷ []) both frozen_end (λ y on. part y on) in
+    got_own small small_layout (take 44 two_lives) (event 44) (kept_at 45 refl) None
+    (record { unlinks = refl; closes = λ h. absurd (cc); gives = λ h. absurd h }) (take 41 two_lives)
+    (3 ∷ 0 ∷ []) done
   where
     first : (b : Bool) → (b || false) ≡ true → (b || true) ≡ true
     first true h = refl
@@ -185,22 +212,28 @@ got_end =
     more true c h = refl
     more false c h = absurd (cc)
 
-    part : (y : ℕ) → is_frozen (state small (take 44 two_lives)) 0 y ≡ true → list_any (λ (z : ℕ). z == y) (3 ∷ 0 ∷ []) ≡ true
+    part : (y : ℕ) → is_frozen (state small (take 44 two_lives)) 0 y ≡ true → list_any (λ (z : ℕ). z == y)
+        (3 ∷ 0 ∷ []) ≡ true
     part y on = more (3 == y) (0 == y) on
 
 quiet : IsQuiet (take 47 two_lives) 0 45
 quiet = quiet_from 0 45 (take 47 two_lives) refl
 
 pub got_all : GotOnly small (take 41 two_lives) (take 47 two_lives) 0 None (3 ∷ 0 ∷ [])
-got_all = got_beyond small small_layout 0 45 None (take 45 two_lives) (take 47 two_lives) (record { rest = event 45 ∷ event 46 ∷ []; whole = refl }) (kept_at 47 refl) quiet (lit≤ tt) (take 41 two_lives) (3 ∷ 0 ∷ []) got_end
+got_all = got_beyond small small_layout 0 45 None (take 45 two_lives) (take 47 two_lives)
+    (record { rest = event 45 ∷ event 46 ∷ []; whole = refl }) (kept_at 47 refl) quiet (lit≤ tt) (take 41 two_lives)
+    (3 ∷ 0 ∷ []) got_end
 
 pub at_rest : IsSettled small (take 45 two_lives) (take 47 two_lives) 0
 unfolding state
-at_rest = settled small small_layout 0 45 (take 45 two_lives) (take 47 two_lives) (record { rest = event 45 ∷ event 46 ∷ []; whole = refl }) (kept_at 47 refl) quiet (lit≤ tt) (λ x s. by x s (there (take 45 two_lives) (kept_at 45 refl) x s.spent))
+at_rest = settled small small_layout 0 45 (take 45 two_lives) (take 47 two_lives)
+    (record { rest = event 45 ∷ event 46 ∷ []; whole = refl }) (kept_at 47 refl) quiet (lit≤ tt)
+    (λ x s. by x s (there (take 45 two_lives) (kept_at 45 refl) x s.spent))
   where
     by : (x : ℕ) → IsSpentVertex small (take 45 two_lives) 0 x → x < 8 → IsFrozenToEnd small (take 45 two_lives) x
     by zero s t = frozen_list (take 45 two_lives) refl refl refl
-    by (suc n) s t = absurd (not_spent (take 45 two_lives) (suc n) (below 7 (λ x. no_spent (take 45 two_lives) (suc x)) refl n (omega (arith, t))) 0 s)
+    by (suc n) s t = absurd (not_spent (take 45 two_lives) (suc n)
+        (below 7 (λ x. no_spent (take 45 two_lives) (suc x)) refl n (omega (arith, t))) 0 s)
 
 pub idle : HasNothing small (take 45 two_lives) 1
 idle = has_nothing small small_layout (take 45 two_lives) (kept_at 45 refl) 1 refl

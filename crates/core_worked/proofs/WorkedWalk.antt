@@ -29,28 +29,40 @@ along_bucket = record {
   from = from_link 0 (inl (refl, λ e. absurd (cc))) refl;
 }
 
-into_list : IsLoad small (before 44) 0 (load_at 42 (link_at small 0) ∷ load_at 40 (bucket_at small 0) ∷ []) (load_at 44 (second_at small 0))
+into_list : IsLoad small (before 44) 0 (load_at 42 (link_at small 0) ∷ load_at 40 (bucket_at small 0) ∷ [])
+    (load_at 44 (second_at small 0))
 unfolding machine word_at state
 into_list = record {
   pass = refl;
   same = record { before = whole (before 44); open_still = refl; since = refl };
-  later = (record { rest = drop 42 (before 44); whole = refl }, (record { rest = drop 40 (before 44); whole = refl }, tt));
+  later = (
+    record { rest = drop 42 (before 44); whole = refl },
+    (record { rest = drop 40 (before 44); whole = refl }, tt),
+  );
   from = from_list 0 (inr (inl (refl, λ e. absurd (cc)))) refl refl;
 }
 
-behind_edge : IsLoad small (before 44) 0 (load_at 44 (second_at small 0) ∷ load_at 42 (link_at small 0) ∷ load_at 40 (bucket_at small 0) ∷ []) (load_at 44 (link_at small 3))
+behind_edge : IsLoad small (before 44) 0 (load_at 44 (second_at small 0) ∷ load_at 42 (link_at small 0) ∷ load_at 40
+    (bucket_at small 0) ∷ []) (load_at 44 (link_at small 3))
 unfolding machine word_at state
 behind_edge = record {
   pass = refl;
   same = record { before = whole (before 44); open_still = refl; since = refl };
-  later = (whole (before 44), (record { rest = drop 42 (before 44); whole = refl }, (record { rest = drop 40 (before 44); whole = refl }, tt)));
+  later = (
+    whole (before 44),
+    (
+      record { rest = drop 42 (before 44); whole = refl },
+      (record { rest = drop 40 (before 44); whole = refl }, tt),
+    ),
+  );
   from = from_link 3 (inl (refl, λ e. absurd (cc))) refl;
 }
 
 pub walked : IsWalk small (before 44) 0 walk_in_a_frozen_list
 walked = (behind_edge, (into_list, (along_bucket, (from_bucket_0, tt))))
 
-pub spent_by_then : ((node_in small (before 44) 0).mode ≡ Spent) × ((node_in small (before 44) 3).mode ≡ Spent) × ((state small (before 44)).frozen 0 ≡ true)
+pub spent_by_then : ((node_in small (before 44) 0).mode ≡ Spent) × ((node_in small (before 44) 3).mode ≡ Spent) ×
+    ((state small (before 44)).frozen 0 ≡ true)
 unfolding state
 spent_by_then = (refl, refl, refl)
 

@@ -2,8 +2,8 @@
 -- linked, so that the free list is empty and the node is all graph; books of two callers; and a call that is given up.
 use Rattle.std.specs.Prelude.{List, [], ◌∷◌}
 use Rattle.graph_kinds.specs.Answer.{plain}
-use Rattle.graph_kinds.specs.declared.call.Call.TheVariants.{AddEdge}
-use Rattle.graph_kinds.specs.declared.outcome.Outcome.TheVariants.{Again}
+use Rattle.graph_kinds.specs.declared.call.Call.TheVariants.{AddEdge, HasVertex}
+use Rattle.graph_kinds.specs.declared.outcome.Outcome.TheVariants.{Again, Yes}
 use Rattle.graph_kinds.specs.declared.entry.Class.TheVariants.{Silent}
 use Rattle.graph_kinds.specs.declared.entry.Entry.{Entry}
 use Rattle.packed_link.specs.Link.{pack, nowhere}
@@ -49,3 +49,8 @@ given_up =
       start = 20;
       end = 28;
     }
+
+-- caller 1 asks for vertex 2 in the journal with two lives, while it moves the epoch on
+abbrev pub asks_for_two : Entry
+asks_for_two =
+    record { call = HasVertex 2; tries = 1; answer = plain Yes; class = Silent; place = 45; start = 45; end = 47 }

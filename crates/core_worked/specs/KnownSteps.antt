@@ -44,7 +44,7 @@ view_replacing caller n = view_of replacing_journal caller n
 
 -- a token's step makes event n of a journal: the token may meet the events before it, the step finds this word at its
 -- place, and its event is the next one
-pub record Makes (journal : List Event) (v : View) (n found : ℕ) (e : Event) : Type 0 where
+pub record MakesNext (journal : List Event) (v : View) (n found : ℕ) (e : Event) : Type 0 where
   pub reaches : Reaches v (take n journal)
   pub finds : word_at v.sizes (take n journal) e.place ≡ found
   pub makes : slice_get journal n ≡ Some e

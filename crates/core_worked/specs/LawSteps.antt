@@ -21,6 +21,10 @@ drawing_too v = record v { draws = true }
 abbrev pub view_drawing : ℕ → View
 view_drawing n = drawing_too (view_at 0 n)
 
+-- the view of caller 0 before event 45, to which a token was joined whose front had 20 events
+abbrev pub view_joined : View
+view_joined = record (view_at 0 45) { met = take 20 two_lives }
+
 -- the view of caller 0 behind all events, to which the token of caller 1 was joined: no one has the right to draw,
 -- which a token took that was dropped
 abbrev pub closing_view : View

@@ -5,3 +5,4 @@ pub mod Refused
 pub mod Replacing
 pub mod TwoLives
 pub mod LawSteps
+pub mod TargetAnew

@@ -4,13 +4,17 @@
 -- over with its head, and the last one is frozen. Caller 1 moves the epoch on twice, and the node of the first edge is
 -- given back.
 use Rattle.std.specs.Prelude.{ℕ, List, [], ◌∷◌, ◌++◌}
+use Rattle.graph_kinds.specs.Answer.{plain}
 use Rattle.graph_kinds.specs.History.{Item}
+use Rattle.graph_kinds.specs.declared.answer.Answer.{Answer}
+use Rattle.graph_kinds.specs.declared.call.Row.{Row}
 use Rattle.graph_kinds.specs.declared.call.Call.TheVariants.{AddVertex, RemoveVertex, AddEdge, RemoveEdge}
 use Rattle.graph_kinds.specs.declared.outcome.Outcome.TheVariants.{Added, Changed, Removed}
 use Rattle.packed_link.specs.Link.{pack, nowhere}
 use Rattle.packed_link.specs.Layout.{key_at, link_at, second_at, third_at}
 use Rattle.core_journal.specs.declared.book.Book.{Book}
-use Rattle.core_journal.specs.declared.event.Kind.TheVariants.{Raise, MarkEdge, UnlinkEdge, FreezeEdge, ReplaceEdge}
+use Rattle.core_journal.specs.declared.event.Kind.TheVariants.{MarkVertex, Raise, MarkEdge, UnlinkEdge, FreezeEdge}
+use Rattle.core_journal.specs.declared.event.Kind.TheVariants.{ReplaceEdge}
 use Rattle.core_journal.specs.declared.event.Event.{Event}
 use Rattle.core_journal.specs.Event.{blank}
 use Rattle.core_journal.specs.History.{item}
@@ -138,6 +142,34 @@ replacing_history =
     ∷ item 0 (own (RemoveVertex 1) (Removed 0) 69 68 74)
     ∷ []
 
+-- the rows of these calls, all of caller 0
+abbrev pub replacing_rows : List Row
+replacing_rows =
+    record { caller = 0; call = AddVertex 1 }
+    ∷ record { caller = 0; call = AddVertex 2 }
+    ∷ record { caller = 0; call = AddEdge 1 2 5 }
+    ∷ record { caller = 0; call = AddEdge 1 2 6 }
+    ∷ record { caller = 0; call = AddEdge 1 2 7 }
+    ∷ record { caller = 0; call = RemoveEdge 1 2 }
+    ∷ record { caller = 0; call = AddEdge 1 2 8 }
+    ∷ record { caller = 0; call = AddEdge 1 2 9 }
+    ∷ record { caller = 0; call = RemoveVertex 1 }
+    ∷ []
+
+-- their answers, row by row
+abbrev pub replacing_replies : List Answer
+replacing_replies =
+    plain Added
+    ∷ plain Added
+    ∷ plain Added
+    ∷ plain (Changed 5)
+    ∷ plain (Changed 6)
+    ∷ plain (Removed 7)
+    ∷ plain Added
+    ∷ plain (Changed 8)
+    ∷ plain (Removed 0)
+    ∷ []
+
 -- the new edge is filled, and the counter wasn't raised for the old one: it may not be replaced
 abbrev pub not_raised_for : List Event
 not_raised_for = with_an_edge ++ takes_edge 3 6
@@ -161,6 +193,13 @@ other_target =
 -- the old edge is replaced by one to that target
 abbrev pub replaces_target : Event
 replaces_target = record (replaces_by 2 3 6) { target = first_life 0 }
+
+-- the edge is to be replaced, and its target, the vertex of node 1, was marked since
+abbrev pub hidden_meanwhile : List Event
+hidden_meanwhile =
+    with_an_edge ++ (takes_edge 3 6 ++ (raises_to 1
+    ∷ record blank { kind = MarkVertex; place = link_at small 1; word = pack nowhere 1 1; life = first_life 1 }
+    ∷ []))
 
 -- the old edge was marked since its link was seen: it may not be replaced
 abbrev pub marked_meanwhile : List Event

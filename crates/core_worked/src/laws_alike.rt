@@ -6,10 +6,34 @@ ghost use Rattle.packed_link.specs.Link.{nowhere, pack};
 ghost use Rattle.packed_link.specs.Layout.{bucket_at, link_at, second_at};
 ghost use Rattle.core_journal.specs.Worked.{first_life, small};
 ghost use Rattle.core_rule.specs.Fronts.{
-    IsBeforeEdge, IsBeforeVertex, IsEdgeAbove, IsEdgeBelow, IsEdgeLink, IsLifeAt, IsVertexAbove, IsVertexBelow,
-    IsVertexLink, LeadsToEdge, LeadsToVertex, MayAnnounce, MayFreezeEdge, MayFreezeHead, MayLinkEdge, MayLinkVertex,
-    MayMarkEdge, MayMarkVertex, MayMoveEpoch, MayPopFree, MayPushFree, MayRaise, MayReplaceEdge, MayStoreFree,
-    MayStorePrivate, MayUnlinkEdge, MayWithdraw, MetEdge,
+  IsBeforeEdge,
+  IsBeforeVertex,
+  IsEdgeAbove,
+  IsEdgeBelow,
+  IsEdgeLink,
+  IsLifeAt,
+  IsVertexAbove,
+  IsVertexBelow,
+  IsVertexLink,
+  LeadsToEdge,
+  LeadsToVertex,
+  MayAnnounce,
+  MayFreezeEdge,
+  MayFreezeHead,
+  MayLinkEdge,
+  MayLinkVertex,
+  MayMarkEdge,
+  MayMarkVertex,
+  MayMoveEpoch,
+  MayPopFree,
+  MayPushFree,
+  MayRaise,
+  MayReplaceEdge,
+  MayStoreFree,
+  MayStorePrivate,
+  MayUnlinkEdge,
+  MayWithdraw,
+  MetEdge,
 };
 ghost use Rattle.core_rule.specs.Retired.{IsRetired};
 ghost use Rattle.core_rule.specs.Stretches.{Elsewhere, HasNoFresh, HasPass, IsTargetShown, Leaves, Own, spent_since};

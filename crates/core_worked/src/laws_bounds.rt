@@ -4,7 +4,14 @@
 ghost use Rattle.std.specs.Prelude.{◌≡◌, ℕ, ◌+◌, ◌^◌, ◌<◌, ◌≤◌, [], ◌∷◌, take};
 ghost use Rattle.graph_kinds.specs.Graph.{key_count, pair_count};
 ghost use Rattle.core_journal.specs.Event.{
-    counted, cuts_edge, links_edge, links_vertex, pops, raises, replaces, unlinks_edge,
+  counted,
+  cuts_edge,
+  links_edge,
+  links_vertex,
+  pops,
+  raises,
+  replaces,
+  unlinks_edge,
 };
 ghost use Rattle.core_journal.specs.Foreign.{foreign};
 ghost use Rattle.core_journal.specs.GraphOf.{graph_of};

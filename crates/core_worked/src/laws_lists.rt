@@ -1,7 +1,7 @@
 //! The laws of chains and lists at the worked journals: edges that were replaced, closed lists, and what an open pass
 //! has met.
 
-ghost use Rattle.std.specs.Prelude.{◌≡◌, ◌≢◌, ℕ, ◌+◌, ◌<◌, ◌≤◌, Some, [], ◌∷◌, false, length, take, true};
+ghost use Rattle.std.specs.Prelude.{◌≡◌, ◌≢◌, ℕ, ◌+◌, ◌<◌, ◌^◌, ◌≤◌, Some, [], ◌∷◌, ◌++◌, false, length, take, true};
 ghost use Rattle.packed_link.specs.Link.{index_of, mark_of, pack};
 ghost use Rattle.packed_link.specs.Layout.{key_at, link_at, second_at, third_at};
 ghost use Rattle.packed_link.specs.declared.link.Life.{Life};
@@ -13,12 +13,12 @@ ghost use Rattle.core_journal.specs.State.{Spent, state};
 ghost use Rattle.core_journal.specs.Worked.{first_life, small};
 ghost use Rattle.core_kept.specs.Counts.{all_made, made};
 ghost use Rattle.core_kept.specs.Facts.{HasMet};
-ghost use Rattle.core_kept.specs.Nodes.{IsFrozenToEnd, IsRipe, IsStamped, is_frozen, is_listed, node_in};
+ghost use Rattle.core_kept.specs.Nodes.{IsFrozenToEnd, IsLinkedEdge, IsRipe, IsStamped, is_frozen, is_listed, node_in};
 ghost use Rattle.core_lists.specs.Chains.{IsEdgeOf, IsInBucket, IsOlder};
 ghost use Rattle.core_lists.specs.Raised.{IsLinkedLower};
 ghost use Rattle.core_lists.specs.Replacements.{IsReplacedBy, LeadsToItsKey};
 ghost use Rattle.core_worked.specs.Replacing.{replacing_journal};
-ghost use Rattle.core_worked.specs.TwoLives.{links_new, two_lives};
+ghost use Rattle.core_worked.specs.TwoLives.{links_new, moves_epoch, two_lives};
 
 /// In the journal with replacements event 33 replaced the edge of node 2 by that of node 3: its link is marked and
 /// leads to that node, of the same key (`a_marked_link_tells_whether_its_edge_was_replaced#same_key`, `#word`), which
@@ -39,6 +39,7 @@ pub fn worked_replaced_edges_are_told()
     ensures rises { word_at small (take 26 replacing_journal) (third_at small 0)
         ≤ word_at small (take 35 replacing_journal) (third_at small 0) }
     ensures caller { made links_edge 0 replacing_journal ≤ made pops 0 replacing_journal }
+    ensures all { length {A = Life} (first_life 2 ∷ first_life 3 ∷ []) ≤ 2 ^ 36 }
     ensures links { length {A = Life} (first_life 2 ∷ first_life 3 ∷ []) ≤ all_made links_edge replacing_journal }
 {}
 
@@ -46,8 +47,9 @@ pub fn worked_replaced_edges_are_told()
 /// `closed_lists_stay`), is then frozen to its end, and stays so while caller 1 moves the epoch on (`end`); its edge,
 /// node 3, stays in the frozen part (`part`), stood on that list before (`old`), and stands on no list that isn't
 /// frozen to its end (`ends`). It is spent by the caller who spent the vertex (`frozen_parts_are_handed_over#who`).
-/// Before that the vertex is on the chain of its bucket (`a_present_vertex_is_on_its_chain`), and its link tells that
-/// it's present, and later that it isn't (`a_link_tells_whether_a_vertex_is_present`).
+/// Before that the edge is linked (`a_present_edge_is_on_its_list`), the vertex is on the chain of its bucket
+/// (`a_present_vertex_is_on_its_chain`), and its link tells that it's present, and later that it isn't
+/// (`a_link_tells_whether_a_vertex_is_present`).
 pub fn worked_lists_are_closed()
     ensures head { (state small (take 44 two_lives)).frozen 0 ≡ true }
     ensures end { IsFrozenToEnd small (take 47 two_lives) 0 }
@@ -60,6 +62,7 @@ pub fn worked_lists_are_closed()
     ensures on_chain { IsInBucket small (take 40 two_lives) 0 (first_life 0) }
     ensures present { present_key (take 40 two_lives) (first_life 0) ≡ Some 1 }
     ensures removed { vertex_marked (take 42 two_lives) (first_life 0) ≡ true }
+    ensures edge_linked { IsLinkedEdge small (take 38 two_lives) 3 }
     ensures edge_of { IsEdgeOf (take 38 two_lives) (first_life 0) (first_life 3) }
 {}
 
@@ -67,7 +70,8 @@ pub fn worked_lists_are_closed()
 /// spent, in the same life, with its key, target, weight and source, and not stored (`what_is_met_keeps_its_words`);
 /// the marked link of node 0 stays (`#link`). Node 2, spent in epoch 0, has the stamp 0, keeps it while caller 1 moves
 /// the epoch on, is ripe in epoch 2, and stays both while node 3 is stored for the free list
-/// (`spent_nodes_become_ripe#stamp`, `#stamp_beyond`, `#ripens`, `#stamp_behind`, `#ripe_behind`).
+/// (`spent_nodes_become_ripe#stamp`, `#stamp_beyond`, `#ripens`, `#stamp_behind`, `#ripe_behind`), and stays ripe while
+/// caller 1 moves the epoch on once more (`#ripe_beyond`).
 pub fn worked_met_nodes_keep_their_words()
     ensures met { HasMet small (take 44 two_lives) 0 3 }
     ensures life { (node_in small (take 44 two_lives) 3).tag ≡ 1 }
@@ -81,5 +85,6 @@ pub fn worked_met_nodes_keep_their_words()
     ensures beyond { IsStamped small (take 47 two_lives) 0 2 0 }
     ensures ripens { IsRipe small (take 47 two_lives) 0 2 }
     ensures stamp_behind { IsStamped small (take 48 two_lives) 0 2 0 }
+    ensures ripe_beyond { IsRipe small (take 47 two_lives ++ moves_epoch 3 ∷ []) 0 2 }
     ensures ripe_behind { IsRipe small (take 48 two_lives) 0 2 }
 {}

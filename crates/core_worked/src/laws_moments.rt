@@ -11,19 +11,24 @@ ghost use Rattle.core_journal.specs.Marks.{IsCutOf, IsMarkOf};
 ghost use Rattle.core_journal.specs.Passing.{IsFirst, changes_made};
 ghost use Rattle.core_journal.specs.TwoCallers.{callers_journal};
 ghost use Rattle.core_journal.specs.Worked.{first_life, small, worked_journal};
+ghost use Rattle.core_kept.specs.Kept.{IsKept};
 ghost use Rattle.core_lists.specs.Changed.{IsChangedByAnother};
 ghost use Rattle.core_lists.specs.MarkEffects.{IsKeyGone, IsPairCut};
 ghost use Rattle.core_lists.specs.Uncounted.{StaysButUnlinked, StaysUncounted};
 ghost use Rattle.core_worked.specs.Replacing.{replaces_by, replacing_journal};
+ghost use Rattle.core_worked.specs.TargetAnew.{target_anew};
 ghost use Rattle.core_worked.specs.TwoLives.{links_new, marks_first, two_lives};
 
 /// In the journal with two lives an edge of weight 5 is added and removed: its pair is in the graph with that weight,
 /// and gone right after its mark. The mark is the one that its caller made in between. In the journal in which that
-/// edge is replaced, the pair has the new weight right after its mark.
+/// edge is replaced, the pair has the new weight right after its mark. In the one in which its target is removed and added
+/// anew, the pair isn't there, though the edge is unmarked (`a_pair_is_the_one_edge_between_two_lives#other`).
 pub fn a_worked_edge_comes_and_goes()
     ensures graph { IsGraph (graph_of two_lives) }
     ensures there { weight_of (graph_of (take 26 two_lives)) 1 2 ≡ Some 5 }
     ensures none { weight_of (graph_of (take 31 two_lives)) 1 2 ≡ None }
+    ensures anew { IsKept small target_anew }
+    ensures other { weight_of (graph_of target_anew) 1 2 ≡ None }
     ensures first { (m : ℕ) × (length (take 26 two_lives) ≤ m) × IsCutOf two_lives (first_life 2) m }
     ensures cut { IsPairCut two_lives (links_new 2 5) marks_first 28 1 2 }
     ensures replaced { IsPairCut replacing_journal (links_new 2 5) (replaces_by 2 3 6) 33 1 2 }

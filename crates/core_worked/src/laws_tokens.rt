@@ -1,6 +1,6 @@
 //! The laws of a token's view, of what is its own, and of the one table, at steps of the worked journals.
 
-ghost use Rattle.std.specs.Prelude.{◌≡◌, ℕ, ◌+◌, ◌%◌, ◌^◌, None, Some, [], ◌∷◌, false, take, true};
+ghost use Rattle.std.specs.Prelude.{◌≡◌, ℕ, ◌+◌, ◌%◌, ◌^◌, ◌==◌, cond, None, Some, [], ◌∷◌, false, take, true};
 ghost use mathlib.Core.Option.{none};
 ghost use Rattle.atomic_table.specs.Table.{Allows, opening, step};
 ghost use Rattle.graph_kinds.specs.History.{Every};
@@ -23,24 +23,35 @@ ghost use Rattle.core_kept.specs.Nodes.{IsFrozenToEnd, IsRipe, IsSpentWith, is_f
 ghost use Rattle.core_lists.specs.Chains.{KeepsList};
 ghost use Rattle.core_rule.specs.Fronts.{IsVertexBelow, LeadsToVertex, MayRaise, MetEdge, MetVertex};
 ghost use Rattle.core_rule.specs.OwnEvents.{withdraw_event};
-ghost use Rattle.core_rule.specs.Plays.{drawing, storing};
+ghost use Rattle.core_rule.specs.Plays.{drawing, storing, turning};
 ghost use Rattle.core_rule.specs.Rule.{Ruled, accounts, first_view};
 ghost use Rattle.core_rule.specs.Views.{
-    GoesOn, IsEdgeBehind, IsEdgeIn, IsEdgeShown, IsVertexBehind, IsVertexIn, Steps,
+  GoesOn,
+  IsEdgeBehind,
+  IsEdgeIn,
+  IsEdgeShown,
+  IsVertexBehind,
+  IsVertexIn,
+  Steps,
 };
 ghost use Rattle.core_worked.specs.KnownSteps.{view_at, view_beside};
-ghost use Rattle.core_worked.specs.LawSteps.{closing_view, last_table, view_behind, view_drawing};
+ghost use Rattle.core_worked.specs.LawSteps.{closing_table, closing_view, last_table};
+ghost use Rattle.core_worked.specs.LawSteps.{view_behind, view_drawing, view_joined};
 ghost use Rattle.core_worked.specs.Refused.{event_of};
 ghost use Rattle.core_worked.specs.TwoLives.{two_lives};
 
 /// A load that finds the count of numbers and the won unlink of event 41 are steps of caller 0 (`a_view_goes_on#look`,
-/// `#win`); by that step its pass goes on (`#pass`), and by the two behind it further (`#chain`). What it met before, a
-/// later view has met (`a_later_view_has_met_it`): the vertex of node 0 and the edge of node 3, spent by then, its key,
-/// the marked link, the link in front of key 2 and what it leads to, and that it raised for the edge of node 2, whose
-/// source may be raised again.
+/// `#win`), and so are the store of event 34, a load that replies behind the pass, and one behind a join (`#store`,
+/// `#reply`, `#meet`); by the unlink its pass goes on (`#pass`), and by the two behind it further (`#chain`). What it
+/// met before, a later view has met (`a_later_view_has_met_it`): the vertex of node 0 and the edge of node 3, spent by
+/// then, its key, the marked link, the link in front of key 2 and what it leads to, and that it raised for the edge of
+/// node 2, whose source may be raised again.
 pub fn worked_views_go_on()
     ensures look { Steps (view_drawing 52) None (view_drawing 52) }
     ensures win { Steps (view_at 0 41) (Some (event_of 41)) (view_behind 41) }
+    ensures store { Steps (view_at 0 34) (Some (event_of 34)) (view_behind 34) }
+    ensures reply { Steps (view_at 0 45) None (view_at 0 45) }
+    ensures meet { Steps view_joined None view_joined }
     ensures pass { GoesOn (view_at 0 41) (view_behind 41) }
     ensures chain { GoesOn (view_at 0 41) (view_behind 43) }
     ensures vertex { MetVertex (view_behind 43) (first_life 0) }
@@ -81,8 +92,8 @@ pub fn worked_words_are_shown()
 /// node 2 keeps its words and is ripe, and the list of node 0 is frozen to its end. A closed list
 /// (`a_closed_list_is_a_list#next`, `#end`) has node 3 in its frozen part, and ends there; its frozen words are marked
 /// (`frozen_words_stay#marked`), as the head that event 42 closed (`#head`) and the link that event 43 froze (`#edge`),
-/// whose node is spent with the caller (`#found`). The raise of event 27 is for the edge of node 2, which was linked
-/// before (`a_raise_is_for_edges_linked_before`).
+/// whose node is spent with the caller (`#found`); and the head stays so while caller 1 moves the epoch on (`#others`).
+/// The raise of event 27 is for the edge of node 2, which was linked before (`a_raise_is_for_edges_linked_before`).
 pub fn worked_own_things_stay()
     ensures list { KeepsList small (take 44 two_lives) 0 }
     ensures frozen_word { IsFrozenWord small (take 44 two_lives) 0 (second_at small 0) }
@@ -90,6 +101,7 @@ pub fn worked_own_things_stay()
     ensures spent { IsSpentWith small (take 48 two_lives) 0 2 }
     ensures words { IsKeptSpent small (take 47 two_lives) (take 48 two_lives) 2 }
     ensures ripe { IsRipe small (take 48 two_lives) 0 2 }
+    ensures others { IsFrozenWord small (take 47 two_lives) 0 (second_at small 0) }
     ensures finished { IsFrozenToEnd small (take 48 two_lives) 0 }
     ensures next { is_frozen (state small (take 44 two_lives)) 0 3 ≡ true }
     ensures end { IsFrozenToEnd small (take 44 two_lives) 0 }
@@ -101,10 +113,12 @@ pub fn worked_own_things_stay()
 {}
 
 /// The rule of the table. A new one meets it (`a_new_table_meets_the_rule`), whose first token may draw a number
-/// (`a_draw_keeps_the_rule`); a token that closes its pass, event 44, stores its announcement
-/// (`steps_keep_the_rule#store`). A table whose last token drew both numbers and answers for them meets it, its journal
-/// is that token's front (`a_last_token_knows_the_journal#journal`), and its words are those behind it (`#word`); each
-/// account of such a token is quiet in its front (`a_token_of_all_callers_knows_the_journal#quiet`).
+/// (`a_draw_keeps_the_rule`); a token that closes its pass, event 44, stores its announcement, and one that unlinks a
+/// vertex, event 41, exchanges the word of the bucket (`steps_keep_the_rule#store`, `#change`). A table whose last
+/// token drew both numbers and answers for them meets it, its journal is that token's front
+/// (`a_last_token_knows_the_journal#journal`), and its words are those behind it (`#word`); each account of a token
+/// that answers for all callers is quiet in its front, and the words are those behind it
+/// (`a_token_of_all_callers_knows_the_journal#quiet`, `#word`).
 pub fn worked_tables_keep_the_rule()
     ensures new { Ruled small (opening (opening_words small) [] (first_view small)) }
     ensures draw { Allows (Ruled small) 0 0 (first_view small, []) 1 (λ x. (x + 1) % 2 ^ 64)
@@ -112,6 +126,10 @@ pub fn worked_tables_keep_the_rule()
     ensures store { Allows (Ruled small) 0 0 (view_at 0 44, []) (announce_at small 0) (λ _. 0)
         (λ _. storing (λ _. withdraw_event (view_at 0 44)) (step 0 (announce_at small 0) 0 0 none) (view_at 0 44, [])
         0) }
+    ensures change { Allows (Ruled small) 0 0 (view_at 0 41, []) (bucket_at small 0)
+        (λ x. cond (x == pack 0 0 0) (pack 1 0 0) x)
+        (turning (λ x. x == pack 0 0 0) (λ _. event_of 41) (step 0 (bucket_at small 0) 0 0 none) (view_at 0 41, [])) }
+    ensures closed_word { Ruled small closing_table → word_at small two_lives (free_at small) ≡ pack 3 0 7 }
     ensures last { Ruled small last_table }
     ensures journal { (rule : Ruled small last_table) → rule.journal ≡ two_lives }
     ensures word { Ruled small last_table → word_at small two_lives (free_at small) ≡ pack 3 0 7 }

@@ -8,6 +8,7 @@ mod journals;
 mod laws_alike;
 mod laws_bounds;
 mod laws_counts;
+mod laws_graph;
 mod laws_kept;
 mod laws_lists;
 mod laws_moments;
@@ -33,6 +34,9 @@ pub use laws_counts::{
     worked_events_are_few, worked_graphs_are_counted, worked_lives_go_one_way,
     worked_nodes_become_spent, worked_tables_are_swept,
 };
+pub use laws_graph::{
+    worked_books_stay_true, worked_calls_are_overtaken, worked_events_change_the_graph,
+};
 pub use laws_kept::{worked_own_facts_stay, worked_words_tell_the_state};
 pub use laws_lists::{
     worked_lists_are_closed, worked_met_nodes_keep_their_words, worked_replaced_edges_are_told,
@@ -41,12 +45,9 @@ pub use laws_moments::{
     a_worked_edge_comes_and_goes, a_worked_vertex_goes, worked_changes_are_counted,
     worked_lists_stay,
 };
-pub use laws_others::{
-    worked_unlinks_take_away_no_more, worked_words_are_changed_by_another,
-};
+pub use laws_others::{worked_unlinks_take_away_no_more, worked_words_are_changed_by_another};
 pub use laws_tokens::{
-    worked_own_things_stay, worked_tables_keep_the_rule, worked_views_go_on,
-    worked_words_are_shown,
+    worked_own_things_stay, worked_tables_keep_the_rule, worked_views_go_on, worked_words_are_shown,
 };
 pub use laws_views::{
     laws_of_moments_meet_a_worked_journal, laws_of_removal_meet_a_worked_journal,

@@ -11,7 +11,7 @@ ghost use Rattle.core_rule.specs.Fronts.{MayMoveEpoch, MayPopFree, MayPushFree, 
 ghost use Rattle.core_rule.specs.Fronts.{MayStorePrivate};
 ghost use Rattle.core_rule.specs.Fronts.{MayUnlinkEdge, MayUnlinkVertex, MayWithdraw};
 ghost use Rattle.core_worked.specs.Beside.{beside_others};
-ghost use Rattle.core_worked.specs.KnownSteps.{Makes, view_among, view_at, view_beside, view_replacing};
+ghost use Rattle.core_worked.specs.KnownSteps.{MakesNext, view_among, view_at, view_beside, view_replacing};
 ghost use Rattle.core_rule.specs.OwnEvents.{announce_event, freeze_edge_event, freeze_head_event, link_edge_event};
 ghost use Rattle.core_rule.specs.OwnEvents.{link_vertex_event, store_free_event};
 ghost use Rattle.core_rule.specs.OwnEvents.{mark_edge_event, mark_vertex_event, move_event, pop_event, push_event};
@@ -28,55 +28,55 @@ ghost use Rattle.core_worked.specs.TwoLives.{two_lives};
 /// caller 0 made 43 events, and behind these caller 1 moves the epoch on.
 pub fn a_token_may_make_each_step()
     ensures pop { MayPopFree (view_at 0 52) (pack 0 0 6) (pack 3 1 1)
-        × Makes two_lives (view_at 0 52) 52 (pack 0 0 6) (pop_event (view_at 0 52) (pack 0 0 6) (pack 3 1 1)) }
+        × MakesNext two_lives (view_at 0 52) 52 (pack 0 0 6) (pop_event (view_at 0 52) (pack 0 0 6) (pack 3 1 1)) }
     ensures store { MayStorePrivate (view_at 0 34) (first_life 3) 1 (pack nowhere 0 1)
-        × Makes two_lives (view_at 0 34) 34 (pack 4 1 0)
+        × MakesNext two_lives (view_at 0 34) 34 (pack 4 1 0)
         (store_event (view_at 0 34) (first_life 3) 1 (pack nowhere 0 1)) }
     ensures link_vertex { MayLinkVertex (view_at 0 16) (link_at small 0) (pack nowhere 0 1) 2 (first_life 1)
-        × Makes two_lives (view_at 0 16) 16 (pack nowhere 0 1)
+        × MakesNext two_lives (view_at 0 16) 16 (pack nowhere 0 1)
         (link_vertex_event (view_at 0 16) (link_at small 0) (pack nowhere 0 1) 2 (first_life 1)) }
     ensures mark_vertex { MayMarkVertex (view_at 0 40) (first_life 0)
-        × Makes two_lives (view_at 0 40) 40 (pack 1 0 1)
+        × MakesNext two_lives (view_at 0 40) 40 (pack 1 0 1)
         (mark_vertex_event (view_at 0 40) (first_life 0) (pack 1 0 1)) }
     ensures unlink_vertex { MayUnlinkVertex (view_at 0 41) (bucket_at small 0) (pack 0 0 0) 1 (first_life 0)
-        × Makes two_lives (view_at 0 41) 41 (pack 0 0 0)
+        × MakesNext two_lives (view_at 0 41) 41 (pack 0 0 0)
         (unlink_vertex_event (view_at 0 41) (bucket_at small 0) (pack 0 0 0) 1 (first_life 0)) }
     ensures link_edge { MayLinkEdge (view_at 0 37) (second_at small 0) (pack nowhere 0 1) 2 (first_life 0)
         (first_life 1) 6 (first_life 3)
-        × Makes two_lives (view_at 0 37) 37 (pack nowhere 0 1)
+        × MakesNext two_lives (view_at 0 37) 37 (pack nowhere 0 1)
         (link_edge_event (view_at 0 37) (second_at small 0) (pack nowhere 0 1) 2 (first_life 0) (first_life 1) 6
         (first_life 3)) }
     ensures raise { MayRaise (view_at 0 27) (first_life 0)
-        × Makes two_lives (view_at 0 27) 27 0 (raise_event (view_at 0 27) (first_life 0) 0) }
+        × MakesNext two_lives (view_at 0 27) 27 0 (raise_event (view_at 0 27) (first_life 0) 0) }
     ensures mark_edge { MayMarkEdge (view_at 0 28) (first_life 0) (first_life 2)
-        × Makes two_lives (view_at 0 28) 28 (pack nowhere 0 1)
+        × MakesNext two_lives (view_at 0 28) 28 (pack nowhere 0 1)
         (mark_edge_event (view_at 0 28) (first_life 2) (pack nowhere 0 1)) }
     ensures replace_edge { MayReplaceEdge (view_replacing 0 33) (pack nowhere 0 1) 2 (first_life 0) (first_life 1) 6
         (first_life 2) (first_life 3)
-        × Makes replacing_journal (view_replacing 0 33) 33 (pack nowhere 0 1)
+        × MakesNext replacing_journal (view_replacing 0 33) 33 (pack nowhere 0 1)
         (replace_event (view_replacing 0 33) (pack nowhere 0 1) 2 (first_life 0) (first_life 1) 6 (first_life 2)
         (first_life 3)) }
     ensures unlink_edge { MayUnlinkEdge (view_at 0 29) (second_at small 0) (pack 2 0 1) nowhere (first_life 0)
         (first_life 2)
-        × Makes two_lives (view_at 0 29) 29 (pack 2 0 1)
+        × MakesNext two_lives (view_at 0 29) 29 (pack 2 0 1)
         (unlink_edge_event (view_at 0 29) (second_at small 0) (pack 2 0 1) nowhere (first_life 2)) }
     ensures announce { MayAnnounce (view_at 0 51) 2
-        × Makes two_lives (view_at 0 51) 51 0 (announce_event (view_at 0 51) 2) }
+        × MakesNext two_lives (view_at 0 51) 51 0 (announce_event (view_at 0 51) 2) }
     ensures withdraw { MayWithdraw (view_at 0 44)
-        × Makes two_lives (view_at 0 44) 44 1 (withdraw_event (view_at 0 44)) }
-    ensures move_on { MayMoveEpoch (view_at 1 2) 0 × Makes two_lives (view_at 1 2) 45 0 (move_event (view_at 1 2) 0) }
+        × MakesNext two_lives (view_at 0 44) 44 1 (withdraw_event (view_at 0 44)) }
+    ensures move_on { MayMoveEpoch (view_at 1 2) 0 × MakesNext two_lives (view_at 1 2) 45 0 (move_event (view_at 1 2) 0) }
     ensures freeze_head { MayFreezeHead (view_at 0 42) (first_life 0)
-        × Makes two_lives (view_at 0 42) 42 (pack 3 0 1)
+        × MakesNext two_lives (view_at 0 42) 42 (pack 3 0 1)
         (freeze_head_event (view_at 0 42) (first_life 0) (pack 3 0 1)) }
     ensures freeze_edge { MayFreezeEdge (view_at 0 43) (first_life 0) (second_at small 0) (first_life 3)
-        × Makes two_lives (view_at 0 43) 43 (pack nowhere 0 1)
+        × MakesNext two_lives (view_at 0 43) 43 (pack nowhere 0 1)
         (freeze_edge_event (view_at 0 43) (first_life 3) (pack nowhere 0 1)) }
     ensures store_edge { MayStoreFree (view_at 0 47) 4 (first_life 3)
-        × Makes two_lives (view_at 0 47) 47 (pack nowhere 1 1) (store_free_event (view_at 0 47) 4 (first_life 3)) }
+        × MakesNext two_lives (view_at 0 47) 47 (pack nowhere 1 1) (store_free_event (view_at 0 47) 4 (first_life 3)) }
     ensures store_vertex { MayStoreFree (view_at 0 49) 3 (first_life 0)
-        × Makes two_lives (view_at 0 49) 49 (pack 1 1 1) (store_free_event (view_at 0 49) 3 (first_life 0)) }
+        × MakesNext two_lives (view_at 0 49) 49 (pack 1 1 1) (store_free_event (view_at 0 49) 3 (first_life 0)) }
     ensures push { MayPushFree (view_at 0 50) (pack 3 0 5) (first_life 0)
-        × Makes two_lives (view_at 0 50) 50 (pack 3 0 5) (push_event (view_at 0 50) (pack 3 0 5) (first_life 0)) }
+        × MakesNext two_lives (view_at 0 50) 50 (pack 3 0 5) (push_event (view_at 0 50) (pack 3 0 5) (first_life 0)) }
 {}
 
 /// A front may lag behind the journal: on the worked journal of two callers at once (`callers_journal` of core_journal)
@@ -85,17 +85,17 @@ pub fn a_token_may_make_each_step()
 /// pass has met.
 pub fn a_token_may_lag_behind()
     ensures mark_vertex { MayMarkVertex (view_among 1 20) (first_life 1)
-        × Makes callers_journal (view_among 1 20) 22 (pack nowhere 0 1)
+        × MakesNext callers_journal (view_among 1 20) 22 (pack nowhere 0 1)
         (mark_vertex_event (view_among 1 20) (first_life 1) (pack nowhere 0 1)) }
     ensures unlink_vertex { MayUnlinkVertex (view_among 1 23) (link_at small 0) (pack 1 0 1) nowhere (first_life 1)
-        × Makes callers_journal (view_among 1 23) 24 (pack 1 0 1)
+        × MakesNext callers_journal (view_among 1 23) 24 (pack 1 0 1)
         (unlink_vertex_event (view_among 1 23) (link_at small 0) (pack 1 0 1) nowhere (first_life 1)) }
     ensures freeze_head { MayFreezeHead (view_among 1 25) (first_life 1)
-        × Makes callers_journal (view_among 1 25) 26 (pack nowhere 0 1)
+        × MakesNext callers_journal (view_among 1 25) 26 (pack nowhere 0 1)
         (freeze_head_event (view_among 1 25) (first_life 1) (pack nowhere 0 1)) }
     ensures link_edge { MayLinkEdge (view_among 0 28) (second_at small 0) (pack nowhere 0 1) 2 (first_life 0)
         (first_life 1) 5 (first_life 2)
-        × Makes callers_journal (view_among 0 28) 29 (pack nowhere 0 1)
+        × MakesNext callers_journal (view_among 0 28) 29 (pack nowhere 0 1)
         (link_edge_event (view_among 0 28) (second_at small 0) (pack nowhere 0 1) 2 (first_life 0) (first_life 1) 5
         (first_life 2)) }
 {}
@@ -105,23 +105,23 @@ pub fn a_token_may_lag_behind()
 /// is frozen behind a frozen one.
 pub fn a_token_may_step_beside_others()
     ensures vertex_before { MayLinkVertex (view_beside 0 32) (bucket_at small 0) (pack 0 0 0) 0 (first_life 3)
-        × Makes beside_others (view_beside 0 32) 32 (pack 0 0 0)
+        × MakesNext beside_others (view_beside 0 32) 32 (pack 0 0 0)
         (link_vertex_event (view_beside 0 32) (bucket_at small 0) (pack 0 0 0) 0 (first_life 3)) }
     ensures edge_before { MayLinkEdge (view_beside 0 40) (second_at small 0) (pack 2 0 1) 0 (first_life 0)
         (first_life 3) 7 (first_life 4)
-        × Makes beside_others (view_beside 0 40) 40 (pack 2 0 1)
+        × MakesNext beside_others (view_beside 0 40) 40 (pack 2 0 1)
         (link_edge_event (view_beside 0 40) (second_at small 0) (pack 2 0 1) 0 (first_life 0) (first_life 3) 7
         (first_life 4)) }
     ensures unlink_behind { MayUnlinkEdge (view_beside 0 45) (link_at small 4) (pack 2 0 1) nowhere (first_life 0)
         (first_life 2)
-        × Makes beside_others (view_beside 0 45) 45 (pack 2 0 1)
+        × MakesNext beside_others (view_beside 0 45) 45 (pack 2 0 1)
         (unlink_edge_event (view_beside 0 45) (link_at small 4) (pack 2 0 1) nowhere (first_life 2)) }
     ensures edge_behind { MayLinkEdge (view_beside 0 53) (link_at small 4) (pack nowhere 0 1) 2 (first_life 0)
         (first_life 1) 6 (first_life 5)
-        × Makes beside_others (view_beside 0 53) 53 (pack nowhere 0 1)
+        × MakesNext beside_others (view_beside 0 53) 53 (pack nowhere 0 1)
         (link_edge_event (view_beside 0 53) (link_at small 4) (pack nowhere 0 1) 2 (first_life 0) (first_life 1) 6
         (first_life 5)) }
     ensures freeze_behind { MayFreezeEdge (view_beside 0 60) (first_life 0) (link_at small 4) (first_life 5)
-        × Makes beside_others (view_beside 0 60) 60 (pack nowhere 0 1)
+        × MakesNext beside_others (view_beside 0 60) 60 (pack nowhere 0 1)
         (freeze_edge_event (view_beside 0 60) (first_life 5) (pack nowhere 0 1)) }
 {}

@@ -1,7 +1,7 @@
 //! Edges that are replaced, on a worked journal, and replacements that are refused.
 
 ghost use Rattle.std.specs.Prelude.{◌≡◌, Contains, [], ◌∷◌, map, take};
-ghost use Rattle.graph_kinds.specs.History.{Every, IsLegal};
+ghost use Rattle.graph_kinds.specs.History.{Every, IsInterleaving, IsLegal};
 ghost use Rattle.core_journal.specs.declared.event.Event.{Event};
 ghost use Rattle.core_journal.specs.declared.event.Kind.{Kind};
 ghost use Rattle.core_journal.specs.GraphOf.{IsRegular, graph_of};
@@ -17,7 +17,7 @@ ghost use Rattle.core_worked.specs.Replacing.{added_anew, frozen_behind, marked_
 ghost use Rattle.core_worked.specs.Replacing.{not_raised_for, other_target};
 ghost use Rattle.core_worked.specs.Replacing.{removed_then, replaced_anew, replaced_once, replaced_twice, replaces_by};
 ghost use Rattle.core_worked.specs.Replacing.{replaces_target, replacing_journal, replacing_books, replacing_history};
-ghost use Rattle.core_worked.specs.Replacing.{replacing_words, same_weight};
+ghost use Rattle.core_worked.specs.Replacing.{replacing_replies, replacing_rows, replacing_words, same_weight};
 ghost use Rattle.core_kept.specs.Standings.{OnChain, OnFreeList, SpentBy, StandsAs};
 ghost use Rattle.core_worked.specs.TwoLives.{key_two, two_keys};
 
@@ -25,7 +25,8 @@ ghost use Rattle.core_worked.specs.TwoLives.{key_two, two_keys};
 /// one too: the pair has the new weight each time, and three edges of one key stand on the list. The last one is
 /// removed, the pair is added anew and replaced again. Then its source is removed: the replaced edge is handed over as
 /// the list is closed at its head, and the last one as it's frozen. At the end the first node is free again. The words,
-/// the graphs, the books and their history are as worked out by hand, and the history is legal.
+/// the graphs, the books and their history are as worked out by hand; the history is an interleaving of the rows of the
+/// calls, answered so, and it's legal.
 pub fn an_edge_is_replaced()
     ensures kept { IsKept small replacing_journal }
     ensures each_kind { (k : Kind) → Contains (map (λ (e : Event). e.kind) replacing_journal) k }
@@ -49,6 +50,7 @@ pub fn an_edge_is_replaced()
     ensures books { Every (IsBookOf small replacing_journal) replacing_books }
     ensures closed { IsClosed replacing_journal replacing_books }
     ensures history { history replacing_journal replacing_books ≡ replacing_history }
+    ensures interleaves { IsInterleaving replacing_rows replacing_replies (history replacing_journal replacing_books) }
     ensures legal { IsLegal replacing_history key_two }
 {}
 

@@ -1,4 +1,5 @@
--- The edges that were handed over along a path of frozen words: the next one is new, each stands on this list alone, and
+-- The edges that were handed over along a path of frozen words: the next one is new, each stands on this list alone,
+-- and
 -- at the end they're all of its frozen part.
 use Rattle.std.proofs.Common.{◌≡◌, ◌≢◌, ℕ, ◌<◌, true, List, [], ◌∷◌, ◌++◌, refl, sym, ap, ap₂, ◌∙◌, subst}
 use Rattle.std.specs.Prelude.{AllPairs, Contains}
@@ -50,7 +51,11 @@ behind (u ∷ us) rest y = contains_later y u (us ++ y ∷ rest) (behind us rest
 
 apart : (ys rest : List ℕ) (y : ℕ) → AllPairs ◌≢◌ (ys ++ y ∷ rest) → Every (λ u. u ≢ y) ys
 apart [] rest y once = tt
-apart (u ∷ us) rest y once = (once_first u (us ++ y ∷ rest) once y (behind us rest y), apart us rest y (once_rest u (us ++ y ∷ rest) once))
+apart (u ∷ us) rest y once = (
+  once_first u (us ++ y ∷ rest) once y (behind us rest y),
+  apart us rest y
+      (once_rest u (us ++ y ∷ rest) once),
+)
 
 -- the next edge wasn't handed over before
 pub next_is_new : (sizes : Sizes) → IsLayout sizes → (journal : List Event) → IsKept sizes journal → (x : ℕ)

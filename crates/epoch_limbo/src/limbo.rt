@@ -12,6 +12,9 @@ use std::alloc::Global;
 use std::collections::VecDeque;
 use std::marker::Model;
 
+// A node is ripe for the free list this many epochs behind its stamp.
+const RIPE: u64 = 2;
+
 /// There's no memory for a limbo.
 #[derive(Debug, Drop)]
 pub struct Memory;
@@ -78,7 +81,7 @@ impl Limbo {
             return None;
         };
         let age = epoch.saturating_sub(first.stamp());
-        if age < 2 {
+        if age < RIPE {
             return None;
         }
         self.nodes.pop_front()

@@ -1,22 +1,16 @@
 -- What the steps owe: each kind's event is allowed wherever its step wins.
-use Rattle.std.proofs.Common.{◌≡◌, ◌≢◌, ℕ, ◌+◌, ◌%◌, ◌^◌, ◌<◌, ◌≤◌, Bool, true, false, List, eqb, eqb-true, eq-eqb, true≢false, sym, ap, ◌∙◌, subst, arith}
+use Rattle.std.proofs.Common.{◌≡◌, ◌≢◌, ℕ, ◌+◌, ◌%◌, ◌^◌, ◌<◌, Bool, true, false, List, eqb, eqb-true, eq-eqb, true≢false, sym, ap, ◌∙◌, subst, arith}
 use Rattle.std.specs.Prelude.{bit_or}
 use prog.Atomic.{either}
 use Rattle.atomic_table.specs.Seated.{TableId}
-use Rattle.packed_link.specs.Link.{mark_of, tag_of, with_mark}
-use Rattle.packed_link.specs.Layout.{Sizes, IsLayout, free_at, epoch_at}
+use Rattle.packed_link.specs.Link.{mark_of, with_mark}
 use Rattle.packed_link.proofs.Links.{bit_or-mark, with_mark-marked}
 use Rattle.core_journal.specs.declared.event.Event.{Event}
 use Rattle.core_journal.specs.Machine.{word_at}
-use Rattle.core_journal.specs.Prefix.{IsPrefix}
 use Rattle.core_journal.specs.Event.{draws}
-use Rattle.core_kept.specs.Kept.{AllowedAs, IsKept}
+use Rattle.core_kept.specs.Kept.{AllowedAs}
 use Rattle.core_rule.specs.Owes.{Owes, OwesStore, Reaches}
 use Rattle.core_rule.specs.declared.view.View.{View}
-use Rattle.core_kept.proofs.NoWrap.{bounds}
-use Rattle.core_kept.proofs.FreeList.{free_list}
-use Rattle.core_kept.proofs.FirstWords.{numbers}
-use Rattle.core_kept.proofs.Induction.{kept_front}
 use Rattle.graph_table.specs.Tokens.{TokenValue}
 
 -- what a seat's view owes, by the view that contracts see
@@ -61,12 +55,11 @@ mark_owes_at v at event by place plain writes allowed = record {
 }
 
 -- a mark
-pub mark_owes : (v : View) (place at bits : ℕ) (event : ℕ → Event) → place ≡ at → bits ≡ 16777216 → ((x : ℕ) → (event x).caller ≡ v.number) → ((x : ℕ) → (event x).place ≡ at) → ((x : ℕ) → draws (event x).kind ≡ false) → ((x : ℕ) → (event x).word ≡ with_mark x)
+pub mark_owes : (v : View) (place at : ℕ) (event : ℕ → Event) → place ≡ at → ((x : ℕ) → (event x).caller ≡ v.number) → ((x : ℕ) → (event x).place ≡ at) → ((x : ℕ) → draws (event x).kind ≡ false) → ((x : ℕ) → (event x).word ≡ with_mark x)
     → ((journal : List Event) → Reaches v journal → mark_of (word_at v.sizes journal at) ≡ 0 → AllowedAs (event (word_at v.sizes journal at)).kind v.sizes journal (event (word_at v.sizes journal at)))
-    → Owes v place (λ n. bit_or n bits) (λ n. eqb (mark_of n) 0) event
-mark_owes v place at bits event same bit by places plain writes allowed =
-    subst (λ (b : ℕ). Owes v place (λ n. bit_or n b) (λ n. eqb (mark_of n) 0) event) (sym bit)
-    (subst (λ (p : ℕ). Owes v p (λ n. bit_or n 16777216) (λ n. eqb (mark_of n) 0) event) (sym same) (mark_owes_at v at event by places plain writes allowed))
+    → Owes v place (λ n. bit_or n 16777216) (λ n. eqb (mark_of n) 0) event
+mark_owes v place at event same by places plain writes allowed =
+    subst (λ (p : ℕ). Owes v p (λ n. bit_or n 16777216) (λ n. eqb (mark_of n) 0) event) (sym same) (mark_owes_at v at event by places plain writes allowed)
 
 -- a store
 pub store_owes : (v : View) (place word : ℕ) (e : Event) → e.caller ≡ v.number → e.place ≡ place → draws e.kind ≡ false → word ≡ e.word
@@ -87,16 +80,3 @@ add_owes v place at event same by places plain writes fits allowed =
       writes = λ journal r wins. let few = fits journal r in writes (word_at v.sizes journal at) ∙ omega (arith, few);
       allowed = λ journal r wins. allowed journal r;
     }
-
--- the tag of the word of the free list, and the epoch, are far from their limits
-pub free_tag : (sizes : Sizes) → IsLayout sizes → (front journal : List Event) → IsPrefix front journal → IsKept sizes journal → (seen : ℕ) → word_at sizes front (free_at sizes) ≡ seen → tag_of seen ≤ 2 ^ 37
-free_tag sizes z front journal p kept seen is =
-    let k = kept_front sizes front journal p kept in
-    let few = (bounds sizes z front k).changes in
-    let tag = (free_list sizes z front k).tag in
-    omega (arith, few, sym (ap tag_of is) ∙ tag)
-
-pub epoch_small : (sizes : Sizes) → IsLayout sizes → (front journal : List Event) → IsPrefix front journal → IsKept sizes journal → (seen : ℕ) → word_at sizes front (epoch_at sizes) ≡ seen → seen ≤ 2 ^ 38
-epoch_small sizes z front journal p kept seen is =
-    let k = kept_front sizes front journal p kept in
-    omega (arith, (bounds sizes z front k).epoch, (numbers sizes front k).epoch, is)

@@ -14,7 +14,7 @@ ghost use Rattle.graph_table.specs.Table.{Marked};
 
 use crate::held::Spent;
 use crate::table::{GraphTable, Token};
-use packed_link::{Life, Link};
+use packed_link::Life;
 use std::marker::Brand;
 
 impl GraphTable {
@@ -29,9 +29,8 @@ impl GraphTable {
         ensures table { IsOf self.now token.new }
     {
         let place = self.layout.second_at(from.life.index);
-        let bits = Link::MARK;
         let life = from.life;
-        self.set_bits::<Brand>(token, place, bits, life)
+        self.set_mark::<Brand>(token, place, life)
     }
 
     /// Marks the link of an edge to which a frozen word of a closed list of the token's leads, in O(1), and hands its
@@ -47,8 +46,7 @@ impl GraphTable {
         ensures table { IsOf self.now token.new }
     {
         let place = self.layout.link_at(life.index);
-        let bits = Link::MARK;
-        let found = self.set_bits::<Brand>(token, place, bits, life);
+        let found = self.set_mark::<Brand>(token, place, life);
         (found, Spent { life })
     }
 }

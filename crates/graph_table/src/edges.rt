@@ -68,8 +68,7 @@ impl GraphTable {
         ensures table { IsOf self.now token.new }
     {
         let place = self.layout.link_at(life.index);
-        let bits = Link::MARK;
-        self.set_bits::<Brand>(token, place, bits, life)
+        self.set_mark::<Brand>(token, place, life)
     }
 
     /// Replaces an edge by a filled one of the same key and target and another weight, where its link is still `seen`,

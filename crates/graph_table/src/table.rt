@@ -13,7 +13,7 @@ ghost use Rattle.graph_table.specs.Table.{Turned};
 use crate::rule::{Deed, Law, Look, Store, Turn};
 use atomic_table::{Seat, Table};
 use core_rule::View;
-use packed_link::{Layout, Life};
+use packed_link::{Layout, Life, Link};
 use std::alloc::Global;
 use std::marker::Model;
 
@@ -128,6 +128,19 @@ impl GraphTable {
         self.table
             .shared
             .fetch_or::<Turn<D>>(&mut token.seat, place as usize, bits)
+    }
+
+    /// The mark is set in a word. Answers the word found.
+    pub(crate) fn set_mark<D: Deed>(&self, token: &mut Token, place: u32, life: Life) -> u64
+        requires table { IsOf self.now token.old }
+        requires place { place < word_count self.now.sizes }
+        requires number { token.old.view.numbered ≡ true }
+        requires owes { Owes token.old.view place (λ n. bit_or n Link.MARK) D.wins D.event }
+        ensures turned { Turned D.wins D.event token.old.view place result token.new.view }
+        ensures table { IsOf self.now token.new }
+    {
+        let bits = Link::MARK;
+        self.set_bits::<D>(token, place, bits, life)
     }
 
     /// One is added to a word. Answers the word found.

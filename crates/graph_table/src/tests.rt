@@ -1,20 +1,27 @@
 //! Sequences of calls on one thread: each meets the conditions of the next.
 
-use crate::{GraphTable, Tried};
+use crate::{Fresh, GraphTable, Ripe, Spent, Token};
 use graph_kinds::{Call, Class, Outcome};
 use packed_link::Layout;
 use std::snapshot::Snapshot;
 
-fn is_send<T: Send>(_value: &T) {}
+fn is_send<T: Send>() {}
 
-fn is_sync<T: Sync>(_value: &T) {}
+fn is_sync<T: Sync>() {}
+
+#[test]
+fn tables_tokens_and_nodes_may_go_to_other_threads() {
+    is_send::<GraphTable>();
+    is_sync::<GraphTable>();
+    is_send::<Token>();
+    is_send::<Fresh>();
+    is_send::<Spent>();
+    is_send::<Ripe>();
+}
 
 #[test]
 fn tokens_are_drawn_split_and_joined(rt: HostRuntime) {
     let (table, mut one) = GraphTable::new(rt.alloc(), Layout::new(2, 3, 1)).expect(&rt, "memory");
-    is_send(&table);
-    is_sync(&table);
-    is_send(&one);
     assert_eq!(rt; table.layout().words(), 19);
     assert_eq!(rt; table.draw_number(&mut one), 0);
     let mut two = table.split_token(&mut one);

@@ -101,8 +101,28 @@ impl GraphTable {
         ensures joined { Met (both_fronts token.old.view other.view) token.new.view }
         ensures table { IsOf self.now token.new }
     {
+        self.unite(token, other);
+        self.meet(token);
+    }
+
+    /// The token holds the other's front too, until it looks again.
+    fn unite(&self, token: &mut Token, other: Token)
+        requires table { IsOf self.now token.old }
+        requires other { IsOf self.now other }
+        ensures united { token.new.view ≡ both_fronts token.old.view other.view }
+        ensures table { token.new.table ≡ self.now.table }
+    {
         let Token { number: _, seat } = other;
         self.table.shared.join_seat::<Glue>(&mut token.seat, seat);
+    }
+
+    /// The look after that: a load, by which the token's own front has the other one as its beginning.
+    fn meet(&self, token: &mut Token)
+        requires table { token.old.table ≡ self.now.table }
+        requires sizes { token.old.view.sizes ≡ self.now.sizes }
+        ensures met { Met token.old.view token.new.view }
+        ensures table { token.new.table ≡ self.now.table }
+    {
         self.table.shared.load::<Meeting>(&mut token.seat, 0);
     }
 

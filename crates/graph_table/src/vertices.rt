@@ -50,8 +50,7 @@ impl GraphTable {
         ensures table { IsOf self.now token.new }
     {
         let place = self.layout.link_at(life.index);
-        let bits = Link::MARK;
-        self.set_bits::<Brand>(token, place, bits, life)
+        self.set_mark::<Brand>(token, place, life)
     }
 
     /// Unlinks a marked vertex from the word at a place, where that is still `seen`, in O(1): from then on that leads

@@ -33,7 +33,9 @@ found_empty v m seen h none = record {
 }
 
 -- after the load of the word, that of the link of the node to which it leads
-module _ (v m k : View) (seen at next : ℕ) (z : IsLayout v.sizes) (h : HasSeen v m seen) (s : IsSound m) (has : v.numbered ≡ true) (l : Looked m at next k) (at_is : at ≡ link_at v.sizes (index_of seen)) (some : index_of seen < v.sizes.nodes) where
+module _ (v m k : View) (seen at next : ℕ) (z : IsLayout v.sizes) (h : HasSeen v m seen) (s : IsSound m)
+    (has : v.numbered ≡ true) (l : Looked m at next k) (at_is : at ≡ link_at v.sizes (index_of seen))
+    (some : index_of seen < v.sizes.nodes) where
   second : Makes m [] k
   second = makes_look m k at next (h.later.numbered ∙ has) s l
 
@@ -51,7 +53,9 @@ module _ (v m k : View) (seen at next : ℕ) (z : IsLayout v.sizes) (h : HasSeen
         then = u.grows;
         before = prefix_refl k.front;
         word = ap (λ (y : Sizes). word_at y m.front (free_at y)) t.sizes ∙ h.word;
-        link = ap (λ (y : Sizes). word_at y k.front (link_at y (index_of seen))) t.sizes ∙ (ap (word_at v.sizes k.front) (sym at_is) ∙ (ap (λ (y : Sizes). word_at y k.front at) (sym h.later.sizes) ∙ sym l.word));
+        link = ap (λ (y : Sizes). word_at y k.front (link_at y (index_of seen))) t.sizes ∙
+            (ap (word_at v.sizes k.front) (sym at_is) ∙ (ap (λ (y : Sizes). word_at y k.front at) (sym h.later.sizes)
+            ∙ sym l.word));
         holds_none = (makes_none v k [] z tt both none).none;
         limit = let c = makes_counts pops v k [] both in omega (arith, c, few);
       }
@@ -62,7 +66,8 @@ module _ (v m k : View) (seen at next : ℕ) (z : IsLayout v.sizes) (h : HasSeen
     has_number = (makes_later v k [] both).numbered ∙ has
 
     same_event : pop_event k seen next ≡ pop_event v seen next
-    same_event = let t = makes_later v k [] both in ap₂ (λ (s : Sizes) (n : ℕ). pop_event (record v { sizes = s; number = n }) seen next) t.sizes t.number
+    same_event = let t = makes_later v k [] both in ap₂ (λ (s : Sizes) (n : ℕ). pop_event
+        (record v { sizes = s; number = n }) seen next) t.sizes t.number
 
     taken_fresh : IsHeldFresh w (pop_event k seen next).life
     taken_fresh =
@@ -72,8 +77,14 @@ module _ (v m k : View) (seen at next : ℕ) (z : IsLayout v.sizes) (h : HasSeen
         let fresh = node_taken k.sizes t.grown e kept refl in
         let layout : IsLayout k.sizes = subst IsLayout (sym (makes_later v k [] both).sizes) z in
         record {
-          life = subst (λ (u : View). IsLifeAt u e.life) (sym t.view) (record { there = fresh.0; tag = subst (λ (j : List Event). e.life.tag ≡ (node_in k.sizes j e.life.index).tag) (sym t.front) (event_life k.sizes t.grown e kept layout fresh.0) });
-          fresh = subst (λ (u : View). IsFreshWith u.sizes u.front u.number e.life.index) (sym t.view) (subst (λ (j : List Event). IsFreshWith k.sizes j k.number e.life.index) (sym t.front) fresh.1);
+          life = subst (λ (u : View). IsLifeAt u e.life) (sym t.view)
+              (record {
+                there = fresh.0;
+                tag = subst (λ (j : List Event). e.life.tag ≡
+                    (node_in k.sizes j e.life.index).tag) (sym t.front) (event_life k.sizes t.grown e kept layout fresh.0);
+              });
+          fresh = subst (λ (u : View). IsFreshWith u.sizes u.front u.number e.life.index) (sym t.view)
+              (subst (λ (j : List Event). IsFreshWith k.sizes j k.number e.life.index) (sym t.front) fresh.1);
         }
 
     pub taken : (x : Life) → x ≡ (pop_event k seen next).life → IsTaken v w x
@@ -96,7 +107,8 @@ module _ (v m k : View) (seen at next : ℕ) (z : IsLayout v.sizes) (h : HasSeen
         }
 
   -- the exchange lost
-  pub take_lost : (w : View) (found place : ℕ) → IsSound k → place ≡ free_at k.sizes → Missed k place seen found w → IsTakeLost v w
+  pub take_lost : (w : View) (found place : ℕ) → IsSound k → place ≡ free_at k.sizes → Missed k place seen found w
+      → IsTakeLost v w
   take_lost w found place sound place_is missed =
       let third = makes_look k w place found ((makes_later v k [] both).numbered ∙ has) sound missed.looked in
       let late : Makes m [] w = makes_chain m k w [] [] second third in
@@ -107,5 +119,6 @@ module _ (v m k : View) (seen at next : ℕ) (z : IsLayout v.sizes) (h : HasSeen
         loaded = m.front;
         found = seen_then v m w seen h (makes_later m w [] late).grows;
         some = some;
-        changed = changed_since v m k w seen found [] h second tt late (subst (λ (p : ℕ). Missed k p seen found w) (place_is ∙ ap free_at (sym sizes)) missed);
+        changed = changed_since v m k w seen found [] h second tt late
+            (subst (λ (p : ℕ). Missed k p seen found w) (place_is ∙ ap free_at (sym sizes)) missed);
       }

@@ -11,7 +11,8 @@ use Rattle.core_stretches.specs.Holdings.{IsGivable}
 use Rattle.core_stretches.specs.Makes.{GivesOther, Makes}
 use Rattle.core_stretches.proofs.HoldingsStay.{makes_keeps}
 
-givable_still : (v w : View) (own : Option Event) → IsLayout v.sizes → Steps v own w → (x : Life) → Spares (GivesOther x.index) own → IsGivable v x → IsGivable w x
+givable_still : (v w : View) (own : Option Event) → IsLayout v.sizes → Steps v own w → (x : Life) → Spares
+    (GivesOther x.index) own → IsGivable v x → IsGivable w x
 givable_still v w own z t x spares h =
     let spent = h.ripe.stamped.spent in
     let s = own_spent_still v w own z t x spares h.life spent in
@@ -22,7 +23,8 @@ givable_still v w own z t x spares h =
       list = own_ends_still v w own z t x.index h.life.there spares spent h.list;
     }
 
-pub makes_givable : (v w : View) (own : List Event) → IsLayout v.sizes → (x : Life) → Every (GivesOther x.index) own → Makes v own w → IsGivable v x → IsGivable w x
+pub makes_givable : (v w : View) (own : List Event) → IsLayout v.sizes → (x : Life) → Every (GivesOther x.index) own
+    → Makes v own w → IsGivable v x → IsGivable w x
 makes_givable v w own z x every h g = makes_keeps (λ (u : View). IsGivable u x) (GivesOther x.index)
     (λ v w z t p. givable_still v w None z t x tt p)
     (λ v w e z by t q p. givable_still v w (Some e) z t x q p)

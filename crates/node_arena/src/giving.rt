@@ -29,7 +29,8 @@ pub fn give_back(table: &GraphTable, token: &mut Token, ripe: Ripe) -> Given
 {
     let layout = table.layout();
     let seen = Link(table.load(token, layout.free_at()));
-    table.store_free(token, &ripe, seen.index());
+    let next = seen.index();
+    table.store_free(token, &ripe, next);
     match table.push_free(token, seen, ripe) {
         PushTried::Won => Given::Done,
         PushTried::Lost(ripe, _) => Given::Lost(ripe),

@@ -10,6 +10,9 @@ ghost use Rattle.node_arena.specs.Taking.{MatchTaken};
 use graph_table::{Fresh, GraphTable, Popped, Token};
 use packed_link::Link;
 
+// The index that leads to no node.
+const NOWHERE: u32 = 16_777_215;
+
 /// What became of taking a node: it's fresh with the token, the free list was empty, or another caller changed the list
 /// after this call had loaded its word.
 #[derive(Drop)]
@@ -33,7 +36,7 @@ pub fn take(table: &GraphTable, token: &mut Token) -> Taken
     let layout = table.layout();
     let seen = Link(table.load(token, layout.free_at()));
     let index = seen.index();
-    if index == 16_777_215 {
+    if index == NOWHERE {
         return Taken::Empty;
     }
     let next = Link(table.load(token, layout.link_at(index)));

@@ -45,6 +45,8 @@ fn a_node_is_taken_once(rt: HostRuntime) {
     assert_eq!(rt; enter(&table, &mut one), 0);
     let mut two = split_off(&table, &mut one);
     assert_eq!(rt; enter(&table, &mut two), 1);
+    open_pass(&table, &mut one);
+    open_pass(&table, &mut two);
     let (seen, next) = see_free(&table, &mut one).expect(&rt, "free");
     let (seen_too, next_too) = see_free(&table, &mut two).expect(&rt, "free");
     let fresh = take(&table, &mut one, seen, next).expect(&rt, "taken");

@@ -1,5 +1,5 @@
 -- What unlinking a marked vertex tells: the load of its link, and the exchange behind it.
-use Rattle.std.proofs.Common.{◌≡◌, ◌≢◌, ℕ, ◌<◌, Bool, true, List, [], ◌∷◌, ◌++◌, Some, refl, sym, ap, ap₂, ◌∙◌, subst, arith}
+use Rattle.std.proofs.Common.{◌≡◌, ◌≢◌, ℕ, ◌<◌, Bool, true, false, List, [], ◌∷◌, ◌++◌, Some, refl, sym, ap, ap₂, ◌∙◌, subst, arith}
 use Rattle.packed_link.specs.Link.{pack, index_of, mark_of, tag_of}
 use Rattle.packed_link.specs.Layout.{Sizes, IsLayout, link_at}
 use Rattle.packed_link.specs.declared.link.Life.{Life}
@@ -8,12 +8,14 @@ use Rattle.core_journal.specs.declared.event.Kind.{Kind}
 use Rattle.core_journal.specs.declared.event.Kind.TheVariants.{UnlinkVertex}
 use Rattle.core_journal.specs.declared.event.Event.{Event}
 use Rattle.core_journal.specs.Machine.{word_at}
-use Rattle.core_journal.specs.State.{Linked, Spent, Node}
+use Rattle.core_journal.specs.State.{Linked, Spent, Node, State, state, state_by}
 use Rattle.core_kept.specs.Freezing.{IsSpentVertex}
 use Rattle.core_kept.specs.Kept.{AllowedAs, IsKept}
 use Rattle.core_kept.specs.Nodes.{node_in, IsSpentWith}
 use Rattle.core_kept.specs.Vertices.{IsUnlinkVertex}
-use Rattle.core_kept.proofs.Induction.{last_allowed}
+use Rattle.core_lists.proofs.SpentWordsLead.{unclosed}
+use Rattle.core_journal.proofs.States.{state-snoc}
+use Rattle.core_kept.proofs.Induction.{past_kept, last_allowed}
 use Rattle.core_kept.proofs.OwnSpent.{spent_stays}
 use Rattle.core_lists.specs.Chains.{KeepsList}
 use Rattle.core_lists.proofs.EventKeepsRest.{written, event_life, vertex_spent}
@@ -65,6 +67,14 @@ dead_seen v m p at index link tag z has s d l at_is index_is tag_is =
       link_is = here;
       dead = ap mark_of (sym link_is) ∙ dead;
     }
+
+-- the list of a vertex that is unlinked is open at its head
+open_behind : (sizes : Sizes) → IsLayout sizes → (past : List Event) (e : Event) → IsKept sizes (past ++ e ∷ []) → e.kind ≡ UnlinkVertex → (state sizes (past ++ e ∷ [])).frozen e.life.index ≡ false
+open_behind sizes z past e kept is =
+    let ok : IsUnlinkVertex sizes past e = subst (λ (k : Kind). AllowedAs k sizes past e) is (last_allowed sizes past e kept).as_kind in
+    ap (λ (s : State). s.frozen e.life.index) (state-snoc sizes past e)
+    ∙ (ap (λ (k : Kind). (state_by k sizes e (state sizes past)).frozen e.life.index) is
+    ∙ unclosed sizes z past (past_kept sizes past e kept) e.life.index ok.linked.linked)
 
 module _ (passed : Bool) (v m : View) (p : PositionValue) (x : Life) (link next : ℕ) (z : IsLayout v.sizes) (h : IsPosition passed v p) (d : IsDeadSeen v m p x link) (next_is : next ≡ index_of link) where
   here : IsPosition passed m p
@@ -129,6 +139,7 @@ module _ (passed : Bool) (v m : View) (p : PositionValue) (x : Life) (link next 
           spent = subst (λ (j : List Event). IsSpentVertex w.sizes j w.number x.index) (sym won.front) (subst (λ (n : ℕ). IsSpentVertex w.sizes (won.grown ++ e ∷ []) n x.index) (sym (goes_number v w g)) spent.0);
           list = subst (λ (j : List Event). KeepsList w.sizes j x.index) (sym won.front) (has_keeps w.sizes z' (won.grown ++ e ∷ []) kept x.index spent.1);
         };
+        unclosed = subst (λ (j : List Event). (state w.sizes j).frozen x.index ≡ false) (sym won.front) (open_behind w.sizes z' won.grown e kept refl);
         new = λ f. not_spent first.0 e first.2 refl refl (subst (λ (y : Sizes). x.index < y.nodes) sizes there) f;
         key = refl;
         place = refl;

@@ -1,11 +1,12 @@
 -- What linking, marking and unlinking a vertex tell.
-use Rattle.std.specs.Prelude.{◌≡◌, ℕ, Bool, true, [], ◌∷◌}
+use Rattle.std.specs.Prelude.{◌≡◌, ℕ, Bool, true, false, [], ◌∷◌}
 use Rattle.graph_kinds.specs.declared.call.Call.TheVariants.{AddVertex, RemoveVertex}
 use Rattle.packed_link.specs.Layout.{link_at}
 use Rattle.packed_link.specs.Link.{pack, index_of, tag_of}
 use Rattle.packed_link.specs.declared.link.Life.{Life}
 use Rattle.core_journal.specs.Life.{vertex_marked}
 use Rattle.core_journal.specs.Machine.{word_at}
+use Rattle.core_journal.specs.State.{state}
 use Rattle.core_kept.specs.Nodes.{IsSpentWith}
 use Rattle.core_lists.specs.Changed.{IsChangedByAnother}
 use Rattle.core_rule.specs.Fronts.{key_in}
@@ -28,8 +29,9 @@ pub record IsLost (p : PositionValue) (v w : View) : Type 0 where
   pub makes : Makes v [] w
   pub changed : IsChangedByAnother p.moment w.front w.number p.place
 
--- the vertex to which the position led is unlinked by the last event of the front, and spent with the token; the position
--- stays where it was, with the word that was written, which leads to where the vertex's link does
+-- the vertex to which the position led is unlinked by the last event of the front and spent with the token, and its
+-- list is open at its head; the position stays where it was, with the word that was written, which leads to where the
+-- vertex's link does
 pub record IsUnlinked (p : PositionValue) (v w : View) (x : Life) (q : PositionValue) : Type 0 where
   pub leads : index_of p.word ≡ x.index
   pub next : ℕ
@@ -37,6 +39,7 @@ pub record IsUnlinked (p : PositionValue) (v w : View) (x : Life) (q : PositionV
   pub makes : Makes v (unlink_vertex_event v p.place p.word next x ∷ []) w
   pub last : EndsBy (unlink_vertex_event v p.place p.word next x) w
   pub spent : IsUnlinkedVertex w x
+  pub unclosed : (state w.sizes w.front).frozen x.index ≡ false
   pub new : IsSpentWith v.sizes v.front v.number x.index → ⊥
   pub key : q.key ≡ p.key
   pub place : q.place ≡ p.place

@@ -5,13 +5,17 @@ use Rattle.core_stretches.proofs.WordsLeadOn.{word_leads, node_passed}
 use Rattle.core_stretches.proofs.walks.loaded_words_lead_on.Goals as goal
 
 pub returns-clause-vertex : goal.returns-clause-vertex
-returns-clause-vertex c = λ key place seen moment v z h some. word_leads (IsOfBucket key) (IsBefore key) (vertex_words key) place seen moment v z h some
+returns-clause-vertex c = λ key place seen moment v z h some. word_leads (IsOfBucket key) (IsBefore key)
+    (vertex_words key) place seen moment v z h some
 
 pub returns-clause-edge : goal.returns-clause-edge
-returns-clause-edge c = λ source key place seen moment v z h some. (word_leads (IsOfSource source) (IsBeforeOf source key) (edge_words source key) place seen moment v z h some).1
+returns-clause-edge c = λ source key place seen moment v z h some.
+    (word_leads (IsOfSource source) (IsBeforeOf source key) (edge_words source key) place seen moment v z h some).1
 
 pub returns-clause-vertex_next : goal.returns-clause-vertex_next
-returns-clause-vertex_next c = λ key v x found link kept opened n below live. node_passed key (IsOfBucket key) (IsBefore key) (Lacks key) (vertex_walks key) v x found link kept opened n below live
+returns-clause-vertex_next c = λ key v x found link kept opened n below live. node_passed key (IsOfBucket key)
+    (IsBefore key) (Lacks key) (vertex_walks key) v x found link kept opened n below live
 
 pub returns-clause-edge_next : goal.returns-clause-edge_next
-returns-clause-edge_next c = λ source key v x found link kept opened n below live. node_passed key (IsOfSource source) (IsBeforeOf source key) (LacksEdge source key) (edge_walks source key) v x found link kept opened n below live
+returns-clause-edge_next c = λ source key v x found link kept opened n below live. node_passed key (IsOfSource source)
+    (IsBeforeOf source key) (LacksEdge source key) (edge_walks source key) v x found link kept opened n below live

@@ -1,6 +1,8 @@
 use Rattle.core_journal.specs.Worked.{small}
 use Rattle.core_worked.specs.TwoLives.{two_lives}
-use Rattle.core_worked.proofs.TwoLivesShown.{small_layout, kinds_stand, graph_added, graph_removed, graph_again, graph_gone, handed_over, fresh_again, linked_still, spent_still, freed, second_tag, free_last, words_last}
+use Rattle.core_worked.proofs.TwoLivesShown.{small_layout, kinds_stand, graph_added, graph_removed, graph_again}
+use Rattle.core_worked.proofs.TwoLivesShown.{graph_gone, handed_over, fresh_again, linked_still, spent_still, freed}
+use Rattle.core_worked.proofs.TwoLivesShown.{second_tag, free_last, words_last}
 use Rattle.core_kept.proofs.SafeReuse.{reuses_safely}
 use Rattle.core_worked.proofs.TwoLives.{two_lives_kept}
 use Rattle.core_worked.proofs.journals.a_node_has_two_lives.Goals as goal

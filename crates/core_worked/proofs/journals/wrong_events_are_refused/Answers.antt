@@ -1,4 +1,7 @@
-use Rattle.core_worked.proofs.Refusals.{refused_holding, refused_outside, refused_inside, refused_edgeless, refused_unraised, refused_late, refused_unmet, refused_unmet_source, refused_unmet_target, refused_unmet_list, refused_lagging, refused_early, refused_unclosed}
+use Rattle.core_worked.proofs.Refusals.{refused_holding, refused_outside, refused_inside, refused_edgeless}
+use Rattle.core_worked.proofs.Refusals.{refused_unraised, refused_late, refused_unmet, refused_unmet_source}
+use Rattle.core_worked.proofs.Refusals.{refused_unmet_target, refused_unmet_list, refused_lagging, refused_early}
+use Rattle.core_worked.proofs.Refusals.{refused_unclosed}
 use Rattle.core_worked.proofs.journals.wrong_events_are_refused.Goals as goal
 
 pub returns-clause-greedy : goal.returns-clause-greedy

@@ -1,4 +1,7 @@
-use Rattle.core_worked.proofs.WorkedAlike.{pop_too, store_too, link_vertex_too, mark_vertex_too, link_edge_too, raise_too, mark_edge_too, replace_too, unlink_edge_too, announce_too, withdraw_too, move_too, freeze_head_too, freeze_edge_too, store_free_too, push_too}
+use Rattle.core_worked.proofs.WorkedAlike.{pop_too, store_too, link_vertex_too, mark_vertex_too, link_edge_too}
+use Rattle.core_worked.proofs.WorkedAlike.{raise_too, mark_edge_too, replace_too, unlink_edge_too, announce_too}
+use Rattle.core_worked.proofs.WorkedAlike.{withdraw_too, move_too, freeze_head_too, freeze_edge_too, store_free_too}
+use Rattle.core_worked.proofs.WorkedAlike.{push_too}
 use Rattle.core_worked.proofs.laws_alike.worked_conditions_are_alike.Goals as goal
 
 pub returns-clause-pop : goal.returns-clause-pop

@@ -1,4 +1,7 @@
-use Rattle.core_worked.proofs.WorkedAlike.{life_too, met_edge_too, vertex_below_too, before_vertex_too, vertex_above_too, vertex_link_too, leads_to_vertex_too, edge_below_too, before_edge_too, edge_above_too, edge_link_too, leads_to_edge_too, none_fresh_too, target_too, retired_too, spent_too}
+use Rattle.core_worked.proofs.WorkedAlike.{life_too, met_edge_too, vertex_below_too, before_vertex_too}
+use Rattle.core_worked.proofs.WorkedAlike.{vertex_above_too, vertex_link_too, leads_to_vertex_too, edge_below_too}
+use Rattle.core_worked.proofs.WorkedAlike.{before_edge_too, edge_above_too, edge_link_too, leads_to_edge_too}
+use Rattle.core_worked.proofs.WorkedAlike.{none_fresh_too, target_too, retired_too, spent_too}
 use Rattle.core_worked.proofs.laws_alike.worked_facts_are_alike.Goals as goal
 
 pub returns-clause-life_at : goal.returns-clause-life_at

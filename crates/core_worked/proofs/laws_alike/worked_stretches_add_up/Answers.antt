@@ -1,4 +1,5 @@
-use Rattle.core_worked.proofs.WorkedAlike.{all_leave, all_elsewhere, none_own, none_looking, goes_itself, opened_still, goes_from_between, none_spent, two_spent, no_fewer_spent, few_spent, two_fit}
+use Rattle.core_worked.proofs.WorkedAlike.{all_leave, all_elsewhere, none_own, none_looking, goes_itself, opened_still}
+use Rattle.core_worked.proofs.WorkedAlike.{goes_from_between, none_spent, two_spent, no_fewer_spent, few_spent, two_fit}
 use Rattle.core_worked.proofs.laws_alike.worked_stretches_add_up.Goals as goal
 
 pub returns-clause-leaves : goal.returns-clause-leaves

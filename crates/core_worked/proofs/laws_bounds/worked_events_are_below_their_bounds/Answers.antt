@@ -1,4 +1,5 @@
-use Rattle.core_worked.proofs.WorkedBounds.{below_kinds, below_links, below_takes, below_each, below_counted, is_again, tries_few}
+use Rattle.core_worked.proofs.WorkedBounds.{below_kinds, below_links, below_takes, below_each, below_counted, is_again}
+use Rattle.core_worked.proofs.WorkedBounds.{tries_few}
 use Rattle.core_worked.proofs.laws_bounds.worked_events_are_below_their_bounds.Goals as goal
 
 pub returns-clause-by_kinds : goal.returns-clause-by_kinds

@@ -1,4 +1,5 @@
-use Rattle.core_worked.proofs.WorkedBounds.{apart_first, apart_raised, apart_beyond, held_first, all_done, four_raises, one_lost, few_lost}
+use Rattle.core_worked.proofs.WorkedBounds.{apart_first, apart_raised, apart_beyond, held_first, all_done, four_raises}
+use Rattle.core_worked.proofs.WorkedBounds.{one_lost, few_lost}
 use Rattle.core_worked.proofs.laws_bounds.worked_raises_are_few.Goals as goal
 
 pub returns-clause-other_kind : goal.returns-clause-other_kind

@@ -1,4 +1,5 @@
-use Rattle.core_worked.proofs.WorkedBounds.{two_keys_left, one_pair_left, few_of_table, whole_graph, only_graph, target_stays, replaced_handed}
+use Rattle.core_worked.proofs.WorkedBounds.{two_keys_left, one_pair_left, few_of_table, whole_graph, only_graph}
+use Rattle.core_worked.proofs.WorkedBounds.{target_stays, replaced_handed}
 use Rattle.core_worked.proofs.laws_bounds.worked_replacements_leave_the_rest.Goals as goal
 
 pub returns-clause-counted : goal.returns-clause-counted

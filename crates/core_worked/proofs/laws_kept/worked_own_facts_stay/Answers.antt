@@ -1,4 +1,5 @@
-use Rattle.core_worked.proofs.WorkedKept.{pass_between_others, fresh_between_others, none_between_others, four_taken, spent_between_others, one_drawn, two_not_met, two_ended, clear_of_zero}
+use Rattle.core_worked.proofs.WorkedKept.{pass_between_others, fresh_between_others, none_between_others, four_taken}
+use Rattle.core_worked.proofs.WorkedKept.{spent_between_others, one_drawn, two_not_met, two_ended, clear_of_zero}
 use Rattle.core_worked.proofs.laws_kept.worked_own_facts_stay.Goals as goal
 
 pub returns-clause-pass : goal.returns-clause-pass

@@ -1,4 +1,6 @@
-use Rattle.core_worked.proofs.WorkedKept.{ends_of_edge, vertex_is_new, edge_is_new, replacing_is_new, frozen_is_of_marked, was_free, second_life, same_link, linked_still, link_of_spent, link_stays, head_stays, epoch_rises}
+use Rattle.core_worked.proofs.WorkedKept.{ends_of_edge, vertex_is_new, edge_is_new, replacing_is_new}
+use Rattle.core_worked.proofs.WorkedKept.{frozen_is_of_marked, was_free, second_life, same_link, linked_still}
+use Rattle.core_worked.proofs.WorkedKept.{link_of_spent, link_stays, head_stays, epoch_rises}
 use Rattle.core_worked.proofs.laws_kept.worked_words_tell_the_state.Goals as goal
 
 pub returns-clause-ends : goal.returns-clause-ends

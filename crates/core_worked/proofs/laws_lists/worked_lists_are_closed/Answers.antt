@@ -1,4 +1,6 @@
-use Rattle.core_worked.proofs.WorkedLists.{head_closed, end_frozen, part_frozen, listed_before, all_ended, part_of_spender, on_chain_40, alive_40, removed_42, edge_of_0}
+use Rattle.core_worked.proofs.WorkedLists.{head_closed, end_frozen, part_frozen, listed_before, all_ended}
+use Rattle.core_worked.proofs.WorkedLists.{part_of_spender, on_chain_40, alive_40, removed_42, edge_of_0}
+use Rattle.core_worked.proofs.WorkedLists.{edge_linked_38}
 use Rattle.core_worked.proofs.laws_lists.worked_lists_are_closed.Goals as goal
 
 pub returns-clause-head : goal.returns-clause-head
@@ -30,3 +32,6 @@ returns-clause-removed c = removed_42
 
 pub returns-clause-edge_of : goal.returns-clause-edge_of
 returns-clause-edge_of c = edge_of_0
+
+pub returns-clause-edge_linked : goal.returns-clause-edge_linked
+returns-clause-edge_linked c = edge_linked_38

@@ -1,4 +1,5 @@
-use Rattle.core_worked.proofs.WorkedLists.{met_44, life_44, key_44, target_44, weight_44, source_44, unstored_44, link_44, stamp_45, stamp_47, ripe_47, stamp_48, ripe_48}
+use Rattle.core_worked.proofs.WorkedLists.{ripe_moved, met_44, life_44, key_44, target_44, weight_44, source_44}
+use Rattle.core_worked.proofs.WorkedLists.{unstored_44, link_44, stamp_45, stamp_47, ripe_47, stamp_48, ripe_48}
 use Rattle.core_worked.proofs.laws_lists.worked_met_nodes_keep_their_words.Goals as goal
 
 pub returns-clause-met : goal.returns-clause-met
@@ -39,3 +40,6 @@ returns-clause-stamp_behind c = stamp_48
 
 pub returns-clause-ripe_behind : goal.returns-clause-ripe_behind
 returns-clause-ripe_behind c = ripe_48
+
+pub returns-clause-ripe_beyond : goal.returns-clause-ripe_beyond
+returns-clause-ripe_beyond c = ripe_moved

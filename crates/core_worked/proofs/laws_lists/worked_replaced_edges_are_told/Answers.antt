@@ -1,4 +1,5 @@
-use Rattle.core_worked.proofs.WorkedLists.{leads_2, told_2, word_2, older_2, lower_2, lower_raised, source_unstored, counter_higher, edges_of_nodes, two_links}
+use Rattle.core_worked.proofs.WorkedLists.{leads_2, told_2, word_2, older_2, lower_2, lower_raised, source_unstored}
+use Rattle.core_worked.proofs.WorkedLists.{counter_higher, edges_of_nodes, two_links, two_few}
 use Rattle.core_worked.proofs.laws_lists.worked_replaced_edges_are_told.Goals as goal
 
 pub returns-clause-same_key : goal.returns-clause-same_key
@@ -30,3 +31,6 @@ returns-clause-caller c = edges_of_nodes
 
 pub returns-clause-links : goal.returns-clause-links
 returns-clause-links c = two_links
+
+pub returns-clause-all : goal.returns-clause-all
+returns-clause-all c = two_few

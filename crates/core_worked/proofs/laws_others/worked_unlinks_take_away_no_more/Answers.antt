@@ -1,4 +1,5 @@
-use Rattle.core_worked.proofs.WorkedOthers.{quiet_between, vertex_unlinked, edges_unlinked, three_listed, none_listed, taken_off, list_behind}
+use Rattle.core_worked.proofs.WorkedOthers.{quiet_between, vertex_unlinked, edges_unlinked, three_listed, none_listed}
+use Rattle.core_worked.proofs.WorkedOthers.{taken_off, list_behind}
 use Rattle.core_worked.proofs.laws_others.worked_unlinks_take_away_no_more.Goals as goal
 
 pub returns-clause-quiet : goal.returns-clause-quiet

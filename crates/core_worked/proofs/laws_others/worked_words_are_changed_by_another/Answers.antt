@@ -1,4 +1,5 @@
-use Rattle.core_worked.proofs.WorkedOthers.{free_by_another, bucket_by_another, bucket_by_unlink, counted_change, met_in_between}
+use Rattle.core_worked.proofs.WorkedOthers.{free_by_another, bucket_by_another, bucket_by_unlink, counted_change}
+use Rattle.core_worked.proofs.WorkedOthers.{met_in_between}
 use Rattle.core_worked.proofs.laws_others.worked_words_are_changed_by_another.Goals as goal
 
 pub returns-clause-free : goal.returns-clause-free

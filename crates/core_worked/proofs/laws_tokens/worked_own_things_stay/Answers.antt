@@ -1,4 +1,6 @@
-use Rattle.core_worked.proofs.WorkedTokens.{word_still, raises_still, spent_behind, words_behind, ripe_later, end_later, part_behind, end_behind, head_marked_behind, head_frozen, edge_frozen, found_spent, raised_for_linked}
+use Rattle.core_worked.proofs.WorkedTokens.{word_beyond, word_still, raises_still, spent_behind, words_behind}
+use Rattle.core_worked.proofs.WorkedTokens.{ripe_later, end_later, part_behind, end_behind, head_marked_behind}
+use Rattle.core_worked.proofs.WorkedTokens.{head_frozen, edge_frozen, found_spent, raised_for_linked}
 use Rattle.core_worked.proofs.LawSteps.{keeps_44}
 use Rattle.core_worked.proofs.laws_tokens.worked_own_things_stay.Goals as goal
 
@@ -43,3 +45,6 @@ returns-clause-raised c = raised_for_linked
 
 pub returns-clause-list : goal.returns-clause-list
 returns-clause-list c = keeps_44
+
+pub returns-clause-others : goal.returns-clause-others
+returns-clause-others c = word_beyond

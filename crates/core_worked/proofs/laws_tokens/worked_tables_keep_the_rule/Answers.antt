@@ -1,4 +1,5 @@
-use Rattle.core_worked.proofs.WorkedTokens.{new_ruled, draw_allowed, store_allowed, last_ruled, last_whole, last_word, all_quiet}
+use Rattle.core_worked.proofs.WorkedTokens.{change_allowed, word_closed, new_ruled, draw_allowed, store_allowed}
+use Rattle.core_worked.proofs.WorkedTokens.{last_ruled, last_whole, last_word, all_quiet}
 use Rattle.core_worked.proofs.laws_tokens.worked_tables_keep_the_rule.Goals as goal
 
 pub returns-clause-new : goal.returns-clause-new
@@ -21,3 +22,9 @@ returns-clause-word c = last_word
 
 pub returns-clause-quiet : goal.returns-clause-quiet
 returns-clause-quiet c = all_quiet
+
+pub returns-clause-change : goal.returns-clause-change
+returns-clause-change c = change_allowed
+
+pub returns-clause-closed_word : goal.returns-clause-closed_word
+returns-clause-closed_word c = word_closed

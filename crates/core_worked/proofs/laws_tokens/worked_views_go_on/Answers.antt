@@ -1,4 +1,6 @@
-use Rattle.core_worked.proofs.WorkedTokens.{looked_52, win_41, goes_pass, goes_chain, vertex_later, edge_later, dead_later, below_later, leads_later, raised_later}
+use Rattle.core_worked.proofs.WorkedTokens.{store_34, reply_45, meet_45, looked_52, win_41, goes_pass, goes_chain}
+use Rattle.core_worked.proofs.WorkedTokens.{vertex_later, edge_later, dead_later, below_later, leads_later}
+use Rattle.core_worked.proofs.WorkedTokens.{raised_later}
 use Rattle.core_worked.proofs.laws_tokens.worked_views_go_on.Goals as goal
 
 pub returns-clause-look : goal.returns-clause-look
@@ -30,3 +32,12 @@ returns-clause-leads c = leads_later
 
 pub returns-clause-raised : goal.returns-clause-raised
 returns-clause-raised c = raised_later
+
+pub returns-clause-store : goal.returns-clause-store
+returns-clause-store c = store_34
+
+pub returns-clause-reply : goal.returns-clause-reply
+returns-clause-reply c = reply_45
+
+pub returns-clause-meet : goal.returns-clause-meet
+returns-clause-meet c = meet_45

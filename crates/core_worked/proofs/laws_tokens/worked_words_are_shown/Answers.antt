@@ -1,4 +1,6 @@
-use Rattle.core_worked.proofs.WorkedTokens.{bucket_leads, vertex_leads, list_leads, edge_leads, life_told, second_told, key_told, present_told, removed_told, edge_told, unmarked_told, marked_told, raise_told, no_vertex_told, no_edge_told}
+use Rattle.core_worked.proofs.WorkedTokens.{bucket_leads, vertex_leads, list_leads, edge_leads, life_told, second_told}
+use Rattle.core_worked.proofs.WorkedTokens.{key_told, present_told, removed_told, edge_told, unmarked_told, marked_told}
+use Rattle.core_worked.proofs.WorkedTokens.{raise_told, no_vertex_told, no_edge_told}
 use Rattle.core_worked.proofs.laws_tokens.worked_words_are_shown.Goals as goal
 
 pub returns-clause-bucket : goal.returns-clause-bucket

@@ -1,4 +1,5 @@
-use Rattle.core_worked.proofs.LawSteps.{whole_list, freezing_leaves, edge_stays_behind, retired_behind, room_at_44, numbers_counted, closing_ruled, closing_whole}
+use Rattle.core_worked.proofs.LawSteps.{whole_list, freezing_leaves, edge_stays_behind, retired_behind, room_at_44}
+use Rattle.core_worked.proofs.LawSteps.{numbers_counted, closing_ruled, closing_whole}
 use Rattle.core_worked.proofs.laws_views.laws_of_removal_meet_a_worked_journal.Goals as goal
 
 pub returns-clause-path : goal.returns-clause-path

@@ -1,4 +1,5 @@
-use Rattle.core_worked.proofs.LawSteps.{own_elsewhere, moment_between, met_drawing, unlink_drawing, tag_low, epoch_is_low, life_is_low, one_more_spent}
+use Rattle.core_worked.proofs.LawSteps.{own_elsewhere, moment_between, met_drawing, unlink_drawing, tag_low}
+use Rattle.core_worked.proofs.LawSteps.{epoch_is_low, life_is_low, one_more_spent}
 use Rattle.core_worked.proofs.laws_views.laws_of_stretches_meet_a_worked_journal.Goals as goal
 
 pub returns-clause-own : goal.returns-clause-own

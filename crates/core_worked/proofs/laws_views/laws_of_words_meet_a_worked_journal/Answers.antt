@@ -1,4 +1,5 @@
-use Rattle.core_worked.proofs.LawSteps.{fresh_3_stored, fresh_3_held, spent_2_kept, head_tells, target_tells, target_stays}
+use Rattle.core_worked.proofs.LawSteps.{fresh_3_stored, fresh_3_held, spent_2_kept, head_tells, target_tells}
+use Rattle.core_worked.proofs.LawSteps.{target_stays}
 use Rattle.core_worked.proofs.laws_views.laws_of_words_meet_a_worked_journal.Goals as goal
 
 pub returns-clause-stored : goal.returns-clause-stored

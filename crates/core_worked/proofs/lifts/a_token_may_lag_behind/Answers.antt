@@ -1,4 +1,5 @@
-use Rattle.core_worked.proofs.TwoCallersKept.{among_mark, makes_mark, among_unlink, makes_unlink, among_freeze, makes_freeze, among_link, makes_link}
+use Rattle.core_worked.proofs.TwoCallersKept.{among_mark, makes_mark, among_unlink, makes_unlink, among_freeze}
+use Rattle.core_worked.proofs.TwoCallersKept.{makes_freeze, among_link, makes_link}
 use Rattle.core_worked.proofs.lifts.a_token_may_lag_behind.Goals as goal
 
 pub returns-clause-mark_vertex : goal.returns-clause-mark_vertex

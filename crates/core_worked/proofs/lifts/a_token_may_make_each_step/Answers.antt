@@ -1,4 +1,11 @@
-use Rattle.core_worked.proofs.KnownSteps.{may_pop, makes_pop, may_store, makes_store, may_link_vertex, makes_link_vertex, may_mark_vertex, makes_mark_vertex, may_unlink_vertex, makes_unlink_vertex, may_link_edge, makes_link_edge, may_raise, makes_raise, may_mark_edge, makes_mark_edge, may_unlink_edge, makes_unlink_edge, may_announce, makes_announce, may_withdraw, makes_withdraw, may_move, makes_move, may_freeze_head, makes_freeze_head, may_freeze_edge, makes_freeze_edge, may_store_edge, makes_store_edge, may_store_vertex, makes_store_vertex, may_push, makes_push}
+use Rattle.core_worked.proofs.KnownSteps.{may_pop, makes_pop, may_store, makes_store, may_link_vertex}
+use Rattle.core_worked.proofs.KnownSteps.{makes_link_vertex, may_mark_vertex, makes_mark_vertex, may_unlink_vertex}
+use Rattle.core_worked.proofs.KnownSteps.{makes_unlink_vertex, may_link_edge, makes_link_edge, may_raise, makes_raise}
+use Rattle.core_worked.proofs.KnownSteps.{may_mark_edge, makes_mark_edge, may_unlink_edge, makes_unlink_edge}
+use Rattle.core_worked.proofs.KnownSteps.{may_announce, makes_announce, may_withdraw, makes_withdraw, may_move}
+use Rattle.core_worked.proofs.KnownSteps.{makes_move, may_freeze_head, makes_freeze_head, may_freeze_edge}
+use Rattle.core_worked.proofs.KnownSteps.{makes_freeze_edge, may_store_edge, makes_store_edge, may_store_vertex}
+use Rattle.core_worked.proofs.KnownSteps.{makes_store_vertex, may_push, makes_push}
 use Rattle.core_worked.proofs.ReplacingSteps.{may_replace, makes_replace}
 use Rattle.core_worked.proofs.lifts.a_token_may_make_each_step.Goals as goal
 

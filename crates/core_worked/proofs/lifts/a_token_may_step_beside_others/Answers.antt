@@ -1,4 +1,6 @@
-use Rattle.core_worked.proofs.Beside.{may_link_before, makes_link_before, may_edge_before, makes_edge_before, may_unlink_behind, makes_unlink_behind, may_edge_behind, makes_edge_behind, may_freeze_behind, makes_freeze_behind}
+use Rattle.core_worked.proofs.Beside.{may_link_before, makes_link_before, may_edge_before, makes_edge_before}
+use Rattle.core_worked.proofs.Beside.{may_unlink_behind, makes_unlink_behind, may_edge_behind, makes_edge_behind}
+use Rattle.core_worked.proofs.Beside.{may_freeze_behind, makes_freeze_behind}
 use Rattle.core_worked.proofs.lifts.a_token_may_step_beside_others.Goals as goal
 
 pub returns-clause-vertex_before : goal.returns-clause-vertex_before

@@ -2,8 +2,11 @@ use Rattle.core_journal.specs.Worked.{small}
 use Rattle.core_worked.specs.Replacing.{replacing_journal}
 use Rattle.core_worked.proofs.TwoLivesShown.{small_layout}
 use Rattle.core_worked.proofs.Replacing.{replacing_kept}
-use Rattle.core_worked.proofs.ReplacingBooks.{replacing_regular, replacing_apart, replacing_true, replacing_closed, replacing_items, replacing_legal}
-use Rattle.core_worked.proofs.ReplacingShown.{replacing_kinds, graph_once, graph_twice, graph_then, graph_anew, graph_replaced, graph_end, list_twice, list_end, marked_twice, handed_head, handed_last, given_back, free_end, words_end}
+use Rattle.core_worked.proofs.ReplacingBooks.{replacing_interleaves, replacing_regular, replacing_apart, replacing_true}
+use Rattle.core_worked.proofs.ReplacingBooks.{replacing_closed, replacing_items, replacing_legal}
+use Rattle.core_worked.proofs.ReplacingShown.{replacing_kinds, graph_once, graph_twice, graph_then, graph_anew}
+use Rattle.core_worked.proofs.ReplacingShown.{graph_replaced, graph_end, list_twice, list_end, marked_twice}
+use Rattle.core_worked.proofs.ReplacingShown.{handed_head, handed_last, given_back, free_end, words_end}
 use Rattle.core_kept.proofs.SafeReuse.{reuses_safely}
 use Rattle.core_worked.proofs.replacements.an_edge_is_replaced.Goals as goal
 
@@ -75,3 +78,6 @@ returns-clause-history c = replacing_items
 
 pub returns-clause-legal : goal.returns-clause-legal
 returns-clause-legal c = replacing_legal
+
+pub returns-clause-interleaves : goal.returns-clause-interleaves
+returns-clause-interleaves c = replacing_interleaves

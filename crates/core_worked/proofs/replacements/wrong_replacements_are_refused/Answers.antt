@@ -1,4 +1,5 @@
-use Rattle.core_worked.proofs.ReplacingSteps.{refused_not_raised, refused_same_weight, refused_other_target, refused_marked}
+use Rattle.core_worked.proofs.ReplacingSteps.{refused_not_raised, refused_same_weight, refused_other_target}
+use Rattle.core_worked.proofs.ReplacingSteps.{refused_marked}
 use Rattle.core_worked.proofs.replacements.wrong_replacements_are_refused.Goals as goal
 
 pub returns-clause-unraised : goal.returns-clause-unraised

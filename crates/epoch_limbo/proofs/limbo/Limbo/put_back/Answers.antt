@@ -7,4 +7,7 @@ pub returns : goal.returns
 returns c =
     let old : LimboValue = record { nodes = c.self.inside.nodes.items; room = c.self.inside.room } in
     let new : LimboValue = record { nodes = c.push_front_reserved.new.self.items; room = c.self.inside.room } in
-    record { back = subst (λ (o : LimboValue). IsPutBack o new c.args.ripe) c.self.view_is (is_put_back old new c.args.ripe c.push_front_reserved.ensures.items refl) }
+    record {
+      back = subst (λ (o : LimboValue). IsPutBack o new c.args.ripe) c.self.view_is
+          (is_put_back old new c.args.ripe c.push_front_reserved.ensures.items refl);
+    }

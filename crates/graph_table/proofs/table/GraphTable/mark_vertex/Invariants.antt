@@ -3,5 +3,5 @@ use Rattle.packed_link.specs.Link.{mark_of}
 use Rattle.core_rule.specs.OwnEvents.{mark_vertex_event}
 use Rattle.graph_table.proofs.table.GraphTable.mark_vertex.Given as goal
 
-abbrev pub ghosts-set_bits : goal.ghosts-set_bits
-ghosts-set_bits a = record { wins = λ n. mark_of n == 0; event = λ n. mark_vertex_event a.token.now.view a._life n }
+abbrev pub ghosts-set_mark : goal.ghosts-set_mark
+ghosts-set_mark a = record { wins = λ n. mark_of n == 0; event = λ n. mark_vertex_event a.token.now.view a.life n }

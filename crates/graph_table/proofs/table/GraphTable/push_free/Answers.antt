@@ -1,6 +1,7 @@
 use Rattle.std.proofs.Common.{rules, refl, arith, sym, subst}
 use Rattle.graph_table.specs.Tokens.{RipeValue}
-use Rattle.graph_table.proofs.Owed.{exchange_owes, free_tag}
+use Rattle.graph_table.proofs.Owed.{exchange_owes}
+use Rattle.core_rule.proofs.CallLimits.{free_tag_low}
 use Rattle.core_rule.specs.OwnEvents.{push_event}
 use Rattle.core_rule.specs.Fronts.{MayPushFree}
 use Rattle.core_rule.proofs.OwnLifts.{lift_push}
@@ -10,7 +11,7 @@ pub pack-new-requires-clause-tag_fits : goal.pack-new-requires-clause-tag_fits
 pack-new-requires-clause-tag_fits c =
     let v = c.args.token.now.view in
     let m = subst (λ (y : RipeValue). MayPushFree v c.args.seen.0 y.life) (sym c.ripe.view_is) c.requires.may in
-    omega (arith, c.tag.ensures.tag, free_tag v.sizes c.requires.table.layout m.first v.front m.before c.requires.table.sound.kept c.args.seen.0 m.word)
+    omega (arith, c.tag.ensures.tag, free_tag_low v c.requires.table.layout c.requires.table.sound.kept m.first m.before c.args.seen.0 m.word)
 
 pub exchange-found-requires-clause-owes : goal.exchange-found-requires-clause-owes
 exchange-found-requires-clause-owes c = let x = c.ripe.inside.life in

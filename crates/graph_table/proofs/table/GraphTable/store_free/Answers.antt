@@ -4,7 +4,7 @@ use Rattle.graph_table.proofs.Owed.{store_owes}
 use Rattle.core_rule.specs.OwnEvents.{store_free_event}
 use Rattle.core_rule.specs.Fronts.{MayStoreFree}
 use Rattle.core_rule.proofs.FreezeLifts.{lift_store_free}
-use Rattle.core_kept.proofs.NoWrap.{bounds}
+use Rattle.core_rule.proofs.CallLimits.{life_tag_low}
 use Rattle.graph_table.proofs.table.GraphTable.store_free.Goals as goal
 
 pub pack-word-requires-clause-tag_fits : goal.pack-word-requires-clause-tag_fits
@@ -12,7 +12,7 @@ pack-word-requires-clause-tag_fits c =
     let x = c.ripe.inside.life in
     let v = c.args.token.now.view in
     let m = subst (λ (y : RipeValue). MayStoreFree v c.args.next y.life) (sym c.ripe.view_is) c.requires.may in
-    omega (arith, m.life.tag, (bounds v.sizes c.requires.table.layout v.front c.requires.table.sound.kept).lives x.index)
+    omega (arith, life_tag_low v c.requires.table.layout c.requires.table.sound.kept x m.life)
 
 pub put-requires-clause-owes : goal.put-requires-clause-owes
 put-requires-clause-owes c = let x = c.ripe.inside.life in

@@ -1,0 +1,2 @@
+pub mod BurialLists
+pub mod BurialSteps
