@@ -51,8 +51,8 @@ abbrev pub MatchUnlinked : Unlinked → PositionValue → View → View → Type
 MatchUnlinked (UnlinkDone x q) p v w = IsUnlinked p v w x q
 MatchUnlinked UnlinkLost p v w = IsLost p v w
 
--- the vertex is linked by the last event of the front, which adds its key to the graph; it was the only fresh node of the
--- token, which holds none now
+-- the vertex is linked by the last event of the front, which adds its key to the graph; it was the only fresh node of
+-- the token, which holds none now
 pub record IsLinked (p : PositionValue) (x : Life) (v w : View) : Type 0 where
   pub makes : Makes v (link_vertex_event v p.place p.word p.key x ∷ []) w
   pub carries : Carries (AddVertex p.key) (link_vertex_event v p.place p.word p.key x) w

@@ -38,8 +38,8 @@ MatchFound (Here s) p w = IsHere p w s
 MatchFound (Gone q) p w = IsGone p w q
 MatchFound (Dead q) p w = IsDeadEnd p w q
 
--- a step came to the vertex to which the position's word leads: when its link was loaded it was present, with the key of
--- the new position, which stands behind it. Behind a position that was passed, that key is greater
+-- a step came to the vertex to which the position's word leads: when its link was loaded it was present, with the key
+-- of the new position, which stands behind it. Behind a position that was passed, that key is greater
 pub record IsAt (p : PositionValue) (v w : View) (x : Life) (q : PositionValue) : Type 0 where
   pub leads : index_of p.word ≡ x.index
   pub met : MetVertex w x

@@ -14,8 +14,8 @@ ghost use Rattle.vertex_list.specs.Positions.{IsGap, IsPosition, LeadsToDead, Po
 /// A position stays one where each event that its token made since then stays in the pass and stands at another place,
 /// as where the token freezes the list of a vertex that it unlinked and retires its edges. The key is missing behind
 /// it still where it was, and the vertex to which it leads is marked still where it was. The place of a position is
-/// that of a bucket or the link of a vertex that was met. No word of a fresh node is one, so filling the node leaves the
-/// position, and so do taking a node and steps on edges.
+/// that of a bucket or the link of a vertex that was met. No word of a fresh node is one, so filling the node leaves
+/// the position, and so do taking a node and steps on edges.
 pub fn positions_go_on()
     ensures position { (passed : Bool) (v w : View) (own : List Event) (p : PositionValue) → Every StaysInPass own
         → Every (λ e. e.place ≢ p.place) own → Makes v own w → IsPosition passed v p → IsPosition passed w p }

@@ -7,8 +7,8 @@ use packed_link::Link;
 use std::marker::Model;
 use std::snapshot::Snapshot;
 
-/// A word of a bucket's list that a token loaded: that of the bucket itself, or the link of a vertex. It's handed on and
-/// not copied, for it has the moment of its load, which takes no bytes and can't be made anew.
+/// A word of a bucket's list that a token loaded: that of the bucket itself, or the link of a vertex. It's handed on
+/// and not copied, for it has the moment of its load, which takes no bytes and can't be made anew.
 #[derive(Drop)]
 pub struct Position {
     pub(crate) key: u32,

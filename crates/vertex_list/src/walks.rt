@@ -29,8 +29,8 @@ pub enum Found {
     Dead(Position),
 }
 
-/// Where one step through a list came: to a vertex, with the position behind it; to the end; or to a marked vertex, with
-/// the position before it.
+/// Where one step through a list came: to a vertex, with the position behind it; to the end; or to a marked vertex,
+/// with the position before it.
 #[derive(Drop)]
 pub enum Stepped {
     At(Life, Position),
@@ -126,9 +126,9 @@ pub fn walk(table: &GraphTable, token: &mut Token, position: Position) -> Found
 }
 
 /// Goes on by one vertex, in O(1): two loads. `At`: when the link of the vertex to which the position's word leads was
-/// loaded, the vertex was linked and unmarked; the position that is handed back stands behind it and has its key. From a
-/// position that a step handed back, the key is greater. `End` comes exactly where the word leads to no vertex. `Dead`:
-/// the link of the vertex is marked, and the same position is handed back.
+/// loaded, the vertex was linked and unmarked; the position that is handed back stands behind it and has its key. From
+/// a position that a step handed back, the key is greater. `End` comes exactly where the word leads to no vertex.
+/// `Dead`: the link of the vertex is marked, and the same position is handed back.
 pub fn step(table: &GraphTable, token: &mut Token, position: Position) -> Stepped
     requires table { IsOf table.now token.old }
     requires number { token.old.view.numbered ≡ true }
