@@ -1,9 +1,10 @@
-//! A pass is opened; in it a vertex is prepared for its bucket, found, marked and unlinked, and the list stepped through.
+//! A pass is opened; in it a vertex is prepared for its bucket, found, marked and unlinked, and its list stepped
+//! through.
 
 ghost use Rattle.std.specs.Prelude.{◌≡◌, ◌<◌, ◌+◌, true, false, IfSome};
 ghost use Rattle.core_rule.specs.Fronts.{MetVertex};
 ghost use Rattle.graph_table.specs.Tokens.{IsOf};
-ghost use Rattle.table_calls.specs.Resting.{IsNew};
+ghost use Rattle.table_calls.specs.Resting.{IsResting, uses_of};
 ghost use Rattle.vertex_list.specs.Positions.{IsAnyPosition, IsPosition, LeadsToDead};
 ghost use Rattle.vertex_list.specs.Walks.{MatchFound, MatchStepped};
 ghost use Rattle.vertex_calls.specs.Ready.{IsPrepared, IsReady, is_done};
@@ -19,7 +20,8 @@ use vertex_list::{
 /// Opens the pass of the token's caller.
 pub fn open(table: &GraphTable, token: &mut Token)
     requires table { IsOf table.now token.old }
-    requires new { IsNew false token.old.view }
+    requires resting { IsResting false token.old.view }
+    requires uses { uses_of token.old.view ≡ 0 }
     ensures table { IsOf table.now token.new }
     ensures ready { IsReady 0 token.new.view }
 {
