@@ -1,18 +1,16 @@
 -- A token that is ready stays so over what it makes in its pass, where it takes no node.
-use Rattle.std.proofs.Common.{◌≡◌, ◌≢◌, ℕ, ◌+◌, ◌<◌, ◌≤◌, true, false, List, [], ◌∷◌, refl, sym, ap, ◌∙◌, subst, arith}
+use Rattle.std.proofs.Common.{◌≡◌, ◌≢◌, ℕ, ◌+◌, ◌<◌, ◌≤◌, true, false, List, [], ◌∷◌, refl, sym, ◌∙◌, subst, arith}
 use Rattle.std.proofs.Common.{⊎_elim}
 use Rattle.graph_kinds.specs.History.{Every}
 use Rattle.packed_link.specs.Link.{index_of}
-use Rattle.packed_link.specs.Layout.{Sizes, IsLayout, bucket_at, free_at, link_at}
+use Rattle.packed_link.specs.Layout.{IsLayout, bucket_at, free_at}
 use Rattle.packed_link.specs.declared.link.Life.{Life}
 use Rattle.core_journal.specs.Event.{pops}
-use Rattle.core_journal.specs.Reuse.{pass_in}
 use Rattle.core_journal.specs.declared.event.Event.{Event}
 use Rattle.core_journal.specs.declared.event.Kind.TheVariants.{PopFree}
 use Rattle.core_kept.specs.Counts.{made}
 use Rattle.core_rule.specs.Fronts.{IsVertexLink, MetVertex}
 use Rattle.core_rule.specs.OwnEvents.{announce_event, pop_event}
-use Rattle.core_rule.specs.Stretches.{HasNoFresh, HasPass}
 use Rattle.core_rule.specs.declared.view.View.{View}
 use Rattle.core_rule.proofs.OwnStretch.{goes_opened}
 use Rattle.core_rule.proofs.ViewShows.{vertex_still}

@@ -1,7 +1,6 @@
-use Rattle.std.proofs.Common.{arith, ap, sym, ◌∙◌, ◌≡◌, [], ℕ}
+use Rattle.std.proofs.Common.{arith, ap, sym, ◌∙◌, []}
 use Rattle.packed_link.specs.Link.{index_of}
 use Rattle.core_stretches.proofs.MakesAddUp.{makes_chain}
-use Rattle.vertex_list.specs.Positions.{PositionValue}
 use Rattle.vertex_calls.proofs.ReadyStays.{prepared, ready_looks}
 use Rattle.vertex_calls.proofs.calls.prepare.Goals as goal
 
