@@ -1,5 +1,6 @@
 -- What unlinking a marked vertex tells: the load of its link, and the exchange behind it.
-use Rattle.std.proofs.Common.{◌≡◌, ◌≢◌, ℕ, ◌<◌, Bool, true, false, List, [], ◌∷◌, ◌++◌, Some, refl, sym, ap, ap₂, ◌∙◌, subst, arith}
+use Rattle.std.proofs.Common.{◌≡◌, ◌≢◌, ℕ, ◌<◌, Bool, true, false, List, [], ◌∷◌, ◌++◌, Some, refl, sym, ap, ap₂, ◌∙◌}
+use Rattle.std.proofs.Common.{subst, arith}
 use Rattle.packed_link.specs.Link.{pack, index_of, mark_of, tag_of}
 use Rattle.packed_link.specs.Layout.{Sizes, IsLayout, link_at}
 use Rattle.packed_link.specs.declared.link.Life.{Life}
@@ -35,7 +36,8 @@ use Rattle.graph_table.specs.Table.{Missed}
 use Rattle.vertex_list.specs.Changes.{IsLost, IsUnlinked}
 use Rattle.vertex_list.specs.Positions.{PositionValue, IsPosition, LeadsToDead}
 use Rattle.vertex_list.proofs.ChangesTell.{lost}
-use Rattle.vertex_list.proofs.PositionsGoOn.{IsVertexAt, IsPlaceOf, as_position, as_word, place_leads_on, place_still, position_goes, position_words}
+use Rattle.vertex_list.proofs.PositionsGoOn.{IsVertexAt, IsPlaceOf, as_position, as_word, place_leads_on, place_still}
+use Rattle.vertex_list.proofs.PositionsGoOn.{position_goes, position_words}
 
 -- a marked vertex to which a position leads, after a load of its link
 pub record IsDeadSeen (v m : View) (p : PositionValue) (x : Life) (link : ℕ) : Type 0 where
@@ -46,19 +48,26 @@ pub record IsDeadSeen (v m : View) (p : PositionValue) (x : Life) (link : ℕ) :
   pub link_is : word_at m.sizes m.front (link_at m.sizes x.index) ≡ link
   pub dead : mark_of link ≡ 1
 
-pub dead_seen : (v m : View) (p : PositionValue) (at index link tag : ℕ) → IsLayout v.sizes → v.numbered ≡ true → IsSound v → LeadsToDead v p → Looked v at link m → at ≡ link_at v.sizes index → index ≡ index_of p.word → tag ≡ tag_of link → IsDeadSeen v m p (record { index = index; tag = tag }) link
+pub dead_seen : (v m : View) (p : PositionValue) (at index link tag : ℕ) → IsLayout v.sizes → v.numbered ≡ true
+    → IsSound v → LeadsToDead v p → Looked v at link m → at ≡ link_at v.sizes index → index ≡ index_of p.word
+    → tag ≡ tag_of link → IsDeadSeen v m p (record { index = index; tag = tag }) link
 dead_seen v m p at index link tag z has s d l at_is index_is tag_is =
     let makes = makes_look v m at link has s l in
     let g = makes_goes v m [] tt makes in
     let sizes = goes_sizes v m g in
     let x = d.vertex in
     let met = vertex_still v m z g x d.met in
-    let here : word_at m.sizes m.front (link_at m.sizes index) ≡ link = ap₂ (λ (y : Sizes) (i : ℕ). word_at y m.front i) sizes (ap (λ (y : Sizes). link_at y index) sizes ∙ sym at_is) ∙ sym l.word in
+    let here : word_at m.sizes m.front (link_at m.sizes index) ≡ link = ap₂
+    (λ (y : Sizes) (i : ℕ). word_at y m.front i) sizes (ap (λ (y : Sizes). link_at y index) sizes ∙ sym at_is)
+    ∙ sym l.word in
     let same_index : index ≡ x.index = index_is ∙ d.leads in
     let still = dead_still v m z g x.index d.met.life.there d.met.met d.dead in
-    let link_is : word_at m.sizes m.front (link_at m.sizes x.index) ≡ link = ap (λ (i : ℕ). word_at m.sizes m.front (link_at m.sizes i)) (sym same_index) ∙ here in
+    let link_is : word_at m.sizes m.front (link_at m.sizes x.index) ≡ link = ap
+    (λ (i : ℕ). word_at m.sizes m.front (link_at m.sizes i)) (sym same_index) ∙ here in
     let dead : mark_of (word_at m.sizes m.front (link_at m.sizes x.index)) ≡ 1 = ap mark_of still ∙ d.dead in
-    let same : record { index = index; tag = tag } ≡ x = ap₂ (λ (i t : ℕ). record { index = i; tag = t }) same_index (tag_is ∙ (ap tag_of (sym link_is) ∙ life_shown m (subst IsLayout (sym sizes) z) l.sound.kept x met.life met.met)) in
+    let same : record { index = index; tag = tag } ≡ x = ap₂ (λ (i t : ℕ). record { index = i; tag = t }) same_index
+    (tag_is ∙ (ap tag_of (sym link_is) ∙ life_shown m
+    (subst IsLayout (sym sizes) z) l.sound.kept x met.life met.met)) in
     record {
       makes = makes;
       goes = g;
@@ -69,14 +78,17 @@ dead_seen v m p at index link tag z has s d l at_is index_is tag_is =
     }
 
 -- the list of a vertex that is unlinked is open at its head
-open_behind : (sizes : Sizes) → IsLayout sizes → (past : List Event) (e : Event) → IsKept sizes (past ++ e ∷ []) → e.kind ≡ UnlinkVertex → (state sizes (past ++ e ∷ [])).frozen e.life.index ≡ false
+open_behind : (sizes : Sizes) → IsLayout sizes → (past : List Event) (e : Event) → IsKept sizes (past ++ e ∷ [])
+    → e.kind ≡ UnlinkVertex → (state sizes (past ++ e ∷ [])).frozen e.life.index ≡ false
 open_behind sizes z past e kept is =
-    let ok : IsUnlinkVertex sizes past e = subst (λ (k : Kind). AllowedAs k sizes past e) is (last_allowed sizes past e kept).as_kind in
+    let ok : IsUnlinkVertex sizes past e = subst (λ (k : Kind). AllowedAs k sizes past e) is
+    (last_allowed sizes past e kept).as_kind in
     ap (λ (s : State). s.frozen e.life.index) (state-snoc sizes past e)
     ∙ (ap (λ (k : Kind). (state_by k sizes e (state sizes past)).frozen e.life.index) is
     ∙ unclosed sizes z past (past_kept sizes past e kept) e.life.index ok.linked.linked)
 
-module _ (passed : Bool) (v m : View) (p : PositionValue) (x : Life) (link next : ℕ) (z : IsLayout v.sizes) (h : IsPosition passed v p) (d : IsDeadSeen v m p x link) (next_is : next ≡ index_of link) where
+module _ (passed : Bool) (v m : View) (p : PositionValue) (x : Life) (link next : ℕ) (z : IsLayout v.sizes)
+    (h : IsPosition passed v p) (d : IsDeadSeen v m p x link) (next_is : next ≡ index_of link) where
   here : IsPosition passed m p
   here = position_goes passed v m p d.goes (makes_own (λ (e : Event). e.place ≢ p.place) v m [] tt d.makes) h
 
@@ -87,7 +99,9 @@ module _ (passed : Bool) (v m : View) (p : PositionValue) (x : Life) (link next 
   may_unlink =
       let a = here in record {
         pass = goes_opened a.then m a.goes a.pass;
-        before = place_leads_on passed p.key m layout p.place (place_still passed p.key a.then m (subst IsLayout (goes_sizes a.then m a.goes) layout) a.goes p.place a.stands);
+        before = place_leads_on passed p.key m layout p.place
+            (place_still passed p.key a.then m (subst IsLayout
+            (goes_sizes a.then m a.goes) layout) a.goes p.place a.stands);
         unmarked = a.unmarked;
         leads = d.leads;
         vertex = d.vertex;
@@ -95,57 +109,85 @@ module _ (passed : Bool) (v m : View) (p : PositionValue) (x : Life) (link next 
         next_is = next_is ∙ ap index_of (sym d.link_is);
       }
 
-  pub unlink_lost : (w : View) (found : ℕ) → IsLayout w.sizes → m.numbered ≡ true → IsSound m → Missed m p.place p.word found w → IsLost p v w
+  pub unlink_lost : (w : View) (found : ℕ) → IsLayout w.sizes → m.numbered ≡ true → IsSound m
+      → Missed m p.place p.word found w → IsLost p v w
   unlink_lost w found z' has s missed =
       let l = lost passed m w p found z' has s here missed in
       record { makes = makes_chain v m w [] [] d.makes l.makes; changed = l.changed }
 
   -- a vertex that is unlinked wasn't spent with the token before
-  not_spent : (w : View) (e : Event) → Steps v (Some e) w → e.kind ≡ UnlinkVertex → e.life.index ≡ x.index → x.index < v.sizes.nodes → IsSpentWith v.sizes v.front v.number x.index → ⊥
+  not_spent : (w : View) (e : Event) → Steps v (Some e) w → e.kind ≡ UnlinkVertex → e.life.index ≡ x.index
+      → x.index < v.sizes.nodes → IsSpentWith v.sizes v.front v.number x.index → ⊥
   not_spent w e t is same there f =
       let r = t.reaches in
       let still = spent_stays v.sizes z v.number v.last x.index there v.front t.grown r.front r.kept r.quiet r.old f in
-      let ok : IsUnlinkVertex v.sizes t.grown e = subst (λ (k : Kind). AllowedAs k v.sizes t.grown e) is (last_allowed v.sizes t.grown e (subst (λ (j : List Event). IsKept v.sizes j) t.front t.kept)).as_kind in
+      let ok : IsUnlinkVertex v.sizes t.grown e = subst (λ (k : Kind). AllowedAs k v.sizes t.grown e) is
+      (last_allowed v.sizes t.grown e (subst (λ (j : List Event). IsKept v.sizes j) t.front t.kept)).as_kind in
       let was : (node_in v.sizes t.grown x.index).mode ≡ Spent = ap (λ (n : Node). n.mode) still.node ∙ f.spent in
-      let linked : (node_in v.sizes t.grown x.index).mode ≡ Linked = ap (λ (y : ℕ). (node_in v.sizes t.grown y).mode) (sym same) ∙ ok.linked.linked in
+      let linked : (node_in v.sizes t.grown x.index).mode ≡ Linked = ap (λ (y : ℕ). (node_in v.sizes t.grown y).mode)
+      (sym same) ∙ ok.linked.linked in
       absurd (cc)
 
-  pub unlinked : (w : View) (q : PositionValue) → m.numbered ≡ true → IsSound m → Won m p.place p.word (unlink_vertex_event m p.place p.word next x) w → next < 16777216 → q ≡ record { key = p.key; place = p.place; word = pack next 0 (tag_of p.word); moment = w.front } → IsUnlinked p v w x q
+  pub unlinked : (w : View) (q : PositionValue) → m.numbered ≡ true → IsSound m
+      → Won m p.place p.word (unlink_vertex_event m p.place p.word next x) w → next < 16777216
+      → q ≡ record { key = p.key; place = p.place; word = pack next 0 (tag_of p.word); moment = w.front }
+      → IsUnlinked p v w x q
   unlinked w q has s won_there small is =
       let number = goes_number v m d.goes in
       let e = unlink_vertex_event v p.place p.word next x in
-      let same_event : unlink_vertex_event m p.place p.word next x ≡ e = ap (λ (n : ℕ). unlink_vertex_event (record v { number = n }) p.place p.word next x) number in
+      let same_event : unlink_vertex_event m p.place p.word next x ≡ e = ap
+      (λ (n : ℕ). unlink_vertex_event (record v { number = n }) p.place p.word next x) number in
       let won : Won m p.place p.word e w = subst (λ (y : Event). Won m p.place p.word y w) same_event won_there in
       let makes = makes_chain v m w [] (e ∷ []) d.makes (makes_won m w p.place p.word e has s (sym number) won) in
       let g = makes_goes v w (e ∷ []) ((λ y. absurd (cc), λ y. absurd (cc)), tt) makes in
-      let gm = makes_goes m w (e ∷ []) ((λ y. absurd (cc), λ y. absurd (cc)), tt) (makes_won m w p.place p.word e has s (sym number) won) in
+      let gm = makes_goes m w (e ∷ []) ((λ y. absurd (cc), λ y. absurd (cc)), tt)
+      (makes_won m w p.place p.word e has s (sym number) won) in
       let sizes = goes_sizes v w g in
       let z' : IsLayout w.sizes = subst IsLayout (sym sizes) z in
-      let kept : IsKept w.sizes (won.grown ++ e ∷ []) = subst (λ (j : List Event). IsKept w.sizes j) won.front won.sound.kept in
-      let word_is : word_at w.sizes w.front p.place ≡ pack next 0 (tag_of p.word) = subst (λ (j : List Event). word_at w.sizes j p.place ≡ pack next 0 (tag_of p.word)) (sym won.front) (written w.sizes won.grown e kept) in
+      let kept : IsKept w.sizes (won.grown ++ e ∷ []) = subst
+      (λ (j : List Event). IsKept w.sizes j) won.front won.sound.kept in
+      let word_is : word_at w.sizes w.front p.place ≡ pack next 0 (tag_of p.word) = subst
+      (λ (j : List Event). word_at w.sizes j p.place ≡ pack next 0 (tag_of p.word)) (sym won.front)
+      (written w.sizes won.grown e kept) in
       let spent = vertex_spent w.sizes won.grown e kept z' refl in
-      let there : x.index < w.sizes.nodes = subst (λ (y : Sizes). x.index < y.nodes) (sym (goes_sizes m w gm)) d.vertex.life.there in
+      let there : x.index < w.sizes.nodes = subst (λ (y : Sizes). x.index < y.nodes)
+      (sym (goes_sizes m w gm)) d.vertex.life.there in
       let life = event_life w.sizes won.grown e kept z' there in
-      let link_is : word_at w.sizes w.front (link_at w.sizes x.index) ≡ link = dead_still m w layout gm x.index d.vertex.life.there d.vertex.met (ap mark_of d.link_is ∙ d.dead) ∙ d.link_is in
+      let link_is : word_at w.sizes w.front (link_at w.sizes x.index) ≡ link =
+      dead_still m w layout gm x.index d.vertex.life.there d.vertex.met (ap mark_of d.link_is ∙ d.dead)
+      ∙ d.link_is in
       let first = makes.steps in
-      let made : IsUnlinked p v w x (record { key = p.key; place = p.place; word = pack next 0 (tag_of p.word); moment = w.front }) = record {
+      let made : IsUnlinked p v w x (record {
+        key = p.key;
+        place = p.place;
+        word = pack next 0 (tag_of p.word);
+        moment =
+            w.front;
+      }) = record {
         leads = d.leads;
         next = next;
         next_is = next_is ∙ ap index_of (sym link_is);
         makes = makes;
         last = record { past = won.grown; front = won.front };
         spent = record {
-          life = subst (λ (j : List Event). IsLifeAt (record w { front = j }) x) (sym won.front) (record { there = there; tag = life });
-          spent = subst (λ (j : List Event). IsSpentVertex w.sizes j w.number x.index) (sym won.front) (subst (λ (n : ℕ). IsSpentVertex w.sizes (won.grown ++ e ∷ []) n x.index) (sym (goes_number v w g)) spent.0);
-          list = subst (λ (j : List Event). KeepsList w.sizes j x.index) (sym won.front) (has_keeps w.sizes z' (won.grown ++ e ∷ []) kept x.index spent.1);
+          life = subst (λ (j : List Event). IsLifeAt (record w { front = j }) x) (sym won.front)
+              (record { there = there; tag = life });
+          spent = subst (λ (j : List Event). IsSpentVertex w.sizes j w.number x.index) (sym won.front)
+              (subst (λ (n : ℕ). IsSpentVertex w.sizes (won.grown ++ e ∷ []) n x.index)
+              (sym (goes_number v w g)) spent.0);
+          list = subst (λ (j : List Event). KeepsList w.sizes j x.index) (sym won.front)
+              (has_keeps w.sizes z' (won.grown ++ e ∷ []) kept x.index spent.1);
         };
-        unclosed = subst (λ (j : List Event). (state w.sizes j).frozen x.index ≡ false) (sym won.front) (open_behind w.sizes z' won.grown e kept refl);
+        unclosed = subst (λ (j : List Event). (state w.sizes j).frozen x.index ≡ false) (sym won.front)
+            (open_behind w.sizes z' won.grown e kept refl);
         new = λ f. not_spent first.0 e first.2 refl refl (subst (λ (y : Sizes). x.index < y.nodes) sizes there) f;
         key = refl;
         place = refl;
         word = refl;
         moment = refl;
         position = λ other a. as_position other p.key p.place (pack next 0 (tag_of p.word)) w.front w
-            (word_written IsVertexAt (IsPlaceOf other p.key) (position_words other p.key) p.place p.word p.moment v z (as_word other v p a) w (pack next 0 (tag_of p.word)) g word_is (mark_of-pack next 0 (tag_of p.word) small (omega arith)));
+            (word_written IsVertexAt (IsPlaceOf other p.key) (position_words other p.key) p.place p.word p.moment v z
+            (as_word other v p a) w (pack next 0 (tag_of p.word)) g word_is
+            (mark_of-pack next 0 (tag_of p.word) small (omega arith)));
       } in
       subst (λ (y : PositionValue). IsUnlinked p v w x y) (sym is) made

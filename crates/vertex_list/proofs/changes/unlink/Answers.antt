@@ -13,39 +13,93 @@ pub unlink_vertex-requires-clause-may : goal.unlink_vertex-requires-clause-may
 unlink_vertex-requires-clause-may c =
     let v = c.args.token.now.view in
     let m = c.load.new.token.view in
-    let p : PositionValue = record { key = c.position.inside.key; place = c.position.inside.place; word = c.position.inside.word; moment = c.position.inside.moment.value.view.front } in
-    let h = subst (λ (q : PositionValue). IsPosition c.requires.position.0 v q) (sym c.position.view_is) c.requires.position.1 in
+    let p : PositionValue = record {
+      key = c.position.inside.key;
+      place = c.position.inside.place;
+      word =
+          c.position.inside.word;
+      moment = c.position.inside.moment.value.view.front;
+    } in
+    let h = subst (λ (q : PositionValue). IsPosition c.requires.position.0 v q)
+    (sym c.position.view_is) c.requires.position.1 in
     let dead = subst (λ (q : PositionValue). LeadsToDead v q) (sym c.position.view_is) c.requires.dead in
-    let at = c.link_at.ensures.place ∙ ap (λ (s : Sizes). link_at s c.index-index.result) (c.layout-layout.ensures.sizes ∙ sym c.requires.table.sizes) in
-    let d = dead_seen v m p _ c.index-index.result c.load.result c.tag.result c.requires.table.layout c.requires.number c.requires.table.sound dead c.load.ensures.looked at c.index-index.ensures.index c.tag.ensures.tag in
-    may_unlink c.requires.position.0 v m p _ c.load.result c.index-next.result c.requires.table.layout h d c.index-next.ensures.index
+    let at = c.link_at.ensures.place ∙ ap (λ (s : Sizes). link_at s c.index-index.result)
+    (c.layout-layout.ensures.sizes ∙ sym c.requires.table.sizes) in
+    let d = dead_seen v m p _ c.index-index.result c.load.result c.tag.result c.requires.table.layout c.requires.number
+    c.requires.table.sound dead c.load.ensures.looked at c.index-index.ensures.index c.tag.ensures.tag in
+    may_unlink c.requires.position.0 v m p _ c.load.result c.index-next.result c.requires.table.layout h d
+    c.index-next.ensures.index
 
 pub returns-in-Won-clause-unlinked : goal.returns-in-Won-clause-unlinked
 returns-in-Won-clause-unlinked c =
     let v = c.args.token.now.view in
     let m = c.load.new.token.view in
-    let p : PositionValue = record { key = c.position.inside.key; place = c.position.inside.place; word = c.position.inside.word; moment = c.position.inside.moment.value.view.front } in
-    let h = subst (λ (q : PositionValue). IsPosition c.requires.position.0 v q) (sym c.position.view_is) c.requires.position.1 in
+    let p : PositionValue = record {
+      key = c.position.inside.key;
+      place = c.position.inside.place;
+      word =
+          c.position.inside.word;
+      moment = c.position.inside.moment.value.view.front;
+    } in
+    let h = subst (λ (q : PositionValue). IsPosition c.requires.position.0 v q)
+    (sym c.position.view_is) c.requires.position.1 in
     let dead = subst (λ (q : PositionValue). LeadsToDead v q) (sym c.position.view_is) c.requires.dead in
-    let at = c.link_at.ensures.place ∙ ap (λ (s : Sizes). link_at s c.index-index.result) (c.layout-layout.ensures.sizes ∙ sym c.requires.table.sizes) in
-    let d = dead_seen v m p _ c.index-index.result c.load.result c.tag.result c.requires.table.layout c.requires.number c.requires.table.sound dead c.load.ensures.looked at c.index-index.ensures.index c.tag.ensures.tag in
+    let at = c.link_at.ensures.place ∙ ap (λ (s : Sizes). link_at s c.index-index.result)
+    (c.layout-layout.ensures.sizes ∙ sym c.requires.table.sizes) in
+    let d = dead_seen v m p _ c.index-index.result c.load.result c.tag.result c.requires.table.layout c.requires.number
+    c.requires.table.sound dead c.load.ensures.looked at c.index-index.ensures.index c.tag.ensures.tag in
     let has : m.numbered ≡ true = ap (λ (u : View). u.numbered) c.load.ensures.looked.view ∙ c.requires.number in
     let w = c.unlink_vertex.new.token.view in
-    let q : PositionValue = record { key = c.position.inside.key; place = c.position.inside.place; word = c.pack-word.result.0; moment = c.of-moment.result.value.view.front } in
-    let word : c.pack-word.result.0 ≡ pack c.index-next.result 0 (tag_of p.word) = c.pack-word.ensures.word ∙ ap (pack c.index-next.result 0) c.tag-in-Won.ensures.tag in
-    let is : q ≡ record { key = p.key; place = p.place; word = pack c.index-next.result 0 (tag_of p.word); moment = w.front } = ap₂ (λ (x : ℕ) (t : TokenValue). record { key = p.key; place = p.place; word = x; moment = t.view.front }) word c.of-moment.ensures in
-    let done = unlinked c.requires.position.0 v m p _ c.load.result c.index-next.result c.requires.table.layout h d c.index-next.ensures.index w q has c.load.ensures.table.sound c.in-Won.ensures.tried.1 (omega (arith, c.index-next.ensures.bound)) is in
-    subst (λ (x : Life). IsUnlinked c.args.position v w x q) (sym c.in-Won.ensures.tried.0) (subst (λ (r : PositionValue). IsUnlinked r v w (record { index = c.index-index.result; tag = c.tag.result }) q) c.position.view_is done)
+    let q : PositionValue = record {
+      key = c.position.inside.key;
+      place = c.position.inside.place;
+      word =
+          c.pack-word.result.0;
+      moment = c.of-moment.result.value.view.front;
+    } in
+    let word : c.pack-word.result.0 ≡ pack c.index-next.result 0 (tag_of p.word) = c.pack-word.ensures.word
+    ∙ ap (pack c.index-next.result 0) c.tag-in-Won.ensures.tag in
+    let is : q ≡ record {
+      key = p.key;
+      place = p.place;
+      word = pack c.index-next.result 0 (tag_of p.word);
+      moment =
+          w.front;
+    } = ap₂ (λ (x : ℕ) (t : TokenValue). record {
+      key = p.key;
+      place = p.place;
+      word = x;
+      moment =
+          t.view.front;
+    }) word c.of-moment.ensures in
+    let done = unlinked c.requires.position.0 v m p _ c.load.result c.index-next.result c.requires.table.layout h d
+    c.index-next.ensures.index w q has c.load.ensures.table.sound c.in-Won.ensures.tried.1
+    (omega (arith, c.index-next.ensures.bound)) is in
+    subst (λ (x : Life). IsUnlinked c.args.position v w x q) (sym c.in-Won.ensures.tried.0)
+    (subst (λ (r : PositionValue). IsUnlinked r v w
+    (record { index = c.index-index.result; tag = c.tag.result }) q) c.position.view_is done)
 
 pub returns-clause-unlinked : goal.returns-clause-unlinked
 returns-clause-unlinked c =
     let v = c.args.token.now.view in
     let m = c.load.new.token.view in
-    let p : PositionValue = record { key = c.position.inside.key; place = c.position.inside.place; word = c.position.inside.word; moment = c.position.inside.moment.value.view.front } in
-    let h = subst (λ (q : PositionValue). IsPosition c.requires.position.0 v q) (sym c.position.view_is) c.requires.position.1 in
+    let p : PositionValue = record {
+      key = c.position.inside.key;
+      place = c.position.inside.place;
+      word =
+          c.position.inside.word;
+      moment = c.position.inside.moment.value.view.front;
+    } in
+    let h = subst (λ (q : PositionValue). IsPosition c.requires.position.0 v q)
+    (sym c.position.view_is) c.requires.position.1 in
     let dead = subst (λ (q : PositionValue). LeadsToDead v q) (sym c.position.view_is) c.requires.dead in
-    let at = c.link_at.ensures.place ∙ ap (λ (s : Sizes). link_at s c.index-index.result) (c.layout-layout.ensures.sizes ∙ sym c.requires.table.sizes) in
-    let d = dead_seen v m p _ c.index-index.result c.load.result c.tag.result c.requires.table.layout c.requires.number c.requires.table.sound dead c.load.ensures.looked at c.index-index.ensures.index c.tag.ensures.tag in
+    let at = c.link_at.ensures.place ∙ ap (λ (s : Sizes). link_at s c.index-index.result)
+    (c.layout-layout.ensures.sizes ∙ sym c.requires.table.sizes) in
+    let d = dead_seen v m p _ c.index-index.result c.load.result c.tag.result c.requires.table.layout c.requires.number
+    c.requires.table.sound dead c.load.ensures.looked at c.index-index.ensures.index c.tag.ensures.tag in
     let has : m.numbered ≡ true = ap (λ (u : View). u.numbered) c.load.ensures.looked.view ∙ c.requires.number in
     let w = c.unlink_vertex.new.token.view in
-    subst (λ (r : PositionValue). IsLost r v w) c.position.view_is (unlink_lost c.requires.position.0 v m p _ c.load.result c.index-next.result c.requires.table.layout h d c.index-next.ensures.index w _ c.unlink_vertex.ensures.table.layout has c.load.ensures.table.sound c.in-Lost.ensures.tried)
+    subst (λ (r : PositionValue). IsLost r v w) c.position.view_is
+    (unlink_lost c.requires.position.0 v m p _ c.load.result c.index-next.result c.requires.table.layout h d
+    c.index-next.ensures.index w _ c.unlink_vertex.ensures.table.layout has c.load.ensures.table.sound
+    c.in-Lost.ensures.tried)

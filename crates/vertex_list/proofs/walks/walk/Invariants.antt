@@ -11,7 +11,13 @@ invariant-loop-layout l = record {
   of : IsOf l.fn.table l.token;
   makes : Makes l.fn.token.view [] l.token.view;
   since : IsPrefix l.fn.position.moment l.moment.value.view.front;
-  at : IsPosition false l.token.view (record { key = l.fn.position.key; place = l.place; word = l.word; moment = l.moment.value.view.front });
+  at : IsPosition false l.token.view (record {
+    key = l.fn.position.key;
+    place = l.place;
+    word = l.word;
+    moment =
+        l.moment.value.view.front;
+  });
 }
 
 abbrev pub decreases-loop-layout : goal.decreases-loop-layout

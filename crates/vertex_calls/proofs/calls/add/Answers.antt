@@ -1,0 +1,7 @@
+use Rattle.vertex_calls.proofs.ReadyStays.{linked}
+use Rattle.vertex_calls.proofs.calls.add.Goals as goal
+
+pub returns-clause-ready : goal.returns-clause-ready
+returns-clause-ready c =
+    linked c.args._taken c.args.token.now.view c.link.new.token.view c.args.position c.args.fresh c.link.result
+    c.link.ensures.linked c.requires.prepared

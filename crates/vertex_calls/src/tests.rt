@@ -1,0 +1,77 @@
+//! The calls on one thread: keys that share a bucket, and a link that is lost.
+
+use crate::{add, first, forward, open, pass_by, prepare, remove, seek};
+use graph_table::GraphTable;
+use packed_link::Layout;
+use table_calls::{enter, split_off};
+use vertex_list::{Found, Linked, Marked, Stepped};
+
+#[test]
+fn keys_that_share_a_bucket_are_found_and_unlinked(rt: HostRuntime) {
+    let (table, mut one) = GraphTable::new(rt.alloc(), Layout::new(2, 4, 1024)).expect(
+        &rt, "memory",
+    );
+    assert_eq!(rt; enter(&table, &mut one), 0);
+    open(&table, &mut one);
+    let (position, fresh) = prepare(&table, &mut one, 1029, 0).expect(&rt, "node");
+    let Linked::Done(other) = add(&table, &mut one, position, fresh, 1) else {
+        panic!(rt; "lost")
+    };
+    let (position, fresh) = prepare(&table, &mut one, 5, 1).expect(&rt, "node");
+    let Linked::Done(five) = add(&table, &mut one, position, fresh, 2) else {
+        panic!(rt; "lost")
+    };
+    // Each is found, in its own life, and a step comes to one after the other.
+    let position = first(&table, &mut one, 5, 2);
+    let Stepped::At(seen, position) = forward(&table, &mut one, position, 2) else {
+        panic!(rt; "no vertex")
+    };
+    assert!(rt; seen == five);
+    let Stepped::At(seen, position) = forward(&table, &mut one, position, 2) else {
+        panic!(rt; "no vertex")
+    };
+    assert!(rt; seen == other);
+    assert!(rt; matches!(forward(&table, &mut one, position, 2), Stepped::End));
+    let position = first(&table, &mut one, 5, 2);
+    let Found::Here(sighting) = seek(&table, &mut one, position, 2) else {
+        panic!(rt; "not there")
+    };
+    let life = sighting.life;
+    assert!(rt; life == five);
+    // It's marked once; a walk behind it comes to the mark, and goes on when the vertex is unlinked.
+    assert!(rt; remove(&table, &mut one, life, 2) == Marked::Won);
+    assert!(rt; remove(&table, &mut one, life, 2) == Marked::Was);
+    let position = first(&table, &mut one, 1029, 2);
+    let Found::Dead(position) = seek(&table, &mut one, position, 2) else {
+        panic!(rt; "no mark")
+    };
+    let position = pass_by(&table, &mut one, position, 2).expect(&rt, "unlinked");
+    let Found::Here(sighting) = seek(&table, &mut one, position, 2) else {
+        panic!(rt; "not there")
+    };
+    assert!(rt; sighting.life == other);
+    let position = first(&table, &mut one, 5, 2);
+    assert!(rt; matches!(seek(&table, &mut one, position, 2), Found::Gone(_)));
+}
+
+#[test]
+fn a_link_that_is_lost_hands_its_node_back(rt: HostRuntime) {
+    let (table, mut one) = GraphTable::new(rt.alloc(), Layout::new(2, 4, 1024)).expect(
+        &rt, "memory",
+    );
+    assert_eq!(rt; enter(&table, &mut one), 0);
+    let mut two = split_off(&table, &mut one);
+    assert_eq!(rt; enter(&table, &mut two), 1);
+    open(&table, &mut one);
+    open(&table, &mut two);
+    let (position_too, fresh_too) = prepare(&table, &mut two, 5, 0).expect(&rt, "node");
+    let life = fresh_too.life();
+    let (position, fresh) = prepare(&table, &mut one, 1029, 0).expect(&rt, "node");
+    let Linked::Done(_) = add(&table, &mut one, position, fresh, 1) else {
+        panic!(rt; "lost")
+    };
+    let Linked::Lost(fresh_too) = add(&table, &mut two, position_too, fresh_too, 1) else {
+        panic!(rt; "linked")
+    };
+    assert!(rt; fresh_too.life() == life);
+}
