@@ -29,14 +29,17 @@ use Rattle.graph_tool.specs.declared.command.Command.{Command}
 use Rattle.graph_tool.specs.declared.command.Command.TheVariants.{Run, Replay}
 use Rattle.graph_tool.proofs.Inputs.{too_many}
 
-shown_at : (g : Graph) (cs : List Call) (k : ℕ) (d : Answer) → k < length (answers g cs) → IsWritable (get_or (answers g cs) k d).outcome (get_or (answers g cs) k d).keys (get_or (answers g cs) k d).ends
+shown_at : (g : Graph) (cs : List Call) (k : ℕ) (d : Answer) → k < length (answers g cs) → IsWritable
+    (get_or (answers g cs) k d).outcome (get_or (answers g cs) k d).keys (get_or (answers g cs) k d).ends
 shown_at g [] k d h = absurd (omega arith)
 shown_at g (c ∷ cs) zero d h = answer-shown g c
 shown_at g (c ∷ cs) (suc k) d h = shown_at (after g c) cs k d (omega arith)
 
 -- answers of calls can be written
-pub all_shown : (asked : List Row) (replies : List Answer) → replies ≡ answers empty_graph (calls_of asked) → All (λ (a : Answer). IsWritable a.outcome a.keys a.ends) replies
-all_shown asked replies is = subst (λ (xs : List Answer). All (λ (a : Answer). IsWritable a.outcome a.keys a.ends) xs) (sym is) (shown_at empty_graph (calls_of asked))
+pub all_shown : (asked : List Row) (replies : List Answer) → replies ≡ answers empty_graph (calls_of asked) → All
+    (λ (a : Answer). IsWritable a.outcome a.keys a.ends) replies
+all_shown asked replies is = subst (λ (xs : List Answer). All (λ (a : Answer). IsWritable a.outcome a.keys a.ends) xs)
+    (sym is) (shown_at empty_graph (calls_of asked))
 
 -- the text of the rows in input order is what either command writes
 pub writes : (command : Command) (asked : List Row) → Writes command asked (replayed asked)
@@ -51,47 +54,65 @@ writes Run asked = record {
 writes Replay asked = refl
 
 -- the text of replies and a graph that the rows in input order give
-pub asks : (words : List (String Global)) (bytes : List ℕ) (command : Command) (asked : List Row) (replies : List Answer) (graph : Graph)
-    → command_of words ≡ Ok command → rows callers bytes ≡ Ok asked → replies ≡ answers empty_graph (calls_of asked) → graph ≡ after_all empty_graph (calls_of asked)
+pub asks : (words : List (String Global)) (bytes : List ℕ) (command : Command) (asked : List Row)
+    (replies : List Answer) (graph : Graph)
+    → command_of words ≡ Ok command → rows callers bytes ≡ Ok asked → replies ≡ answers empty_graph (calls_of asked)
+    → graph ≡ after_all empty_graph (calls_of asked)
     → Asks words bytes (text replies graph)
 asks words bytes command asked replies graph accepted read replies_are graph_is = record {
   command = command;
   accepted = accepted;
   asked = asked;
   read = read;
-  text_is = subst (λ (t : List ℕ). Writes command asked t) (sym (λ i. text (replies_are i) (graph_is i))) (writes command asked);
+  text_is = subst (λ (t : List ℕ). Writes command asked t) (sym (λ i. text (replies_are i) (graph_is i)))
+      (writes command asked);
 }
 
 -- where at most the limit was taken, not more was
-pub not_too_long : (old new : Option (List ℕ)) (P : Type 0) → TakesAtMost old new most_bytes → IfSome old (λ bytes. TakesMore (Some bytes) new most_bytes → P)
+pub not_too_long : (old new : Option (List ℕ)) (P : Type 0) → TakesAtMost old new most_bytes → IfSome old
+    (λ bytes. TakesMore (Some bytes) new most_bytes → P)
 not_too_long None new P few = tt
 not_too_long (Some old) new P few = λ many. absurd (too_many old new many few)
 
 -- what holds of the bytes that are told, where another fact of them does
-pub if_told : (P Q : List ℕ → Type 0) (old : Option (List ℕ)) → IfSome old P → ((bytes : List ℕ) → P bytes → Q bytes) → IfSome old Q
+pub if_told : (P Q : List ℕ → Type 0) (old : Option (List ℕ)) → IfSome old P → ((bytes : List ℕ) → P bytes → Q bytes)
+    → IfSome old Q
 if_told P Q None p f = tt
 if_told P Q (Some bytes) p f = f bytes p
 
 -- where all was put, a first part was
-pub puts_all : (old mid new : Option (List ℕ)) (bytes : List ℕ) → Puts old mid bytes → new ≡ mid → PutsSome old new bytes
-puts_all old mid new bytes put same = (length bytes, omega arith, subst (λ (o : Option (List ℕ)). Puts old o (take (length bytes) bytes)) (sym same) (subst (Puts old mid) (sym (take-length bytes)) put))
+pub puts_all : (old mid new : Option (List ℕ)) (bytes : List ℕ) → Puts old mid bytes → new ≡ mid
+    → PutsSome old new bytes
+puts_all old mid new bytes put same = (
+  length bytes,
+  omega arith,
+  subst
+      (λ (o : Option (List ℕ)). Puts old o (take (length bytes) bytes)) (sym same)
+      (subst (Puts old mid) (sym (take-length bytes)) put),
+)
 
 -- what was put for the answers of the rows in input order
-pub puts_replayed : (old new : Option (List ℕ)) (asked : List Row) (replies : List Answer) (graph : Graph) → replies ≡ answers empty_graph (calls_of asked) → graph ≡ after_all empty_graph (calls_of asked)
+pub puts_replayed : (old new : Option (List ℕ)) (asked : List Row) (replies : List Answer) (graph : Graph)
+    → replies ≡ answers empty_graph (calls_of asked) → graph ≡ after_all empty_graph (calls_of asked)
     → Puts old new (text replies graph) → Puts old new (replayed asked)
-puts_replayed old new asked replies graph replies_are graph_is = subst (Puts old new) (λ i. text (replies_are i) (graph_is i))
+puts_replayed old new asked replies graph replies_are graph_is = subst (Puts old new)
+    (λ i. text (replies_are i) (graph_is i))
 
 -- where a longer input can't end Done, it can't end otherwise behind it
-pub never_done : (old : Option (List ℕ)) (P : Type 0) (s : Status) (n : ℕ) → IfSome old (λ bytes. n < length bytes → P → Done ≡ Usage InputTooLong) → IfSome old (λ bytes. n < length bytes → P → s ≡ Usage InputTooLong)
+pub never_done : (old : Option (List ℕ)) (P : Type 0) (s : Status) (n : ℕ) → IfSome old
+    (λ bytes. n < length bytes → P → Done ≡ Usage InputTooLong) → IfSome old
+    (λ bytes. n < length bytes → P → s ≡ Usage InputTooLong)
 never_done None P s n h = tt
 never_done (Some bytes) P s n h = λ longer p. absurd (let e : Done ≡ Usage InputTooLong = h longer p in cc)
 
 -- what the sink behind has after a write fault, by what was given
 pub fault_behind : (s : Status) (rest old taken : Option (List ℕ)) (held : List ℕ) (A : List ℕ → List ℕ → Type 0)
-    → IfWriteFault s (IfSome rest (λ bytes. (written : List ℕ) × A bytes written × PutsSome old (behind taken held) written))
+    → IfWriteFault s (IfSome rest (λ bytes. (written : List ℕ) × A bytes written × PutsSome old
+    (behind taken held) written))
     → IfWriteFault s (IfSome rest (λ bytes. (written : List ℕ) × A bytes written × IsFirstPart old taken written))
 fault_behind WriteFault rest old taken held A h =
-    if_told (λ bytes. (written : List ℕ) × A bytes written × PutsSome old (behind taken held) written) _ rest h (λ bytes d. (d.0, d.1, first-part taken old held d.0 d.2))
+    if_told (λ bytes. (written : List ℕ) × A bytes written × PutsSome old (behind taken held) written) _ rest h
+    (λ bytes d. (d.0, d.1, first-part taken old held d.0 d.2))
 fault_behind Done rest old taken held A h = tt
 fault_behind (Usage cause) rest old taken held A h = tt
 fault_behind (BadRow row cause) rest old taken held A h = tt

@@ -29,21 +29,38 @@ use Rattle.limbo_calls.specs.Steady.{IsSteady}
 use Rattle.limbo_calls.proofs.StaysSteady.{pass_by, steady_more}
 
 -- the word of the only bucket has no mark
-pub only_unmarked : (m : View) (at seen : ℕ) (z : IsLayout m.sizes) → IsKept m.sizes m.front → m.sizes.buckets ≡ 1 → seen ≡ word_at m.sizes m.front (bucket_at m.sizes 0) → mark_of seen ≡ 0
+pub only_unmarked : (m : View) (at seen : ℕ) (z : IsLayout m.sizes) → IsKept m.sizes m.front → m.sizes.buckets ≡ 1
+    → seen ≡ word_at m.sizes m.front (bucket_at m.sizes 0) → mark_of seen ≡ 0
 only_unmarked m at seen z kept one is = ap mark_of is ∙ bucket_unmarked m.sizes z m.front kept 0 (omega (arith, one))
 
-module _ (n key : ℕ) (v0 v1 v2 : View) (x : Life) (z : IsLayout v0.sizes) (s : IsSteady false n v0) (t : IsTaken v0 v1 x) (stores : Makes v1 (vertex_stores v1 x key nowhere) v2) where
+module _ (n key : ℕ) (v0 v1 v2 : View) (x : Life) (z : IsLayout v0.sizes) (s : IsSteady false n v0)
+    (t : IsTaken v0 v1 x) (stores : Makes v1 (vertex_stores v1 x key nowhere) v2) where
   taken_filled : Makes v0 (pop_event v0 t.seen t.next ∷ vertex_stores v1 x key nowhere) v2
   taken_filled = makes_chain v0 v1 v2 (pop_event v0 t.seen t.next ∷ []) (vertex_stores v1 x key nowhere) t.makes stores
 
   pub closed_then : HasNoPass v2
-  closed_then = pass_by false v0 v2 (pop_event v0 t.seen t.next ∷ vertex_stores v1 x key nowhere)
-      (((λ y. absurd (cc)), (λ y. absurd (cc))), (((λ y. absurd (cc)), (λ y. absurd (cc))), (((λ y. absurd (cc)), (λ y. absurd (cc))), (((λ y. absurd (cc)), (λ y. absurd (cc))), (((λ y. absurd (cc)), (λ y. absurd (cc))), tt)))))
+  closed_then = pass_by false v0 v2 (pop_event v0 t.seen t.next ∷ vertex_stores v1 x key nowhere) (
+    ((λ y. absurd (cc)), (λ y. absurd (cc))),
+    (
+      ((λ y. absurd (cc)), (λ y. absurd (cc))),
+      (
+        ((λ y. absurd (cc)), (λ y. absurd (cc))),
+        (
+          ((λ y. absurd (cc)), (λ y. absurd (cc))),
+          (((λ y. absurd (cc)), (λ y. absurd (cc))), tt),
+        ),
+      ),
+    ),
+  )
       taken_filled s.pass
 
-  module _ (v3 v4 : View) (at seen : ℕ) (filled : IsFilledAsVertex v2 key nowhere x) (o : IsOpened v2 v3) (sound : IsSound v3) (l : Looked v3 at seen v4) (at_is : at ≡ bucket_at v0.sizes 0) (one : v0.sizes.buckets ≡ 1) (none : index_of seen ≡ nowhere) where
-    opened : Makes v0 (pop_event v0 t.seen t.next ∷ (vertex_stores v1 x key nowhere ++ announce_event v2 o.epoch ∷ [])) v3
-    opened = makes_chain v0 v2 v3 (pop_event v0 t.seen t.next ∷ vertex_stores v1 x key nowhere) (announce_event v2 o.epoch ∷ []) taken_filled o.makes
+  module _ (v3 v4 : View) (at seen : ℕ) (filled : IsFilledAsVertex v2 key nowhere x) (o : IsOpened v2 v3)
+      (sound : IsSound v3) (l : Looked v3 at seen v4) (at_is : at ≡ bucket_at v0.sizes 0) (one : v0.sizes.buckets ≡ 1)
+      (none : index_of seen ≡ nowhere) where
+    opened : Makes v0 (pop_event v0 t.seen t.next ∷ (vertex_stores v1 x key nowhere ++ announce_event v2 o.epoch ∷ []))
+        v3
+    opened = makes_chain v0 v2 v3 (pop_event v0 t.seen t.next ∷ vertex_stores v1 x key nowhere)
+        (announce_event v2 o.epoch ∷ []) taken_filled o.makes
 
     look : Makes v3 [] v4
     look = makes_look v3 v4 at seen ((makes_later v0 v3 _ opened).numbered ∙ s.numbered) sound l
@@ -65,7 +82,8 @@ module _ (n key : ℕ) (v0 v1 v2 : View) (x : Life) (z : IsLayout v0.sizes) (s :
         let w = f.1 in
         let tag = ap (λ (q : Node). q.tag) (sym w.node) in
         let was = filled.filled in
-        let now : IsFilledVertex v4.sizes v4.front x.index key nowhere = subst (λ (y : Sizes). IsFilledVertex y v4.front x.index key nowhere) (sym later.sizes) (record {
+        let now : IsFilledVertex v4.sizes v4.front x.index key nowhere = subst
+        (λ (y : Sizes). IsFilledVertex y v4.front x.index key nowhere) (sym later.sizes) (record {
           key_word = w.key ∙ was.key_word;
           key_fits = was.key_fits;
           link_word = w.link ∙ (was.link_word ∙ ap (pack nowhere 0) tag);
@@ -76,7 +94,9 @@ module _ (n key : ℕ) (v0 v1 v2 : View) (x : Life) (z : IsLayout v0.sizes) (s :
         let zero_is : key % v4.sizes.buckets ≡ 0 = ap (λ (b : ℕ). key % b) buckets ∙ omega arith in
         let z4 : IsLayout v4.sizes = subst IsLayout (sym sizes) z in
         let place : at ≡ bucket_at v4.sizes 0 = at_is ∙ ap (λ (y : Sizes). bucket_at y 0) (sym sizes) in
-        let word : seen ≡ word_at v4.sizes v4.front (bucket_at v4.sizes 0) = l.word ∙ (ap (word_at v3.sizes v4.front) place ∙ ap (λ (y : Sizes). word_at y v4.front (bucket_at v4.sizes 0)) (sym (makes_later v3 v4 [] look).sizes)) in
+        let word : seen ≡ word_at v4.sizes v4.front (bucket_at v4.sizes 0) = l.word ∙
+        (ap (word_at v3.sizes v4.front) place ∙ ap (λ (y : Sizes). word_at y v4.front (bucket_at v4.sizes 0))
+        (sym (makes_later v3 v4 [] look).sizes)) in
         subst (λ (k : ℕ). MayLinkVertex v4 at seen k x) (sym now.key_word) (record {
           life = f.0.life;
           pass = pass;
@@ -87,7 +107,8 @@ module _ (n key : ℕ) (v0 v1 v2 : View) (x : Life) (z : IsLayout v0.sizes) (s :
           filled = subst (λ (i : ℕ). IsFilledVertex v4.sizes v4.front x.index key i) (sym none) now;
         })
 
-    module _ (v5 : View) (place found : ℕ) (sound4 : IsSound v4) (won : Won v4 place found (link_vertex_event v4 at seen (key_in v4 x.index) x) v5) where
+    module _ (v5 : View) (place found : ℕ) (sound4 : IsSound v4)
+        (won : Won v4 place found (link_vertex_event v4 at seen (key_in v4 x.index) x) v5) where
       has_number : v4.numbered ≡ true
       has_number = (makes_later v3 v4 [] look).numbered ∙ ((makes_later v0 v3 _ opened).numbered ∙ s.numbered)
 
@@ -103,14 +124,21 @@ module _ (n key : ℕ) (v0 v1 v2 : View) (x : Life) (z : IsLayout v0.sizes) (s :
       bare_then : HasNoFresh v5
       bare_then =
           let g = win_steps v4 place found event v5 has_number sound4 won in
-          let kept : IsKept v4.sizes (g.grown ++ event ∷ []) = subst (λ (j : List Event). IsKept v4.sizes j) g.front g.kept in
+          let kept : IsKept v4.sizes (g.grown ++ event ∷ []) = subst
+          (λ (j : List Event). IsKept v4.sizes j) g.front g.kept in
           let h = (vertex_joined v4.sizes g.grown event kept refl).1 in
-          subst HasNoFresh (sym g.view) (record { none = λ y there f. h y there (subst (λ (j : List Event). IsFreshWith v4.sizes j v4.number y) g.front f) })
+          subst HasNoFresh (sym g.view) (record {
+            none = λ y there f. h y there
+                (subst (λ (j : List Event). IsFreshWith v4.sizes j v4.number y) g.front f);
+          })
 
       pub steady_added : (v6 : View) → Makes v5 (withdraw_event v5 ∷ []) v6 → HasNoPass v6 → IsSteady false (n + 1) v6
       steady_added v6 closing closed =
-          let a = makes_chain v0 v3 v4 (pop_event v0 t.seen t.next ∷ (vertex_stores v1 x key nowhere ++ announce_event v2 o.epoch ∷ [])) [] opened look in
-          let b = makes_chain v0 v4 v5 (pop_event v0 t.seen t.next ∷ (vertex_stores v1 x key nowhere ++ announce_event v2 o.epoch ∷ [])) (event ∷ []) a linked in
+          let a = makes_chain v0 v3 v4 (pop_event v0 t.seen t.next ∷
+          (vertex_stores v1 x key nowhere ++ announce_event v2 o.epoch ∷ [])) [] opened look in
+          let b = makes_chain v0 v4 v5 (pop_event v0 t.seen t.next ∷
+          (vertex_stores v1 x key nowhere ++ announce_event v2 o.epoch ∷ [])) (event ∷ []) a linked in
           let c = makes_chain v0 v5 v6 _ (withdraw_event v5 ∷ []) b closing in
           let z5 : IsLayout v5.sizes = subst IsLayout (sym (makes_later v0 v5 _ b).sizes) z in
-          steady_more false false n (n + 1) v0 v6 _ c (omega arith) (omega arith) (makes_none v5 v6 (withdraw_event v5 ∷ []) z5 ((λ y. absurd (cc)), tt) closing bare_then) closed s
+          steady_more false false n (n + 1) v0 v6 _ c (omega arith) (omega arith)
+          (makes_none v5 v6 (withdraw_event v5 ∷ []) z5 ((λ y. absurd (cc)), tt) closing bare_then) closed s

@@ -81,7 +81,8 @@ module _ (v m k : View) (seen at next : ℕ) (z : IsLayout v.sizes) (h : HasSeen
               (record {
                 there = fresh.0;
                 tag = subst (λ (j : List Event). e.life.tag ≡
-                    (node_in k.sizes j e.life.index).tag) (sym t.front) (event_life k.sizes t.grown e kept layout fresh.0);
+                    (node_in k.sizes j e.life.index).tag) (sym t.front)
+                    (event_life k.sizes t.grown e kept layout fresh.0);
               });
           fresh = subst (λ (u : View). IsFreshWith u.sizes u.front u.number e.life.index) (sym t.view)
               (subst (λ (j : List Event). IsFreshWith k.sizes j k.number e.life.index) (sym t.front) fresh.1);

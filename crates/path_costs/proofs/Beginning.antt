@@ -1,5 +1,6 @@
 -- A search begins with row 0 in the heap, at no cost.
-use Rattle.std.proofs.Common.{◌≡◌, ◌≢◌, ℕ, suc, ◌+◌, ◌<◌, ◌≤◌, ◌==◌, Bool, false, min, inl, inr, List, [], ◌∷◌, length, map, get_or, set, refl, sym, ap, ◌∙◌, subst, arith, get_or-set_same, get_or-set_other}
+use Rattle.std.proofs.Common.{◌≡◌, ◌≢◌, ℕ, suc, ◌+◌, ◌<◌, ◌≤◌, ◌==◌, Bool, false, min, inl, inr, List, [], ◌∷◌, length}
+use Rattle.std.proofs.Common.{map, get_or, set, refl, sym, ap, ◌∙◌, subst, arith, get_or-set_same, get_or-set_other}
 use Rattle.std.specs.Prelude.{count_by}
 use Rattle.std.proofs.lemmas.Bool.{cases_eq}
 use Rattle.std.proofs.lemmas.List.Sums.{sum_by-cons}
@@ -31,7 +32,8 @@ module _ (s : ScanValue) (scan : IsScan s) (forgotten : (r : ℕ) → r < length
       rows = λ p lt. absurd (omega (arith, lt));
       named = λ p lt. absurd (omega (arith, lt));
       held = λ r h two. absurd (omega (arith, forgotten r h, two));
-      count = none_pass (λ v. v == 2) (states_of s) (λ k lt. ap (λ (v : ℕ). v == 2) (unmet_all k (omega (arith, lt, length-states_of s scan))));
+      count = none_pass (λ v. v == 2) (states_of s) (λ k lt. ap (λ (v : ℕ). v == 2)
+          (unmet_all k (omega (arith, lt, length-states_of s scan))));
     };
     ordered = λ q p lt. absurd (omega (arith, lt));
   }
@@ -44,22 +46,36 @@ module _ (s : ScanValue) (scan : IsScan s) (forgotten : (r : ℕ) → r < length
     begun = record s { costs = set s.costs 0 0; slot_zero = zs; slot_one = os }
 
     root_waits : state_of begun 0 ≡ 2
-    root_waits = ap (λ (xs : List ℕ). get_or xs 0 0) states ∙ get_or-set_same (states_of s) 0 2 0 (omega (arith, is.has_root, length-states_of s scan))
+    root_waits = ap (λ (xs : List ℕ). get_or xs 0 0) states ∙ get_or-set_same (states_of s) 0 2 0
+        (omega (arith, is.has_root, length-states_of s scan))
 
     others_unmet : (y : ℕ) → y < length s.rows → y ≢ 0 → state_of begun y ≡ 0
-    others_unmet y h ne = ap (λ (xs : List ℕ). get_or xs y 0) states ∙ (get_or-set_other (states_of s) 0 y 2 0 ne ∙ unmet_all y h)
+    others_unmet y h ne = ap (λ (xs : List ℕ). get_or xs y 0) states ∙
+        (get_or-set_other (states_of s) 0 y 2 0 ne ∙ unmet_all y h)
 
     only_root : (y : ℕ) → y < length s.rows → 1 ≤ state_of begun y → y ≡ 0
-    only_root y h met = elim (cases_eq y 0) as (λ _. y ≡ 0) [ inl e ↦ e | inr ne ↦ absurd (omega (arith, met, others_unmet y h ne)) ]
+    only_root y h met = elim (cases_eq y 0) as (λ _. y ≡ 0) [
+      | inl e ↦ e
+      | inr ne ↦ absurd
+          (omega (arith, met, others_unmet y h ne))
+    ]
 
     pub none_settled : (y : ℕ) → y < length s.rows → state_of begun y ≡ 1 → (y ≡ 0) × ((y ≡ 0) → ⊥)
-    none_settled y h e = (only_root y h (omega (arith, e)), λ f. absurd (omega (arith, e, ap (state_of begun) f, root_waits)))
+    none_settled y h e = (
+      only_root y h (omega (arith, e)),
+      λ f. absurd
+          (omega (arith, e, ap (state_of begun) f, root_waits)),
+    )
 
     root_cost : get_or (set s.costs 0 0) 0 0 ≡ 0
     root_cost = get_or-set_same s.costs 0 0 0 (omega (arith, is.has_root, scan.costs_of_rows))
 
     root_reached : IsReached begun 0
-    root_reached = record { path = root_of s ∷ []; is_path = (refl, refl, row_key s 0 is.has_root); cost = sym root_cost }
+    root_reached = record {
+      path = root_of s ∷ [];
+      is_path = (refl, refl, row_key s 0 is.has_root);
+      cost = sym root_cost;
+    }
 
     pub begun_search : IsSearch begun
     begun_search = record {
@@ -70,7 +86,8 @@ module _ (s : ScanValue) (scan : IsScan s) (forgotten : (r : ℕ) → r < length
       parents = λ y pos h met. absurd (omega (arith, pos, only_root y h met));
       ordered = λ x y h k e f. let n = none_settled x h e in absurd (n.1 n.0);
       below = λ y h met.
-          let here : get_or (set s.costs 0 0) y 0 ≡ 0 = ap (λ (z : ℕ). get_or (set s.costs 0 0) z 0) (only_root y h met) ∙ root_cost in
+          let here : get_or (set s.costs 0 0) y 0 ≡ 0 = ap (λ (z : ℕ). get_or (set s.costs 0 0) z 0) (only_root y h met)
+          ∙ root_cost in
           omega (arith, here);
       followed = λ x y w h k e ne p. let n = none_settled x h e in absurd (n.1 n.0);
     }

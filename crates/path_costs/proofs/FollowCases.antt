@@ -1,5 +1,6 @@
 -- The three cases in which a pair that is followed changes something.
-use Rattle.std.proofs.Common.{◌≡◌, ◌≢◌, ℕ, ◌+◌, ◌<◌, ◌≤◌, ◌==◌, min, List, length, map, get_or, set, refl, sym, ap, ◌∙◌, subst, arith, get_or-set_same, get_or-set_other}
+use Rattle.std.proofs.Common.{◌≡◌, ◌≢◌, ℕ, ◌+◌, ◌<◌, ◌≤◌, ◌==◌, min, List, length, map, get_or, set, refl, sym, ap, ◌∙◌}
+use Rattle.std.proofs.Common.{subst, arith, get_or-set_same, get_or-set_other}
 use Rattle.std.specs.Prelude.{count_by}
 use Rattle.scan_record.specs.Scan.{ScanValue, IsScan}
 use Rattle.path_costs.specs.Heap.{states_of, state_of, settled_count}
@@ -7,7 +8,8 @@ use Rattle.path_costs.specs.Search.{key_of_row, row_cost, parent_of, HasPair, Is
 use Rattle.path_costs.proofs.HeapPlaces.{one_if, count_by-set, length-states_of, state_at}
 use Rattle.path_costs.proofs.Following.{IsRelaxed, relaxed}
 
-module _ (s : ScanValue) (scan : IsScan s) (from row w : ℕ) (now : IsOpen s from) (r : row < length s.rows) (pair : HasPair s from row w) where
+module _ (s : ScanValue) (scan : IsScan s) (from row w : ℕ) (now : IsOpen s from) (r : row < length s.rows)
+    (pair : HasPair s from row w) where
   some_weight : 1 ≤ w
   some_weight = now.search.graph.weighed (key_of_row s from) (key_of_row s row) w pair
 
@@ -40,10 +42,12 @@ module _ (s : ScanValue) (scan : IsScan s) (from row w : ℕ) (now : IsOpen s fr
       omega arith
 
   -- a row that wasn't met
-  pub new_follows : state_of s row ≡ 0 → w ≤ 4294967295 → (zs os : List ℕ) → map (λ v. min v 2) os ≡ set (states_of s) row 2
+  pub new_follows : state_of s row ≡ 0 → w ≤ 4294967295 → (zs os : List ℕ) → map (λ v. min v 2) os ≡ set
+      (states_of s) row 2
       → FollowsPair s (changed (set s.costs row (row_cost s from + w)) zs os) from row w
   new_follows new fits zs os states =
-      relaxed s from row w (set s.costs row (row_cost s from + w)) zs os (set s.slot_two row from) now r pos pair fits (λ e. absurd (omega (arith, e, new))) is
+      relaxed s from row w (set s.costs row (row_cost s from + w)) zs os (set s.slot_two row from) now r pos pair fits
+      (λ e. absurd (omega (arith, e, new))) is
       (λ x v h e ne p. absurd (omega (arith, (now.search.followed x row v h r e ne p).met, new)))
     where
       pos : 0 < row
@@ -68,7 +72,8 @@ module _ (s : ScanValue) (scan : IsScan s) (from row w : ℕ) (now : IsOpen s fr
       }
 
   -- the states stay where the row waits already
-  still_waits : (cs zs os : List ℕ) → state_of s row ≡ 2 → map (λ v. min v 2) os ≡ states_of s → get_or cs row 0 ≡ row_cost s from + w → ((y : ℕ) → y ≢ row → get_or cs y 0 ≡ row_cost s y)
+  still_waits : (cs zs os : List ℕ) → state_of s row ≡ 2 → map (λ v. min v 2) os ≡ states_of s
+      → get_or cs row 0 ≡ row_cost s from + w → ((y : ℕ) → y ≢ row → get_or cs y 0 ≡ row_cost s y)
       → IsRelaxed s from row w cs zs os (set s.slot_two row from)
   still_waits cs zs os two states cost costs = record {
     state = ap (λ (xs : List ℕ). get_or xs row 0) states ∙ two;
@@ -81,17 +86,21 @@ module _ (s : ScanValue) (scan : IsScan s) (from row w : ℕ) (now : IsOpen s fr
   }
 
   -- a row that becomes cheaper
-  pub cheaper_follows : state_of s row ≢ 0 → row_cost s from + w < row_cost s row → w ≤ 4294967295 → (zs os : List ℕ) → map (λ v. min v 2) os ≡ states_of s
+  pub cheaper_follows : state_of s row ≢ 0 → row_cost s from + w < row_cost s row → w ≤ 4294967295 → (zs os : List ℕ)
+      → map (λ v. min v 2) os ≡ states_of s
       → FollowsPair s (changed (set s.costs row (row_cost s from + w)) zs os) from row w
   cheaper_follows met less fits zs os states =
-      relaxed s from row w (set s.costs row (row_cost s from + w)) zs os (set s.slot_two row from) now r (past_root (omega (arith, less))) pair fits (λ e. absurd (omega (arith, e, two)))
-      (still_waits (set s.costs row (row_cost s from + w)) zs os two states (cost_set (row_cost s from + w)) (costs_kept (row_cost s from + w)))
+      relaxed s from row w (set s.costs row (row_cost s from + w)) zs os (set s.slot_two row from) now r
+      (past_root (omega (arith, less))) pair fits (λ e. absurd (omega (arith, e, two)))
+      (still_waits (set s.costs row (row_cost s from + w)) zs os two states (cost_set (row_cost s from + w))
+      (costs_kept (row_cost s from + w)))
       improves
     where
       two : state_of s row ≡ 2
       two = dear_waits met (omega (arith, less))
 
-      improves : (x v : ℕ) → x < length s.rows → state_of s x ≡ 1 → x ≢ from → HasPair s x row v → IsFollowed (changed (set s.costs row (row_cost s from + w)) zs os) x row v
+      improves : (x v : ℕ) → x < length s.rows → state_of s x ≡ 1 → x ≢ from → HasPair s x row v → IsFollowed
+          (changed (set s.costs row (row_cost s from + w)) zs os) x row v
       improves x v h e ne p =
           let was = now.search.followed x row v h r e ne p in
           let x_not : x ≢ row = λ f. absurd (omega (arith, ap (state_of s) f, e, two)) in
@@ -104,17 +113,20 @@ module _ (s : ScanValue) (scan : IsScan s) (from row w : ℕ) (now : IsOpen s fr
           }
 
   -- a row that gets a lesser parent
-  pub lesser_follows : state_of s row ≢ 0 → row_cost s row ≡ row_cost s from + w → w ≤ 4294967295 → key_of_row s from < key_of_row s (parent_of s row)
+  pub lesser_follows : state_of s row ≢ 0 → row_cost s row ≡ row_cost s from + w → w ≤ 4294967295
+      → key_of_row s from < key_of_row s (parent_of s row)
       → FollowsPair s (changed s.costs s.slot_zero s.slot_one) from row w
   lesser_follows met tie fits less =
-      relaxed s from row w s.costs s.slot_zero s.slot_one (set s.slot_two row from) now r (past_root (omega (arith, tie, some_weight))) pair fits (λ e. absurd (omega (arith, e, two)))
+      relaxed s from row w s.costs s.slot_zero s.slot_one (set s.slot_two row from) now r
+      (past_root (omega (arith, tie, some_weight))) pair fits (λ e. absurd (omega (arith, e, two)))
       (still_waits s.costs s.slot_zero s.slot_one two refl tie (λ y _. refl))
       improves
     where
       two : state_of s row ≡ 2
       two = dear_waits met (omega (arith, tie, some_weight))
 
-      improves : (x v : ℕ) → x < length s.rows → state_of s x ≡ 1 → x ≢ from → HasPair s x row v → IsFollowed (changed s.costs s.slot_zero s.slot_one) x row v
+      improves : (x v : ℕ) → x < length s.rows → state_of s x ≡ 1 → x ≢ from → HasPair s x row v → IsFollowed
+          (changed s.costs s.slot_zero s.slot_one) x row v
       improves x v h e ne p =
           let was = now.search.followed x row v h r e ne p in
           record {
@@ -130,9 +142,23 @@ module _ (s : ScanValue) (scan : IsScan s) (from row w : ℕ) (now : IsOpen s fr
   tie_parent met tie = (now.search.parents row (past_root (omega (arith, tie, some_weight))) r (omega (arith, met))).row
 
 -- both writes, of the parent and of the heap
-pub both_written : (s mid new : ScanValue) (row from c d : ℕ) → mid ≡ record s { slot_two = set s.slot_two row from } → new ≡ record mid { costs = set mid.costs row c; slot_zero = new.slot_zero; slot_one = new.slot_one } → c ≡ d
-    → new ≡ record s { costs = set s.costs row d; slot_zero = new.slot_zero; slot_one = new.slot_one; slot_two = set s.slot_two row from }
+pub both_written : (s mid new : ScanValue) (row from c d : ℕ) → mid ≡ record s { slot_two = set s.slot_two row from }
+    → new ≡ record mid { costs = set mid.costs row c; slot_zero = new.slot_zero; slot_one = new.slot_one } → c ≡ d
+    → new ≡ record s {
+      costs = set s.costs row d;
+      slot_zero = new.slot_zero;
+      slot_one = new.slot_one;
+      slot_two = set
+          s.slot_two row from;
+    }
 both_written s mid new row from c d a b e =
-    let then : ScanValue → ScanValue = λ (u : ScanValue). record u { costs = set u.costs row c; slot_zero = new.slot_zero; slot_one = new.slot_one } in
-    let last : ℕ → ScanValue = λ (k : ℕ). record s { costs = set s.costs row k; slot_zero = new.slot_zero; slot_one = new.slot_one; slot_two = set s.slot_two row from } in
+    let then : ScanValue → ScanValue = λ (u : ScanValue). record u
+    { costs = set u.costs row c; slot_zero = new.slot_zero; slot_one = new.slot_one } in
+    let last : ℕ → ScanValue = λ (k : ℕ). record s {
+      costs = set s.costs row k;
+      slot_zero = new.slot_zero;
+      slot_one =
+          new.slot_one;
+      slot_two = set s.slot_two row from;
+    } in
     b ∙ (ap then a ∙ ap last e)

@@ -1,5 +1,6 @@
 -- A pair from the row settled last is followed: to a row that is met or becomes cheaper, or gets a lesser parent.
-use Rattle.std.proofs.Common.{◌≡◌, ◌≢◌, ℕ, ◌+◌, ◌*◌, ◌<◌, ◌≤◌, ◌==◌, min, inl, inr, List, [], ◌∷◌, ◌++◌, length, map, get_or, unwrap_or, Option, true, is_some, refl, sym, ap, ◌∙◌, subst, arith}
+use Rattle.std.proofs.Common.{◌≡◌, ◌≢◌, ℕ, ◌+◌, ◌*◌, ◌<◌, ◌≤◌, ◌==◌, min, inl, inr, List, [], ◌∷◌, ◌++◌, length, map}
+use Rattle.std.proofs.Common.{get_or, unwrap_or, Option, true, is_some, refl, sym, ap, ◌∙◌, subst, arith}
 use Rattle.std.specs.Prelude.{count_by}
 use Rattle.std.proofs.lemmas.Bool.{cases_eq}
 use Rattle.graph_kinds.specs.Graph.{IsGraph, weight_of}
@@ -10,7 +11,8 @@ use Rattle.scan_record.specs.Asked.{root_of}
 use Rattle.scan_record.specs.Scan.{ScanValue}
 use Rattle.scan_record.specs.ScanGraph.{graph_of_scan}
 use Rattle.path_costs.specs.Heap.{state_of, settled_count}
-use Rattle.path_costs.specs.Search.{key_of_row, row_cost, parent_of, HasPair, IsFollowed, HasParent, IsReached, IsSearchBut, IsOpen, FollowsPair}
+use Rattle.path_costs.specs.Search.{key_of_row, row_cost, parent_of, HasPair, IsFollowed, HasParent, IsReached}
+use Rattle.path_costs.specs.Search.{IsSearchBut, IsOpen, FollowsPair}
 
 -- a pair has one weight
 pub one_weight : (s : ScanValue) (x y v w : ℕ) → HasPair s x y v → HasPair s x y w → v ≡ w
@@ -18,12 +20,16 @@ one_weight s x y v w a b = ap (λ (o : Option ℕ). unwrap_or o v) (sym a ∙ b)
 
 -- one more pair at the end of a path that reaches a row
 pub reached_on : (s : ScanValue) (x y w : ℕ) → IsGraph (graph_of_scan s) → HasPair s x y w → IsReached s x
-    → (path : List ℕ) × IsPath (graph_of_scan s) (root_of s) (key_of_row s y) path × (cost_of (graph_of_scan s) path ≡ row_cost s x + w)
+    → (path : List ℕ) × IsPath (graph_of_scan s) (root_of s) (key_of_row s y) path ×
+    (cost_of (graph_of_scan s) path ≡ row_cost s x + w)
 reached_on s x y w is pair r =
-    let there : is_some (weight_of (graph_of_scan s) (key_of_row s x) (key_of_row s y)) ≡ true = ap (λ (o : Option ℕ). is_some o) pair in (
+    let there : is_some (weight_of (graph_of_scan s) (key_of_row s x) (key_of_row s y)) ≡ true = ap
+    (λ (o : Option ℕ). is_some o) pair in (
       r.path ++ key_of_row s y ∷ [],
-      path_on (graph_of_scan s) (root_of s) (key_of_row s x) (key_of_row s y) r.path r.is_path there (is.to_key (key_of_row s x) (key_of_row s y) w pair),
-      cost_on (graph_of_scan s) (root_of s) (key_of_row s x) (key_of_row s y) w r.path r.is_path pair ∙ ap (λ (c : ℕ). c + w) r.cost,
+      path_on (graph_of_scan s) (root_of s) (key_of_row s x) (key_of_row s y) r.path r.is_path there
+          (is.to_key (key_of_row s x) (key_of_row s y) w pair),
+      cost_on (graph_of_scan s) (root_of s) (key_of_row s x) (key_of_row s y) w r.path r.is_path pair ∙ ap
+          (λ (c : ℕ). c + w) r.cost,
     )
 
 module _ (s : ScanValue) (from row w : ℕ) (cs zs os ps : List ℕ) where
@@ -41,8 +47,10 @@ module _ (s : ScanValue) (from row w : ℕ) (cs zs os ps : List ℕ) where
     pub parents : (y : ℕ) → y ≢ row → get_or ps y 0 ≡ parent_of s y
     pub settled : count_by (λ v. v == 1) (map (λ v. min v 2) os) ≡ settled_count s
 
-  module _ (now : IsOpen s from) (r : row < length s.rows) (pos : 0 < row) (pair : HasPair s from row w) (fits : w ≤ 4294967295) (unsettled : state_of s row ≢ 1) (new : IsRelaxed)
-      (improves : (x v : ℕ) → x < length s.rows → state_of s x ≡ 1 → x ≢ from → HasPair s x row v → IsFollowed written x row v) where
+  module _ (now : IsOpen s from) (r : row < length s.rows) (pos : 0 < row) (pair : HasPair s from row w)
+      (fits : w ≤ 4294967295) (unsettled : state_of s row ≢ 1) (new : IsRelaxed)
+      (improves : (x v : ℕ) → x < length s.rows → state_of s x ≡ 1 → x ≢ from → HasPair s x row v
+      → IsFollowed written x row v) where
     from_not : from ≢ row
     from_not e = unsettled (ap (state_of s) (sym e) ∙ now.settled)
 
@@ -56,12 +64,18 @@ module _ (s : ScanValue) (from row w : ℕ) (cs zs os ps : List ℕ) where
     was_settled : (x : ℕ) → state_of written x ≡ 1 → state_of s x ≡ 1
     was_settled x e = sym (new.states x (was_not x e)) ∙ e
 
-    over : (path : List ℕ) × IsPath (graph_of_scan s) (root_of s) (key_of_row s row) path × (cost_of (graph_of_scan s) path ≡ row_cost s from + w)
+    over : (path : List ℕ) × IsPath (graph_of_scan s) (root_of s) (key_of_row s row) path ×
+        (cost_of (graph_of_scan s) path ≡ row_cost s from + w)
     over = reached_on s from row w now.search.graph pair (now.search.reached from now.row (omega (arith, now.settled)))
 
     written_reached : (y : ℕ) → y < length s.rows → 1 ≤ state_of written y → IsReached written y
     written_reached y h met = elim (cases_eq y row) as (λ _. IsReached written y) [
-      | inl e ↦ subst (IsReached written) (sym e) (record { path = over.0; is_path = over.1; cost = over.2 ∙ sym new.cost })
+      | inl e ↦ subst (IsReached written) (sym e) (record {
+        path = over.0;
+        is_path = over.1;
+        cost = over.2
+            ∙ sym new.cost;
+      })
       | inr ne ↦
           let was : IsReached s y = now.search.reached y h (subst (λ (v : ℕ). 1 ≤ v) (new.states y ne) met) in
           record { path = was.path; is_path = was.is_path; cost = was.cost ∙ sym (new.costs y ne) }
@@ -73,7 +87,8 @@ module _ (s : ScanValue) (from row w : ℕ) (cs zs os ps : List ℕ) where
       settled = ap (state_of written) new.parent ∙ (new.states from from_not ∙ now.settled);
       weight = w;
       pair = subst (λ (p : ℕ). HasPair s p row w) (sym new.parent) pair;
-      total = ap (λ (p : ℕ). get_or cs p 0 + w) new.parent ∙ (ap (λ (c : ℕ). c + w) (new.costs from from_not) ∙ sym new.cost);
+      total = ap (λ (p : ℕ). get_or cs p 0 + w) new.parent ∙ (ap (λ (c : ℕ). c + w) (new.costs from from_not)
+          ∙ sym new.cost);
     }
 
     written_parents : (y : ℕ) → 0 < y → y < length s.rows → 1 ≤ state_of written y → HasParent written y
@@ -88,11 +103,13 @@ module _ (s : ScanValue) (from row w : ℕ) (cs zs os ps : List ℕ) where
             settled = ap (state_of written) same ∙ (new.states (parent_of s y) p_not ∙ was.settled);
             weight = was.weight;
             pair = subst (λ (p : ℕ). HasPair s p y was.weight) (sym same) was.pair;
-            total = ap (λ (p : ℕ). get_or cs p 0 + was.weight) same ∙ (ap (λ (c : ℕ). c + was.weight) (new.costs (parent_of s y) p_not) ∙ (was.total ∙ sym (new.costs y ne)));
+            total = ap (λ (p : ℕ). get_or cs p 0 + was.weight) same ∙
+                (ap (λ (c : ℕ). c + was.weight) (new.costs (parent_of s y) p_not) ∙ (was.total ∙ sym (new.costs y ne)));
           }
     ]
 
-    written_ordered : (x y : ℕ) → x < length s.rows → y < length s.rows → state_of written x ≡ 1 → state_of written y ≡ 2 → row_cost written x ≤ row_cost written y
+    written_ordered : (x y : ℕ) → x < length s.rows → y < length s.rows → state_of written x ≡ 1
+        → state_of written y ≡ 2 → row_cost written x ≤ row_cost written y
     written_ordered x y h k e f =
         let x_not = was_not x e in
         let was = was_settled x e in
@@ -105,12 +122,19 @@ module _ (s : ScanValue) (from row w : ℕ) (cs zs os ps : List ℕ) where
               omega (arith, new.costs x x_not, new.costs y ne, now.search.ordered x y h k was two)
         ]
 
-    written_below : (y : ℕ) → y < length s.rows → 1 ≤ state_of written y → row_cost written y ≤ settled_count written * 4294967295
+    written_below : (y : ℕ) → y < length s.rows → 1 ≤ state_of written y
+        → row_cost written y ≤ settled_count written * 4294967295
     written_below y h met = elim (cases_eq y row) as (λ _. row_cost written y ≤ settled_count written * 4294967295) [
       | inl e ↦
           let here : row_cost written y ≡ row_cost s from + w = ap (λ (z : ℕ). get_or cs z 0) e ∙ new.cost in
           omega (arith, here, now.room, fits, new.settled)
-      | inr ne ↦ omega (arith, new.costs y ne, new.settled, now.search.below y h (subst (λ (v : ℕ). 1 ≤ v) (new.states y ne) met))
+      | inr ne ↦ omega (
+        arith,
+        new.costs y ne,
+        new.settled,
+        now.search.below y h
+            (subst (λ (v : ℕ). 1 ≤ v) (new.states y ne) met),
+      )
     ]
 
     -- what was followed to another row still is
@@ -120,7 +144,8 @@ module _ (s : ScanValue) (from row w : ℕ) (cs zs os ps : List ℕ) where
       cost = omega (arith, new.costs x x_not, new.costs y y_not, f.cost);
       least = λ some e.
           let same : parent_of written y ≡ parent_of s y = new.parents y y_not in
-          subst (λ (p : ℕ). key_of_row s p ≤ key_of_row s x) (sym same) (f.least some (sym (new.costs y y_not) ∙ (e ∙ ap (λ (c : ℕ). c + v) (new.costs x x_not))));
+          subst (λ (p : ℕ). key_of_row s p ≤ key_of_row s x) (sym same)
+          (f.least some (sym (new.costs y y_not) ∙ (e ∙ ap (λ (c : ℕ). c + v) (new.costs x x_not))));
     }
 
     row_followed : IsFollowed written from row w
@@ -130,9 +155,11 @@ module _ (s : ScanValue) (from row w : ℕ) (cs zs os ps : List ℕ) where
       least = λ some e. subst (λ (p : ℕ). key_of_row s p ≤ key_of_row s from) (sym new.parent) (omega arith);
     }
 
-    written_followed : (x y v : ℕ) → x < length s.rows → y < length s.rows → state_of written x ≡ 1 → x ≢ from → HasPair s x y v → IsFollowed written x y v
+    written_followed : (x y v : ℕ) → x < length s.rows → y < length s.rows → state_of written x ≡ 1 → x ≢ from
+        → HasPair s x y v → IsFollowed written x y v
     written_followed x y v h k e ne p = elim (cases_eq y row) as (λ _. IsFollowed written x y v) [
-      | inl g ↦ subst (λ (z : ℕ). IsFollowed written x z v) (sym g) (improves x v h (was_settled x e) ne (subst (λ (z : ℕ). HasPair s x z v) g p))
+      | inl g ↦ subst (λ (z : ℕ). IsFollowed written x z v) (sym g)
+          (improves x v h (was_settled x e) ne (subst (λ (z : ℕ). HasPair s x z v) g p))
       | inr y_not ↦ still_followed x y v (was_not x e) y_not (now.search.followed x y v h k (was_settled x e) ne p)
     ]
 
@@ -156,14 +183,21 @@ module _ (s : ScanValue) (from row w : ℕ) (cs zs os ps : List ℕ) where
         search = written_search;
         row = now.row;
         settled = new.states from from_not ∙ now.settled;
-        last = λ y h e. omega (arith, new.costs y (was_not y e), new.costs from from_not, now.last y h (was_settled y e));
+        last = λ y h e. omega (
+          arith,
+          new.costs y (was_not y e),
+          new.costs from from_not,
+          now.last y h
+              (was_settled y e),
+        );
         room = omega (arith, new.costs from from_not, new.settled, now.room);
       };
       followed = row_followed;
       earlier = λ y v h p f. elim (cases_eq y row) as (λ _. IsFollowed written from y v) [
         | inl e ↦
             let same : w ≡ v = one_weight s from row w v pair (subst (λ (z : ℕ). HasPair s from z v) e p) in
-            subst (λ (z : ℕ). IsFollowed written from z v) (sym e) (subst (IsFollowed written from row) same row_followed)
+            subst (λ (z : ℕ). IsFollowed written from z v) (sym e)
+            (subst (IsFollowed written from row) same row_followed)
         | inr ne ↦ still_followed from y v from_not ne f
       ];
       settled = new.settled;

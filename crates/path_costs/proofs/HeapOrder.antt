@@ -8,7 +8,8 @@ pub above : (p : ℕ) → 0 < p → IsBelow ((p - 1) / 2) p
 above p pos = (omega arith, omega arith)
 
 -- in a heap in order none costs less than the first
-pub first_least : (cost : ℕ → ℕ) (places : ℕ) → ((q p : ℕ) → p < places → IsBelow q p → cost q ≤ cost p) → (n p : ℕ) → p ≤ n → p < places → cost 0 ≤ cost p
+pub first_least : (cost : ℕ → ℕ) (places : ℕ) → ((q p : ℕ) → p < places → IsBelow q p → cost q ≤ cost p) → (n p : ℕ)
+    → p ≤ n → p < places → cost 0 ≤ cost p
 first_least cost places ordered zero p le h =
     let e : p ≡ 0 = omega arith in
     subst (λ (r : ℕ). cost 0 ≤ cost r) (sym e) (omega arith)

@@ -1,19 +1,24 @@
 -- The cheapest row that waits is settled.
-use Rattle.std.proofs.Common.{◌≡◌, ◌≢◌, ℕ, ◌+◌, ◌<◌, ◌≤◌, ◌==◌, min, inl, inr, List, length, map, get_or, set, sym, ap, ◌∙◌, subst, arith, get_or-set_same, get_or-set_other, length-set}
+use Rattle.std.proofs.Common.{◌≡◌, ◌≢◌, ℕ, ◌+◌, ◌<◌, ◌≤◌, ◌==◌, min, inl, inr, List, length, map, get_or, set, sym, ap}
+use Rattle.std.proofs.Common.{◌∙◌, subst, arith, get_or-set_same, get_or-set_other, length-set}
 use Rattle.std.specs.Prelude.{count_by}
 use Rattle.std.proofs.lemmas.Bool.{cases_eq}
 use Rattle.scan_record.specs.Scan.{ScanValue, IsScan}
 use Rattle.path_costs.specs.Heap.{states_of, state_of, settled_count}
-use Rattle.path_costs.specs.Search.{row_cost, parent_of, IsFollowed, HasParent, IsReached, IsSearchBut, IsSearch, IsOpen}
+use Rattle.path_costs.specs.Search.{row_cost, parent_of, IsFollowed, HasParent, IsReached, IsSearchBut, IsSearch}
+use Rattle.path_costs.specs.Search.{IsOpen}
 use Rattle.path_costs.proofs.HeapPlaces.{one_if, count_by-set, length-states_of}
 
-module _ (s : ScanValue) (row : ℕ) (zs os : List ℕ) (long : length (states_of s) ≡ length s.rows) (now : IsSearch s) (h : row < length s.rows) (waited : state_of s row ≡ 2)
-    (least : (r : ℕ) → r < length s.rows → state_of s r ≡ 2 → row_cost s row ≤ row_cost s r) (states : map (λ v. min v 2) os ≡ set (states_of s) row 1) where
+module _ (s : ScanValue) (row : ℕ) (zs os : List ℕ) (long : length (states_of s) ≡ length s.rows) (now : IsSearch s)
+    (h : row < length s.rows) (waited : state_of s row ≡ 2)
+    (least : (r : ℕ) → r < length s.rows → state_of s r ≡ 2 → row_cost s row ≤ row_cost s r)
+    (states : map (λ v. min v 2) os ≡ set (states_of s) row 1) where
   abbrev taken : ScanValue
   taken = record s { slot_zero = zs; slot_one = os }
 
   row_settled : state_of taken row ≡ 1
-  row_settled = ap (λ (xs : List ℕ). get_or xs row 0) states ∙ get_or-set_same (states_of s) row 1 0 (omega (arith, h, long))
+  row_settled = ap (λ (xs : List ℕ). get_or xs row 0) states ∙ get_or-set_same (states_of s) row 1 0
+      (omega (arith, h, long))
 
   same_state : (y : ℕ) → y ≢ row → state_of taken y ≡ state_of s y
   same_state y ne = ap (λ (xs : List ℕ). get_or xs y 0) states ∙ get_or-set_other (states_of s) row y 1 0 ne
@@ -42,7 +47,8 @@ module _ (s : ScanValue) (row : ℕ) (zs os : List ℕ) (long : length (states_o
       let two : state_of s y ≡ 2 = sym (same_state y ne) ∙ e in
       (two, least y k two)
 
-  taken_ordered : (x y : ℕ) → x < length s.rows → y < length s.rows → state_of taken x ≡ 1 → state_of taken y ≡ 2 → row_cost s x ≤ row_cost s y
+  taken_ordered : (x y : ℕ) → x < length s.rows → y < length s.rows → state_of taken x ≡ 1 → state_of taken y ≡ 2
+      → row_cost s x ≤ row_cost s y
   taken_ordered x y k l e f =
       let w = waits_on y l f in
       elim (cases_eq x row) as (λ _. row_cost s x ≤ row_cost s y) [
@@ -62,10 +68,18 @@ module _ (s : ScanValue) (row : ℕ) (zs os : List ℕ) (long : length (states_o
     graph = now.graph;
     root = still_met 0 now.root;
     root_cost = now.root_cost;
-    reached = λ y k met. let r : IsReached s y = now.reached y k (was_met y met) in record { path = r.path; is_path = r.is_path; cost = r.cost };
+    reached = λ y k met. let r : IsReached s y = now.reached y k
+        (was_met y met) in record { path = r.path; is_path = r.is_path; cost = r.cost };
     parents = λ y pos k met.
         let p : HasParent s y = now.parents y pos k (was_met y met) in
-        record { row = p.row; settled = still_settled (parent_of s y) p.settled; weight = p.weight; pair = p.pair; total = p.total };
+        record {
+          row = p.row;
+          settled = still_settled (parent_of s y) p.settled;
+          weight = p.weight;
+          pair = p.pair;
+          total
+              = p.total;
+        };
     ordered = taken_ordered;
     below = λ y k met. omega (arith, now.below y k (was_met y met), more_settled);
     followed = λ x y w k l e ne p.
@@ -96,11 +110,20 @@ pub record IsTaken (old new : ScanValue) (row : ℕ) : Type 0 where
   pub settled : settled_count new ≡ settled_count old + 1
   pub only : (y : ℕ) → state_of new y ≡ 1 → y ≢ row → state_of old y ≡ 1
 
-pub is_taken : (s new : ScanValue) (row : ℕ) → IsScan new → IsSearch s → row < length s.rows → state_of s row ≡ 2 → ((r : ℕ) → r < length s.rows → state_of s r ≡ 2 → row_cost s row ≤ row_cost s r)
-    → states_of new ≡ set (states_of s) row 1 → new ≡ record s { slot_zero = new.slot_zero; slot_one = new.slot_one } → IsTaken s new row
+pub is_taken : (s new : ScanValue) (row : ℕ) → IsScan new → IsSearch s → row < length s.rows → state_of s row ≡ 2 →
+    ((r : ℕ) → r < length s.rows → state_of s r ≡ 2 → row_cost s row ≤ row_cost s r)
+    → states_of new ≡ set (states_of s) row 1 → new ≡ record s { slot_zero = new.slot_zero; slot_one = new.slot_one }
+    → IsTaken s new row
 is_taken s new row scan now h waited least states rest =
     let rows : length new.rows ≡ length s.rows = ap (λ (t : ScanValue). length t.rows) rest in
-    let long : length (states_of s) ≡ length s.rows = omega (arith, rows, length-states_of new scan, ap (λ (xs : List ℕ). length xs) states, length-set (states_of s) row 1) in
+    let long : length (states_of s) ≡ length s.rows = omega (
+      arith,
+      rows,
+      length-states_of new scan,
+      ap
+          (λ (xs : List ℕ). length xs) states,
+      length-set (states_of s) row 1,
+    ) in
     subst (λ (t : ScanValue). IsTaken s t row) (sym rest) (record {
       open_row = taken_open s row new.slot_zero new.slot_one long now h waited least states;
       settled = more_settled s row new.slot_zero new.slot_one long now h waited least states;

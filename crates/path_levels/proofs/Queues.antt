@@ -1,5 +1,7 @@
 -- A queue with one more row is a queue.
-use Rattle.std.proofs.Common.{◌≡◌, ◌≢◌, ℕ, zero, suc, ◌<◌, ◌≤◌, ◌==◌, ◌||◌, Bool, true, false, cond, ◌⊎◌, inl, inr, List, [], ◌∷◌, ◌++◌, length, get_or, set, find, Option, Some, nat_eq, refl, sym, ap, ◌∙◌, subst, arith, length-append, get_or-set_same, get_or-set_other}
+use Rattle.std.proofs.Common.{◌≡◌, ◌≢◌, ℕ, zero, suc, ◌<◌, ◌≤◌, ◌==◌, ◌||◌, Bool, true, false, cond, ◌⊎◌, inl, inr}
+use Rattle.std.proofs.Common.{List, [], ◌∷◌, ◌++◌, length, get_or, set, find, Option, Some, nat_eq, refl, sym, ap, ◌∙◌}
+use Rattle.std.proofs.Common.{subst, arith, length-append, get_or-set_same, get_or-set_other}
 use Rattle.std.specs.List.{IsDistinct, AllByRecursion, list_any}
 use Rattle.std.specs.Option.{option_or}
 use Rattle.std.proofs.lemmas.Bool.{true≢false, cases_lt, cases_eq, ne_eqb, eq-eqb}
@@ -63,36 +65,43 @@ queue_few s done q =
     omega (arith, all, few_keys s)
 
 -- there is room for a row that was not met
-pub room_left : (s : ScanValue) (done row : ℕ) → IsQueue s done → row < length s.rows → stands_in s.keys (row_at s row).key ≡ false → length s.keys < length s.rows
+pub room_left : (s : ScanValue) (done row : ℕ) → IsQueue s done → row < length s.rows → stands_in s.keys
+    (row_at s row).key ≡ false → length s.keys < length s.rows
 room_left s done row q h new =
     let y = (row_at s row).key in
-    let all = few (graph_of_scan s).keys (s.keys ++ y ∷ []) (once_append s.keys (y ∷ []) (once_distinct s.keys q.once) ((λ k. k), tt) apart) there in
+    let all = few (graph_of_scan s).keys (s.keys ++ y ∷ []) (once_append s.keys (y ∷ []) (once_distinct s.keys q.once)
+    ((λ k. k), tt) apart) there in
     omega (arith, all, few_keys s, length-append s.keys (y ∷ []))
   where
     apart : (x : ℕ) → In x s.keys → In x ((row_at s row).key ∷ []) → ⊥
-    apart x k (inl e) = true≢false (sym (stands s.keys (row_at s row).key (subst (λ (z : ℕ). In z s.keys) (sym e) k)) ∙ new)
+    apart x k (inl e) = true≢false (sym (stands s.keys (row_at s row).key (subst (λ (z : ℕ). In z s.keys) (sym e) k))
+        ∙ new)
     apart x k (inr l) = l
 
     there : (x : ℕ) → In x (s.keys ++ (row_at s row).key ∷ []) → has (graph_of_scan s) x ≡ true
     there x k = elim (in_either x s.keys ((row_at s row).key ∷ []) k) as (λ _. has (graph_of_scan s) x ≡ true) [
       | inl l ↦ queue_keys s done q x l
-      | inr l ↦ elim l as (λ _. has (graph_of_scan s) x ≡ true) [ inl e ↦ subst (λ (z : ℕ). has (graph_of_scan s) z ≡ true) e (row_key s row h) | inr n ↦ absurd n ]
+      | inr l ↦ elim l as (λ _. has (graph_of_scan s) x ≡ true)
+          [ inl e ↦ subst (λ (z : ℕ). has (graph_of_scan s) z ≡ true) e (row_key s row h) | inr n ↦ absurd n ]
     ]
 
 -- the first item that passes is that at a place before which none passes
-find_first : (p : ℕ → Bool) (xs : List ℕ) (k : ℕ) → k < length xs → p (get_or xs k 0) ≡ true → ((j : ℕ) → j < k → p (get_or xs j 0) ≡ true → ⊥) → find p xs ≡ Some (get_or xs k 0)
+find_first : (p : ℕ → Bool) (xs : List ℕ) (k : ℕ) → k < length xs → p (get_or xs k 0) ≡ true →
+    ((j : ℕ) → j < k → p (get_or xs j 0) ≡ true → ⊥) → find p xs ≡ Some (get_or xs k 0)
 find_first p [] k h t none = absurd (omega arith)
 find_first p (x ∷ xs) zero h t none = ap (λ (b : Bool). cond b (Some x) (find p xs)) t
-find_first p (x ∷ xs) (suc k) h t none = elim (p x) as (λ b. p x ≡ b → cond b (Some x) (find p xs) ≡ Some (get_or xs k 0)) [
-  | true ↦ λ e. absurd (none 0 (omega arith) e)
-  | false ↦ λ _. find_first p xs k (omega arith) t (λ j lt e. none (suc j) (omega arith) e)
-] refl
+find_first p (x ∷ xs) (suc k) h t none = elim (p x) as (λ b. p x ≡ b → cond b (Some x) (find p xs) ≡ Some
+    (get_or xs k 0)) [
+      | true ↦ λ e. absurd (none 0 (omega arith) e)
+      | false ↦ λ _. find_first p xs k (omega arith) t (λ j lt e. none (suc j) (omega arith) e)
+    ] refl
 
 stands_push : (xs : List ℕ) (y z : ℕ) → stands_in (xs ++ y ∷ []) z ≡ (stands_in xs z || ((y == z) || false))
 stands_push xs y z = list_any-append (λ x. x == z) xs (y ∷ [])
 
 -- the rows of a complete scan have different keys
-pub other_key : (s : ScanValue) → IsComplete s → (j k : ℕ) → j < length s.rows → k < length s.rows → j ≢ k → (row_at s j).key ≢ (row_at s k).key
+pub other_key : (s : ScanValue) → IsComplete s → (j k : ℕ) → j < length s.rows → k < length s.rows → j ≢ k →
+    (row_at s j).key ≢ (row_at s k).key
 other_key s is j k g h ne = elim (cases_lt j k) as (λ _. (row_at s j).key ≢ (row_at s k).key) [
   | inl lt ↦ is.keys_differ j k lt h
   | inr le ↦ λ e. is.keys_differ k j (omega (arith, le, ne)) g (sym e)
@@ -100,20 +109,29 @@ other_key s is j k g h ne = elim (cases_lt j k) as (λ _. (row_at s j).key ≢ (
 
 module _ (s : ScanValue) (scan : IsScan s) (is : IsComplete s) (row parent : ℕ) (h : row < length s.rows) where
   -- marks after the row was marked
-  marks : (keys : List ℕ) → ((k : ℕ) → k < length s.rows → get_or s.slot_two k 0 ≡ cond (stands_in keys (row_at s k).key) 1 0)
-      → (k : ℕ) → k < length s.rows → get_or (set s.slot_two row 1) k 0 ≡ cond (stands_in (keys ++ (row_at s row).key ∷ []) (row_at s k).key) 1 0
-  marks keys met k l = elim (cases_eq k row) as (λ _. get_or (set s.slot_two row 1) k 0 ≡ cond (stands_in (keys ++ (row_at s row).key ∷ []) (row_at s k).key) 1 0) [
-    | inl e ↦
-        let one : get_or (set s.slot_two row 1) k 0 ≡ 1 = ap (λ (j : ℕ). get_or (set s.slot_two row 1) j 0) e ∙ get_or-set_same s.slot_two row 1 0 (omega (arith, h, scan.slot_two_of_rows)) in
-        let same : (row_at s row).key ≡ (row_at s k).key = ap (λ (j : ℕ). (row_at s j).key) (sym e) in
-        let there : stands_in (keys ++ (row_at s row).key ∷ []) (row_at s k).key ≡ true = stands_push keys (row_at s row).key (row_at s k).key ∙ last (stands_in keys (row_at s k).key) (eq-eqb (row_at s row).key (row_at s k).key same) in
-        one ∙ sym (ap (λ (b : Bool). cond b 1 0) there)
-    | inr ne ↦
-        let old : get_or (set s.slot_two row 1) k 0 ≡ get_or s.slot_two k 0 = get_or-set_other s.slot_two row k 1 0 ne in
-        let other = ne_eqb (row_at s row).key (row_at s k).key (other_key s is row k h l (λ e. ne (sym e))) in
-        let there : stands_in (keys ++ (row_at s row).key ∷ []) (row_at s k).key ≡ stands_in keys (row_at s k).key = stands_push keys (row_at s row).key (row_at s k).key ∙ none (stands_in keys (row_at s k).key) other in
-        old ∙ (met k l ∙ sym (ap (λ (b : Bool). cond b 1 0) there))
-  ]
+  marks : (keys : List ℕ) → ((k : ℕ) → k < length s.rows → get_or s.slot_two k 0 ≡ cond
+      (stands_in keys (row_at s k).key) 1 0)
+      → (k : ℕ) → k < length s.rows → get_or (set s.slot_two row 1) k 0 ≡ cond
+      (stands_in (keys ++ (row_at s row).key ∷ []) (row_at s k).key) 1 0
+  marks keys met k l = elim (cases_eq k row) as (λ _. get_or (set s.slot_two row 1) k 0 ≡ cond
+      (stands_in (keys ++ (row_at s row).key ∷ []) (row_at s k).key) 1 0) [
+        | inl e ↦
+            let one : get_or (set s.slot_two row 1) k 0 ≡ 1 = ap (λ (j : ℕ). get_or (set s.slot_two row 1) j 0) e
+            ∙ get_or-set_same s.slot_two row 1 0 (omega (arith, h, scan.slot_two_of_rows)) in
+            let same : (row_at s row).key ≡ (row_at s k).key = ap (λ (j : ℕ). (row_at s j).key) (sym e) in
+            let there : stands_in (keys ++ (row_at s row).key ∷ []) (row_at s k).key ≡ true = stands_push keys
+            (row_at s row).key (row_at s k).key ∙ last (stands_in keys (row_at s k).key)
+            (eq-eqb (row_at s row).key (row_at s k).key same) in
+            one ∙ sym (ap (λ (b : Bool). cond b 1 0) there)
+        | inr ne ↦
+            let old : get_or (set s.slot_two row 1) k 0 ≡ get_or s.slot_two k 0 = get_or-set_other s.slot_two row k 1 0 ne
+            in
+            let other = ne_eqb (row_at s row).key (row_at s k).key (other_key s is row k h l (λ e. ne (sym e))) in
+            let there : stands_in (keys ++ (row_at s row).key ∷ []) (row_at s k).key ≡ stands_in keys
+            (row_at s k).key = stands_push keys (row_at s row).key (row_at s k).key ∙ none
+            (stands_in keys (row_at s k).key) other in
+            old ∙ (met k l ∙ sym (ap (λ (b : Bool). cond b 1 0) there))
+      ]
     where
       last : (b : Bool) {c : Bool} → c ≡ true → (b || (c || false)) ≡ true
       last true e = refl
@@ -124,12 +142,17 @@ module _ (s : ScanValue) (scan : IsScan s) (is : IsComplete s) (row parent : ℕ
       none false e = ap (λ (d : Bool). d || false) e
 
   -- the queue of row 0
-  pub first_queue : s.keys ≡ [] → ((k : ℕ) → k < length s.rows → get_or s.slot_two k 0 ≡ 0) → IsQueue (with_row s row parent) 0
+  pub first_queue : s.keys ≡ [] → ((k : ℕ) → k < length s.rows → get_or s.slot_two k 0 ≡ 0) → IsQueue
+      (with_row s row parent) 0
   first_queue none unmarked = record {
     once = rw none (distinct_one (row_at s row).key);
     rows = λ p l. rw none (here p (short p l));
     keys = λ p l. rw none (keys_here p (short p l));
-    parents = record { before = λ p pos l. absurd (omega (arith, pos, short p l)); first = λ p pos l. absurd (omega (arith, pos, short p l)) };
+    parents = record {
+      before = λ p pos l. absurd (omega (arith, pos, short p l));
+      first = λ p pos l. absurd
+          (omega (arith, pos, short p l));
+    };
     met = rw none (marks [] unmarked);
     closed = λ p y lt. absurd (omega (arith, lt));
   }
@@ -144,11 +167,14 @@ module _ (s : ScanValue) (scan : IsScan s) (is : IsComplete s) (row parent : ℕ
       here zero l = rw first h
       here (suc p) l = absurd (omega arith)
 
-      keys_here : (p : ℕ) → p < 1 → (row_at s (get_or (set s.slot_zero 0 row) p 0)).key ≡ get_or ((row_at s row).key ∷ []) p 0
+      keys_here : (p : ℕ) → p < 1 → (row_at s (get_or (set s.slot_zero 0 row) p 0)).key ≡ get_or
+          ((row_at s row).key ∷ []) p 0
       keys_here zero l = ap (λ (k : ℕ). (row_at s k).key) first
       keys_here (suc p) l = absurd (omega arith)
 
-  module _ (q : IsQueue s parent) (there : parent < length s.keys) (edge : leads (graph_of_scan s) (row_at s row).key (get_or s.keys parent 0) ≡ true) (new : stands_in s.keys (row_at s row).key ≡ false) where
+  module _ (q : IsQueue s parent) (there : parent < length s.keys)
+      (edge : leads (graph_of_scan s) (row_at s row).key (get_or s.keys parent 0) ≡ true)
+      (new : stands_in s.keys (row_at s row).key ≡ false) where
     room : length s.keys < length s.rows
     room = room_left s parent row q h new
 
@@ -167,20 +193,27 @@ module _ (s : ScanValue) (scan : IsScan s) (is : IsComplete s) (row parent : ℕ
     old_slot : (slot : List ℕ) (v p : ℕ) → p < length s.keys → get_or (set slot (length s.keys) v) p 0 ≡ get_or slot p 0
     old_slot slot v p lt = let ne : p ≢ length s.keys = omega arith in get_or-set_other slot (length s.keys) p v 0 ne
 
-    last_slot : (slot : List ℕ) (v p : ℕ) → length slot ≡ length s.rows → p ≡ length s.keys → get_or (set slot (length s.keys) v) p 0 ≡ v
-    last_slot slot v p long e = ap (λ (j : ℕ). get_or (set slot (length s.keys) v) j 0) e ∙ get_or-set_same slot (length s.keys) v 0 (omega (arith, long, room))
+    last_slot : (slot : List ℕ) (v p : ℕ) → length slot ≡ length s.rows → p ≡ length s.keys → get_or
+        (set slot (length s.keys) v) p 0 ≡ v
+    last_slot slot v p long e = ap (λ (j : ℕ). get_or (set slot (length s.keys) v) j 0) e ∙ get_or-set_same slot
+        (length s.keys) v 0 (omega (arith, long, room))
 
-    row_rows : (p : ℕ) → p < length (s.keys ++ (row_at s row).key ∷ []) → get_or (set s.slot_zero (length s.keys) row) p 0 < length s.rows
+    row_rows : (p : ℕ) → p < length (s.keys ++ (row_at s row).key ∷ []) → get_or
+        (set s.slot_zero (length s.keys) row) p 0 < length s.rows
     row_rows p l = elim (old_or_last p l) as (λ _. get_or (set s.slot_zero (length s.keys) row) p 0 < length s.rows) [
       | inl lt ↦ rw (old_slot s.slot_zero row p lt) (q.rows p lt)
       | inr e ↦ rw (last_slot s.slot_zero row p scan.slot_zero_of_rows e) h
     ]
 
-    row_keys : (p : ℕ) → p < length (s.keys ++ (row_at s row).key ∷ []) → (row_at s (get_or (set s.slot_zero (length s.keys) row) p 0)).key ≡ get_or (s.keys ++ (row_at s row).key ∷ []) p 0
-    row_keys p l = elim (old_or_last p l) as (λ _. (row_at s (get_or (set s.slot_zero (length s.keys) row) p 0)).key ≡ get_or (s.keys ++ (row_at s row).key ∷ []) p 0) [
-      | inl lt ↦ ap (λ (k : ℕ). (row_at s k).key) (old_slot s.slot_zero row p lt) ∙ (q.keys p lt ∙ sym (old_key p lt))
-      | inr e ↦ ap (λ (k : ℕ). (row_at s k).key) (last_slot s.slot_zero row p scan.slot_zero_of_rows e) ∙ sym (last_key p e)
-    ]
+    row_keys : (p : ℕ) → p < length (s.keys ++ (row_at s row).key ∷ []) →
+        (row_at s (get_or (set s.slot_zero (length s.keys) row) p 0)).key ≡ get_or
+        (s.keys ++ (row_at s row).key ∷ []) p 0
+    row_keys p l = elim (old_or_last p l) as (λ _. (row_at s (get_or (set s.slot_zero (length s.keys) row) p 0)).key ≡
+        get_or (s.keys ++ (row_at s row).key ∷ []) p 0) [
+          | inl lt ↦ ap (λ (k : ℕ). (row_at s k).key) (old_slot s.slot_zero row p lt) ∙ (q.keys p lt ∙ sym (old_key p lt))
+          | inr e ↦ ap (λ (k : ℕ). (row_at s k).key) (last_slot s.slot_zero row p scan.slot_zero_of_rows e) ∙ sym
+              (last_key p e)
+        ]
 
     first_leads : find (leads (graph_of_scan s) (row_at s row).key) s.keys ≡ Some (get_or s.keys parent 0)
     first_leads = find_first (leads (graph_of_scan s) (row_at s row).key) s.keys parent there edge
@@ -198,8 +231,10 @@ module _ (s : ScanValue) (scan : IsScan s) (is : IsComplete s) (row parent : ℕ
         places : List ℕ
         places = set s.slot_one (length s.keys) parent
 
-        longer : (y x : ℕ) → find (leads (graph_of_scan s) y) s.keys ≡ Some x → find (leads (graph_of_scan s) y) (s.keys ++ (row_at s row).key ∷ []) ≡ Some x
-        longer y x e = find-append (leads (graph_of_scan s) y) s.keys ((row_at s row).key ∷ []) ∙ ap (λ (o : Option ℕ). option_or o (find (leads (graph_of_scan s) y) ((row_at s row).key ∷ []))) e
+        longer : (y x : ℕ) → find (leads (graph_of_scan s) y) s.keys ≡ Some x → find (leads (graph_of_scan s) y)
+            (s.keys ++ (row_at s row).key ∷ []) ≡ Some x
+        longer y x e = find-append (leads (graph_of_scan s) y) s.keys ((row_at s row).key ∷ []) ∙ ap
+            (λ (o : Option ℕ). option_or o (find (leads (graph_of_scan s) y) ((row_at s row).key ∷ []))) e
 
         before : (p : ℕ) → 0 < p → p < length keys → get_or places p 0 < p
         before p pos l = elim (old_or_last p l) as (λ _. get_or places p 0 < p) [
@@ -207,14 +242,18 @@ module _ (s : ScanValue) (scan : IsScan s) (is : IsComplete s) (row parent : ℕ
           | inr e ↦ rw (last_slot s.slot_one parent p scan.slot_one_of_rows e) (omega (arith, e, there))
         ]
 
-        first : (p : ℕ) → 0 < p → p < length keys → find (leads g (get_or keys p 0)) keys ≡ Some (get_or keys (get_or places p 0) 0)
-        first p pos l = elim (old_or_last p l) as (λ _. find (leads g (get_or keys p 0)) keys ≡ Some (get_or keys (get_or places p 0) 0)) [
-          | inl lt ↦
-              let up = q.parents.before p pos lt in
-              let near : get_or s.slot_one p 0 < length s.keys = omega (arith, up, lt) in
-              rw (old_slot s.slot_one parent p lt, old_key p lt, old_key (get_or s.slot_one p 0) near) (longer (get_or s.keys p 0) _ (q.parents.first p pos lt))
-          | inr e ↦ rw (last_slot s.slot_one parent p scan.slot_one_of_rows e, last_key p e, old_key parent there) (longer (row_at s row).key _ first_leads)
-        ]
+        first : (p : ℕ) → 0 < p → p < length keys → find (leads g (get_or keys p 0)) keys ≡ Some
+            (get_or keys (get_or places p 0) 0)
+        first p pos l = elim (old_or_last p l) as (λ _. find (leads g (get_or keys p 0)) keys ≡ Some
+            (get_or keys (get_or places p 0) 0)) [
+              | inl lt ↦
+                  let up = q.parents.before p pos lt in
+                  let near : get_or s.slot_one p 0 < length s.keys = omega (arith, up, lt) in
+                  rw (old_slot s.slot_one parent p lt, old_key p lt, old_key (get_or s.slot_one p 0) near)
+                  (longer (get_or s.keys p 0) _ (q.parents.first p pos lt))
+              | inr e ↦ rw (last_slot s.slot_one parent p scan.slot_one_of_rows e, last_key p e, old_key parent there)
+                  (longer (row_at s row).key _ first_leads)
+            ]
 
     -- a queue with a row that was not met, by an edge from the key that is expanded
     pub put_queue : IsQueue (with_row s row parent) parent
@@ -226,13 +265,17 @@ module _ (s : ScanValue) (scan : IsScan s) (is : IsComplete s) (row parent : ℕ
       met = marks s.keys q.met;
       closed = λ p y lt l e.
           let far : p < length s.keys = omega (arith, lt, there) in
-          stands (s.keys ++ (row_at s row).key ∷ []) y (in_left y s.keys ((row_at s row).key ∷ []) (in_standing s.keys y (q.closed p y lt far (rw (old_key p far) at e))));
+          stands (s.keys ++ (row_at s row).key ∷ []) y (in_left y s.keys ((row_at s row).key ∷ [])
+          (in_standing s.keys y (q.closed p y lt far (rw (old_key p far) at e))));
     }
 
 -- what the mark of a row says
-pub marked : (s : ScanValue) (done row : ℕ) → IsQueue s done → row < length s.rows → (get_or s.slot_two row 0 ≡ 0 → stands_in s.keys (row_at s row).key ≡ false) × ((get_or s.slot_two row 0 ≡ 0 → ⊥) → stands_in s.keys (row_at s row).key ≡ true)
+pub marked : (s : ScanValue) (done row : ℕ) → IsQueue s done → row < length s.rows →
+    (get_or s.slot_two row 0 ≡ 0 → stands_in s.keys (row_at s row).key ≡ false) ×
+    ((get_or s.slot_two row 0 ≡ 0 → ⊥) → stands_in s.keys (row_at s row).key ≡ true)
 marked s done row q h = by (stands_in s.keys (row_at s row).key) (q.met row h)
   where
-    by : (b : Bool) → get_or s.slot_two row 0 ≡ cond b 1 0 → (get_or s.slot_two row 0 ≡ 0 → b ≡ false) × ((get_or s.slot_two row 0 ≡ 0 → ⊥) → b ≡ true)
+    by : (b : Bool) → get_or s.slot_two row 0 ≡ cond b 1 0 → (get_or s.slot_two row 0 ≡ 0 → b ≡ false) ×
+        ((get_or s.slot_two row 0 ≡ 0 → ⊥) → b ≡ true)
     by true e = (λ z. absurd (omega (arith, e, z)), λ _. refl)
     by false e = (λ _. refl, λ n. absurd (n e))

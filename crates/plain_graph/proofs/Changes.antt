@@ -1,5 +1,6 @@
 -- What a change of the graph leaves at each key and at each pair, how it counts, and that it leaves a graph.
-use Rattle.std.proofs.Common.{◌≡◌, ℕ, zero, suc, ◌+◌, ◌-◌, ◌<◌, ◌≤◌, ◌==◌, ◌&&◌, ◌||◌, not, Bool, true, false, cond, Option, Some, None, is_some, true≢false, refl, sym, ap, ap₂, subst, ◌∙◌, arith, eqb-true}
+use Rattle.std.proofs.Common.{◌≡◌, ℕ, zero, suc, ◌+◌, ◌-◌, ◌<◌, ◌≤◌, ◌==◌, ◌&&◌, ◌||◌, not, Bool, true, false, cond}
+use Rattle.std.proofs.Common.{Option, Some, None, is_some, true≢false, refl, sym, ap, ap₂, subst, ◌∙◌, arith, eqb-true}
 use Rattle.std.specs.Cmp.{nat_cmp_total, nat_eq_equiv}
 use Rattle.std.specs.FinMap as finite_map
 use Rattle.std.specs.FinSet as finite_set
@@ -7,7 +8,8 @@ use Rattle.graph_kinds.specs.declared.call.Call.{Call}
 use Rattle.graph_kinds.specs.declared.call.Call.TheVariants.{AddVertex, AddEdge, RemoveEdge}
 use Rattle.graph_kinds.specs.Graph.{Graph, pair_cmp, has, weight_of, key_count, pair_count, IsGraph}
 use Rattle.graph_kinds.specs.Answer.{grows, after, change, without}
-use Rattle.graph_kinds.proofs.Graphs.{pair_total, same_graph, has_put, has_cut, weight_put, weight_cut, weight_kept, len-retain_keys}
+use Rattle.graph_kinds.proofs.Graphs.{pair_total, same_graph, has_put, has_cut, weight_put, weight_cut, weight_kept}
+use Rattle.graph_kinds.proofs.Graphs.{len-retain_keys}
 use Rattle.graph_kinds.proofs.Calls.{none_more as none_added, one_more as one_added}
 
 pub has-add : (g : Graph) (k q : ℕ) → has (change g (AddVertex k)) q ≡ ((k == q) || has g q)
@@ -24,12 +26,15 @@ there-add_vertex g k there = same_graph g _ (λ q. by q (k == q) refl ∙ sym (h
 pub has-without : (g : Graph) (k q : ℕ) → has (without g k) q ≡ cond (k == q) false (has g q)
 has-without g k q =
     has_cut g.keys k q
-    ∙ (ap (λ b. not b && has g q) (nat_eq_equiv.symm q k) ∙ elim (k == q) as (λ b. (not b && has g q) ≡ cond b false (has g q)) [ true ↦ refl | false ↦ refl ])
+    ∙ (ap (λ b. not b && has g q) (nat_eq_equiv.symm q k) ∙ elim (k == q) as
+    (λ b. (not b && has g q) ≡ cond b false (has g q)) [ true ↦ refl | false ↦ refl ])
 
-pub weight-without : (g : Graph) (k a b : ℕ) → weight_of (without g k) a b ≡ cond ((k == a) || (k == b)) None (weight_of g a b)
+pub weight-without : (g : Graph) (k a b : ℕ) → weight_of (without g k) a b ≡ cond ((k == a) || (k == b)) None
+    (weight_of g a b)
 weight-without g k a b =
     weight_kept g.pairs (λ p. not (p.0 == k) && not (p.1 == k)) a b
-    ∙ ((λ i. cond (not (nat_eq_equiv.symm a k i) && not (nat_eq_equiv.symm b k i)) (weight_of g a b) None) ∙ by (k == a) (k == b))
+    ∙ ((λ i. cond (not (nat_eq_equiv.symm a k i) && not (nat_eq_equiv.symm b k i)) (weight_of g a b) None) ∙ by (k == a)
+    (k == b))
   where
     by : (s t : Bool) → cond (not s && not t) (weight_of g a b) None ≡ cond (s || t) None (weight_of g a b)
     by true t = refl
@@ -37,7 +42,8 @@ weight-without g k a b =
     by false false = refl
 
 -- where no pair has the key, none is lost with it
-pub weight-bare : (g : Graph) (k : ℕ) → ((a : ℕ) → weight_of g a k ≡ None) → ((b : ℕ) → weight_of g k b ≡ None) → (a b : ℕ) → weight_of (without g k) a b ≡ weight_of g a b
+pub weight-bare : (g : Graph) (k : ℕ) → ((a : ℕ) → weight_of g a k ≡ None) → ((b : ℕ) → weight_of g k b ≡ None) →
+    (a b : ℕ) → weight_of (without g k) a b ≡ weight_of g a b
 weight-bare g k no_source no_target a b = weight-without g k a b ∙ by (k == a) (k == b) refl refl
   where
     by : (s t : Bool) → (k == a) ≡ s → (k == b) ≡ t → cond (s || t) None (weight_of g a b) ≡ weight_of g a b
@@ -45,14 +51,19 @@ weight-bare g k no_source no_target a b = weight-without g k a b ∙ by (k == a)
     by false true p q = sym (ap (weight_of g a) (sym (eqb-true k b q)) ∙ no_source a)
     by false false p q = refl
 
-pub pairs-bare : (g : Graph) (k : ℕ) → ((a : ℕ) → weight_of g a k ≡ None) → ((b : ℕ) → weight_of g k b ≡ None) → pair_count (without g k) ≡ pair_count g
-pairs-bare g k no_source no_target = ap pair_count (same_graph (without g k) (record (without g k) { pairs = g.pairs }) (λ q. refl) (weight-bare g k no_source no_target))
+pub pairs-bare : (g : Graph) (k : ℕ) → ((a : ℕ) → weight_of g a k ≡ None) → ((b : ℕ) → weight_of g k b ≡ None)
+    → pair_count (without g k) ≡ pair_count g
+pairs-bare g k no_source no_target = ap pair_count (same_graph (without g k) (record (without g k) { pairs = g.pairs })
+    (λ q. refl) (weight-bare g k no_source no_target))
 
 -- a graph without the pairs of a key loses no more with it
-pub without-cut : (g h : Graph) (k : ℕ) → ((q : ℕ) → has h q ≡ has g q) → ((a b : ℕ) → weight_of h a b ≡ cond (k == a) None (cond (k == b) None (weight_of g a b))) → without h k ≡ without g k
+pub without-cut : (g h : Graph) (k : ℕ) → ((q : ℕ) → has h q ≡ has g q) →
+    ((a b : ℕ) → weight_of h a b ≡ cond (k == a) None (cond (k == b) None (weight_of g a b)))
+    → without h k ≡ without g k
 without-cut g h k keys weights = same_graph (without h k) (without g k)
     (λ q. has-without h k q ∙ (ap (cond (k == q) false) (keys q) ∙ sym (has-without g k q)))
-    (λ a b. weight-without h k a b ∙ (ap (cond ((k == a) || (k == b)) None) (weights a b) ∙ (by (k == a) (k == b) (weight_of g a b) ∙ sym (weight-without g k a b))))
+    (λ a b. weight-without h k a b ∙ (ap (cond ((k == a) || (k == b)) None) (weights a b) ∙
+    (by (k == a) (k == b) (weight_of g a b) ∙ sym (weight-without g k a b))))
   where
     by : (s t : Bool) (w : Option ℕ) → cond (s || t) None (cond s None (cond t None w)) ≡ cond (s || t) None w
     by true t w = refl
@@ -77,23 +88,30 @@ without-absent g k sound absent = same_graph (without g k) g
     no_target b None e = e
     no_target b (Some w) e = absurd (true≢false (sym (sound.from_key k b w e) ∙ absent))
 
-pub weight-add : (g : Graph) (x y w a b : ℕ) → weight_of (change g (AddEdge x y w)) a b ≡ cond ((x == a) && (y == b)) (Some w) (weight_of g a b)
-weight-add g x y w a b = weight_put g.pairs x y w a b ∙ (λ i. cond (nat_eq_equiv.symm a x i && nat_eq_equiv.symm b y i) (Some w) (weight_of g a b))
+pub weight-add : (g : Graph) (x y w a b : ℕ) → weight_of (change g (AddEdge x y w)) a b ≡ cond ((x == a) && (y == b))
+    (Some w) (weight_of g a b)
+weight-add g x y w a b = weight_put g.pairs x y w a b ∙ (λ i. cond (nat_eq_equiv.symm a x i && nat_eq_equiv.symm b y i)
+    (Some w) (weight_of g a b))
 
-pub weight-cut : (g : Graph) (x y a b : ℕ) → weight_of (change g (RemoveEdge x y)) a b ≡ cond ((x == a) && (y == b)) None (weight_of g a b)
-weight-cut g x y a b = weight_cut g.pairs x y a b ∙ (λ i. cond (nat_eq_equiv.symm a x i && nat_eq_equiv.symm b y i) None (weight_of g a b))
+pub weight-cut : (g : Graph) (x y a b : ℕ) → weight_of (change g (RemoveEdge x y)) a b ≡ cond
+    ((x == a) && (y == b)) None (weight_of g a b)
+weight-cut g x y a b = weight_cut g.pairs x y a b ∙ (λ i. cond (nat_eq_equiv.symm a x i && nat_eq_equiv.symm b y i) None
+    (weight_of g a b))
 
 -- an edge that is there with this weight is no new one, and one that isn't there takes nothing with it
 pub there-add_edge : (g : Graph) (x y w : ℕ) → weight_of g x y ≡ Some w → change g (AddEdge x y w) ≡ g
-there-add_edge g x y w there = same_graph _ g (λ q. refl) (λ a b. weight-add g x y w a b ∙ by a b (x == a) (y == b) refl refl)
+there-add_edge g x y w there = same_graph _ g (λ q. refl) (λ a b. weight-add g x y w a b ∙ by a b (x == a)
+    (y == b) refl refl)
   where
-    by : (a b : ℕ) (s t : Bool) → (x == a) ≡ s → (y == b) ≡ t → cond (s && t) (Some w) (weight_of g a b) ≡ weight_of g a b
+    by : (a b : ℕ) (s t : Bool) → (x == a) ≡ s → (y == b) ≡ t → cond (s && t) (Some w)
+        (weight_of g a b) ≡ weight_of g a b
     by a b true true p q = sym there ∙ ap₂ (weight_of g) (eqb-true x a p) (eqb-true y b q)
     by a b true false p q = refl
     by a b false t p q = refl
 
 pub absent-cut_edge : (g : Graph) (x y : ℕ) → weight_of g x y ≡ None → change g (RemoveEdge x y) ≡ g
-absent-cut_edge g x y none = same_graph _ g (λ q. refl) (λ a b. weight-cut g x y a b ∙ by a b (x == a) (y == b) refl refl)
+absent-cut_edge g x y none = same_graph _ g (λ q. refl) (λ a b. weight-cut g x y a b ∙ by a b (x == a)
+    (y == b) refl refl)
   where
     by : (a b : ℕ) (s t : Bool) → (x == a) ≡ s → (y == b) ≡ t → cond (s && t) None (weight_of g a b) ≡ weight_of g a b
     by a b true true p q = sym none ∙ ap₂ (weight_of g) (eqb-true x a p) (eqb-true y b q)
@@ -101,11 +119,13 @@ absent-cut_edge g x y none = same_graph _ g (λ q. refl) (λ a b. weight-cut g x
     by a b false t p q = refl
 
 -- where an edge is taken out that leads to another key, or from another one, the weight stays
-pub weight-cut_to : (g : Graph) (x y a b : ℕ) → (y == b) ≡ false → weight_of (change g (RemoveEdge x y)) a b ≡ weight_of g a b
+pub weight-cut_to : (g : Graph) (x y a b : ℕ) → (y == b) ≡ false → weight_of
+    (change g (RemoveEdge x y)) a b ≡ weight_of g a b
 weight-cut_to g x y a b other = weight-cut g x y a b ∙ (ap (λ t. cond ((x == a) && t) None (weight_of g a b)) other
     ∙ elim (x == a) as (λ s. cond (s && false) None (weight_of g a b) ≡ weight_of g a b) [ true ↦ refl | false ↦ refl ])
 
-pub weight-cut_from : (g : Graph) (x y a b : ℕ) → (x == a) ≡ false → weight_of (change g (RemoveEdge x y)) a b ≡ weight_of g a b
+pub weight-cut_from : (g : Graph) (x y a b : ℕ) → (x == a) ≡ false → weight_of
+    (change g (RemoveEdge x y)) a b ≡ weight_of g a b
 weight-cut_from g x y a b other = weight-cut g x y a b ∙ ap (λ s. cond (s && (y == b)) None (weight_of g a b)) other
 
 -- what makes a graph sound, pair by pair
@@ -133,11 +153,15 @@ sound-add_vertex g k sound = sound_pairs _ (λ a b w e. record {
 })
 
 pub sound-without : (g : Graph) (k : ℕ) → IsGraph g → IsGraph (without g k)
-sound-without g k sound = sound_pairs _ (λ a b w e. by a b w (k == a) (k == b) refl refl (sym (weight-without g k a b) ∙ e))
+sound-without g k sound = sound_pairs _ (λ a b w e. by a b w (k == a) (k == b) refl refl
+    (sym (weight-without g k a b) ∙ e))
   where
-    by : (a b w : ℕ) (s t : Bool) → (k == a) ≡ s → (k == b) ≡ t → cond ((k == a) || (k == b)) None (weight_of g a b) ≡ Some w → IsSoundPair (without g k) a b w
-    by a b w true t p q e = let no : None ≡ Some w = ap (λ u. cond (u || (k == b)) None (weight_of g a b)) (sym p) ∙ e in absurd (cc)
-    by a b w false true p q e = let no : None ≡ Some w = (λ i. cond (sym p i || sym q i) None (weight_of g a b)) ∙ e in absurd (cc)
+    by : (a b w : ℕ) (s t : Bool) → (k == a) ≡ s → (k == b) ≡ t → cond ((k == a) || (k == b)) None
+        (weight_of g a b) ≡ Some w → IsSoundPair (without g k) a b w
+    by a b w true t p q e = let no : None ≡ Some w = ap (λ u. cond (u || (k == b)) None (weight_of g a b)) (sym p)
+        ∙ e in absurd (cc)
+    by a b w false true p q e = let no : None ≡ Some w = (λ i. cond (sym p i || sym q i) None (weight_of g a b))
+        ∙ e in absurd (cc)
     by a b w false false p q e =
         let was : weight_of g a b ≡ Some w = (λ i. cond (sym p i || sym q i) None (weight_of g a b)) ∙ e in
         record {
@@ -146,13 +170,21 @@ sound-without g k sound = sound_pairs _ (λ a b w e. by a b w (k == a) (k == b) 
           weighed = sound.weighed a b w was;
         }
 
-pub sound-add_edge : (g : Graph) (x y w : ℕ) → IsGraph g → has g x ≡ true → has g y ≡ true → 1 ≤ w → IsGraph (change g (AddEdge x y w))
-sound-add_edge g x y w sound from to weighed = sound_pairs _ (λ a b v e. by a b v (x == a) (y == b) refl refl (sym (weight-add g x y w a b) ∙ e))
+pub sound-add_edge : (g : Graph) (x y w : ℕ) → IsGraph g → has g x ≡ true → has g y ≡ true → 1 ≤ w → IsGraph
+    (change g (AddEdge x y w))
+sound-add_edge g x y w sound from to weighed = sound_pairs _ (λ a b v e. by a b v (x == a) (y == b) refl refl
+    (sym (weight-add g x y w a b) ∙ e))
   where
     old : (a b v : ℕ) → weight_of g a b ≡ Some v → IsSoundPair (change g (AddEdge x y w)) a b v
-    old a b v e = record { from_key = sound.from_key a b v e; to_key = sound.to_key a b v e; weighed = sound.weighed a b v e }
+    old a b v e = record {
+      from_key = sound.from_key a b v e;
+      to_key = sound.to_key a b v e;
+      weighed = sound.weighed a b
+          v e;
+    }
 
-    by : (a b v : ℕ) (s t : Bool) → (x == a) ≡ s → (y == b) ≡ t → cond ((x == a) && (y == b)) (Some w) (weight_of g a b) ≡ Some v → IsSoundPair (change g (AddEdge x y w)) a b v
+    by : (a b v : ℕ) (s t : Bool) → (x == a) ≡ s → (y == b) ≡ t → cond ((x == a) && (y == b)) (Some w)
+        (weight_of g a b) ≡ Some v → IsSoundPair (change g (AddEdge x y w)) a b v
     by a b v true true p q e =
         let is : Some w ≡ Some v = (λ i. cond (sym p i && sym q i) (Some w) (weight_of g a b)) ∙ e in
         let same : w ≡ v = cc in
@@ -169,7 +201,12 @@ sound-cut_edge g x y sound = sound_pairs _ (λ a b v e. by a b v ((x == a) && (y
   where
     by : (a b v : ℕ) (t : Bool) → cond t None (weight_of g a b) ≡ Some v → IsSoundPair (change g (RemoveEdge x y)) a b v
     by a b v true e = absurd (cc)
-    by a b v false e = record { from_key = sound.from_key a b v e; to_key = sound.to_key a b v e; weighed = sound.weighed a b v e }
+    by a b v false e = record {
+      from_key = sound.from_key a b v e;
+      to_key = sound.to_key a b v e;
+      weighed =
+          sound.weighed a b v e;
+    }
 
 -- vertices and edges
 abbrev pub count_of : Graph → ℕ
@@ -187,11 +224,22 @@ pub count-add_vertex : (g : Graph) (k : ℕ) → count_of (change g (AddVertex k
 count-add_vertex g k = omega (arith, finite_set.len-insert nat_cmp_total g.keys k, one_more (has g k) (key_count g))
 
 pub count-add_edge : (g : Graph) (a b w : ℕ) → count_of (change g (AddEdge a b w)) ≤ count_of g + 1
-count-add_edge g a b w = omega (arith, finite_map.len-insert pair_total g.pairs (a, b) w, one_more (finite_map.contains_key g.pairs (a, b)) (pair_count g))
+count-add_edge g a b w = omega (
+  arith,
+  finite_map.len-insert pair_total g.pairs (a, b) w,
+  one_more
+      (finite_map.contains_key g.pairs (a, b)) (pair_count g),
+)
 
 pub count-without : (g : Graph) (k : ℕ) → count_of (without g k) ≤ count_of g
 count-without g k =
-    omega (arith, finite_set.len-remove nat_cmp_total g.keys k, one_less (has g k) (key_count g), len-retain_keys g.pairs (λ p. not (p.0 == k) && not (p.1 == k)))
+    omega (
+      arith,
+      finite_set.len-remove nat_cmp_total g.keys k,
+      one_less (has g k)
+          (key_count g),
+      len-retain_keys g.pairs (λ p. not (p.0 == k) && not (p.1 == k)),
+    )
 
 -- a graph with a pair has at least one
 pub some_pair : (g : Graph) (a b : ℕ) → is_some (weight_of g a b) ≡ true → 1 ≤ pair_count g
@@ -199,18 +247,26 @@ some_pair g a b there = by (pair_count g) refl
   where
     by : (count : ℕ) → count ≡ pair_count g → 1 ≤ count
     by zero e =
-        let nothing : weight_of g a b ≡ None = ap (λ ps. finite_map.get ps (a, b)) (finite_map.empty_of_len g.pairs (sym e)) ∙ finite_map.get-empty pair_cmp (a, b) in
+        let nothing : weight_of g a b ≡ None = ap (λ ps. finite_map.get ps (a, b))
+        (finite_map.empty_of_len g.pairs (sym e)) ∙ finite_map.get-empty pair_cmp (a, b) in
         absurd (true≢false (sym there ∙ ap is_some nothing))
     by (suc count) e = omega arith
 
 -- a pair that is taken out is one less
-pub fewer_pairs : (g h : Graph) (a b : ℕ) → h ≡ change g (RemoveEdge a b) → is_some (weight_of g a b) ≡ true → pair_count h < pair_count g
+pub fewer_pairs : (g h : Graph) (a b : ℕ) → h ≡ change g (RemoveEdge a b) → is_some (weight_of g a b) ≡ true
+    → pair_count h < pair_count g
 fewer_pairs g h a b is there =
-    let less : pair_count (change g (RemoveEdge a b)) ≡ pair_count g - 1 = finite_map.len-remove pair_total g.pairs (a, b) ∙ ap (λ t. cond t (pair_count g - 1) (pair_count g)) there in
+    let less : pair_count (change g (RemoveEdge a b)) ≡ pair_count g - 1 = finite_map.len-remove pair_total g.pairs
+    (a, b) ∙ ap (λ t. cond t (pair_count g - 1) (pair_count g)) there in
     subst (λ (k : Graph). pair_count k < pair_count g) (sym is) (omega (arith, some_pair g a b there, less))
 
 pub count-cut_edge : (g : Graph) (a b : ℕ) → count_of (change g (RemoveEdge a b)) ≤ count_of g
-count-cut_edge g a b = omega (arith, finite_map.len-remove pair_total g.pairs (a, b), one_less (finite_map.contains_key g.pairs (a, b)) (pair_count g))
+count-cut_edge g a b = omega (
+  arith,
+  finite_map.len-remove pair_total g.pairs (a, b),
+  one_less
+      (finite_map.contains_key g.pairs (a, b)) (pair_count g),
+)
 
 -- a call adds at most one vertex or edge
 pub count-after : (g : Graph) (c : Call) → count_of (after g c) ≤ count_of g + 1

@@ -1,21 +1,25 @@
 -- What is answered to each call, by look-ups, and what then stands after it.
-use Rattle.std.proofs.Common.{◌≡◌, ℕ, ◌<◌, ◌&&◌, ◌==◌, eqb, eqb-true, true≢false, Bool, true, false, cond, Option, Some, None, List, Result, Ok, Err, refl, sym, ap, subst, ◌∙◌}
+use Rattle.std.proofs.Common.{◌≡◌, ℕ, ◌<◌, ◌&&◌, ◌==◌, eqb, eqb-true, true≢false, Bool, true, false, cond, Option, Some}
+use Rattle.std.proofs.Common.{None, List, Result, Ok, Err, refl, sym, ap, subst, ◌∙◌}
 use Rattle.std.specs.Prelude.{IfOk, OnOk}
 use Rattle.std.specs.Option.{option_eq}
 use Rattle.graph_kinds.specs.declared.call.Call.{Call}
-use Rattle.graph_kinds.specs.declared.call.Call.TheVariants.{AddVertex, RemoveVertex, HasVertex, AddEdge, RemoveEdge, HasEdge, Reach, Levels, Cheapest}
+use Rattle.graph_kinds.specs.declared.call.Call.TheVariants.{AddVertex, RemoveVertex, HasVertex, AddEdge, RemoveEdge}
+use Rattle.graph_kinds.specs.declared.call.Call.TheVariants.{HasEdge, Reach, Levels, Cheapest}
 use Rattle.graph_kinds.specs.declared.outcome.Outcome.{Outcome}
 use Rattle.graph_kinds.specs.declared.outcome.Outcome.TheVariants as out
 use Rattle.graph_kinds.specs.Graph.{Graph, has, weight_of, IsGraph}
 use Rattle.graph_kinds.specs.Levels.{levels_of, reach_path}
 use Rattle.graph_kinds.specs.Path.{least_cost, cheapest_path}
 use Rattle.graph_kinds.specs.declared.answer.Answer.{Answer}
-use Rattle.graph_kinds.specs.Answer.{answer, alters, after, change, plain, on_keys, by_weight, by_path, by_levels, by_cost, is_change, there_with, IsPathCall, IsWellMade}
+use Rattle.graph_kinds.specs.Answer.{answer, alters, after, change, plain, on_keys, by_weight, by_path, by_levels}
+use Rattle.graph_kinds.specs.Answer.{by_cost, is_change, there_with, IsPathCall, IsWellMade}
 use Rattle.graph_kinds.proofs.Calls.{after_valid}
 use Rattle.plain_graph.specs.Calls.{CostIsBelow, outcome_of_put}
 
 -- by the outcome, the graph is changed or stays
-pub after_outcome : (g : Graph) (c : Call) (o : Outcome) → plain o ≡ answer g c → cond (is_change o) (change g c) g ≡ after g c
+pub after_outcome : (g : Graph) (c : Call) (o : Outcome) → plain o ≡ answer g c → cond (is_change o)
+    (change g c) g ≡ after g c
 unfolding after alters
 after_outcome g c o e = ap (λ a. cond (is_change a.outcome) (change g c) g) e
 
@@ -45,17 +49,21 @@ pub after_cheapest : (g : Graph) (a b : ℕ) → after g (Cheapest a b) ≡ g
 unfolding after
 after_cheapest g a b = stays g (alters g (Cheapest a b))
 
-pub answer_reach : (g : Graph) (a b : ℕ) (t : Bool) → (has g a && has g b) ≡ t → cond t (by_path (reach_path g a b)) (plain out.NoVertex) ≡ answer g (Reach a b)
+pub answer_reach : (g : Graph) (a b : ℕ) (t : Bool) → (has g a && has g b) ≡ t → cond t (by_path (reach_path g a b))
+    (plain out.NoVertex) ≡ answer g (Reach a b)
 unfolding answer
 answer_reach g a b t both = ap (λ s. cond s (by_path (reach_path g a b)) (plain out.NoVertex)) (sym both)
 
-pub answer_levels : (g : Graph) (a : ℕ) (t : Bool) → has g a ≡ t → cond t (by_levels (levels_of g a)) (plain out.NoVertex) ≡ answer g (Levels a)
+pub answer_levels : (g : Graph) (a : ℕ) (t : Bool) → has g a ≡ t → cond t (by_levels (levels_of g a))
+    (plain out.NoVertex) ≡ answer g (Levels a)
 unfolding answer
 answer_levels g a t there = ap (λ s. cond s (by_levels (levels_of g a)) (plain out.NoVertex)) (sym there)
 
-pub answer_cheapest : (g : Graph) (a b : ℕ) (t : Bool) → (has g a && has g b) ≡ t → cond t (by_cost (least_cost g a b) (cheapest_path g a b)) (plain out.NoVertex) ≡ answer g (Cheapest a b)
+pub answer_cheapest : (g : Graph) (a b : ℕ) (t : Bool) → (has g a && has g b) ≡ t → cond t
+    (by_cost (least_cost g a b) (cheapest_path g a b)) (plain out.NoVertex) ≡ answer g (Cheapest a b)
 unfolding answer
-answer_cheapest g a b t both = ap (λ s. cond s (by_cost (least_cost g a b) (cheapest_path g a b)) (plain out.NoVertex)) (sym both)
+answer_cheapest g a b t both = ap (λ s. cond s (by_cost (least_cost g a b) (cheapest_path g a b)) (plain out.NoVertex))
+    (sym both)
 
 -- the least cost and, where there is one, its path
 pub cost_alike : (c d : Option ℕ) (p q : List ℕ) → c ≡ d → ((w : ℕ) → d ≡ Some w → p ≡ q) → by_cost c p ≡ by_cost d q
@@ -70,7 +78,8 @@ module _ (g : Graph) (k : ℕ) where
   unfolding answer
   answer_add_vertex b e = ap (λ t. plain (cond t (out.Present 0) out.Added)) (sym e)
 
-  pub answer_remove_vertex : (b : Bool) → has g k ≡ b → plain (cond b (out.Removed 0) out.Absent) ≡ answer g (RemoveVertex k)
+  pub answer_remove_vertex : (b : Bool) → has g k ≡ b → plain (cond b (out.Removed 0) out.Absent) ≡ answer g
+      (RemoveVertex k)
   unfolding answer
   answer_remove_vertex b e = ap (λ t. plain (cond t (out.Removed 0) out.Absent)) (sym e)
 
@@ -78,11 +87,14 @@ module _ (g : Graph) (k : ℕ) where
   unfolding answer
   answer_has_vertex b e = ap (λ t. plain (cond t out.Yes out.No)) (sym e)
 
-module _ (g : Graph) (a b : ℕ) (t : Bool) (x : Option ℕ) (both : (has g a && has g b) ≡ t) (weight : weight_of g a b ≡ x) where
-  on_pair : (there : ℕ → Outcome) (gone : Outcome) → cond t (by_weight x there gone) (plain out.NoVertex) ≡ on_keys g a b (by_weight (weight_of g a b) there gone)
+module _ (g : Graph) (a b : ℕ) (t : Bool) (x : Option ℕ) (both : (has g a && has g b) ≡ t)
+    (weight : weight_of g a b ≡ x) where
+  on_pair : (there : ℕ → Outcome) (gone : Outcome) → cond t (by_weight x there gone)
+      (plain out.NoVertex) ≡ on_keys g a b (by_weight (weight_of g a b) there gone)
   on_pair there gone = λ i. cond (sym both i) (by_weight (sym weight i) there gone) (plain out.NoVertex)
 
-  pub answer_add_edge : (w : ℕ) → cond t (by_weight x (there_with w) out.Added) (plain out.NoVertex) ≡ answer g (AddEdge a b w)
+  pub answer_add_edge : (w : ℕ) → cond t (by_weight x (there_with w) out.Added) (plain out.NoVertex) ≡ answer g
+      (AddEdge a b w)
   unfolding answer
   answer_add_edge w = on_pair (there_with w) out.Added
 
@@ -100,16 +112,20 @@ is_some_of None w e = absurd (true≢false e)
 is_some_of (Some x) w e = ap (λ n. Some n) (eqb-true x w (sym e))
 
 -- an add of an edge, by the weight before: where it's this one, it's present, and else replaced
-pub add_by : (w : ℕ) (x : Option ℕ) → by_weight x (there_with w) out.Added ≡ cond (option_eq eqb x (Some w)) (plain (out.Present w)) (plain (outcome_of_put x))
+pub add_by : (w : ℕ) (x : Option ℕ) → by_weight x (there_with w) out.Added ≡ cond (option_eq eqb x (Some w))
+    (plain (out.Present w)) (plain (outcome_of_put x))
 add_by w None = refl
 add_by w (Some x) = by (x == w) refl
   where
-    by : (t : Bool) → (x == w) ≡ t → plain (cond t (out.Present x) (out.Changed x)) ≡ cond t (plain (out.Present w)) (plain (out.Changed x))
+    by : (t : Bool) → (x == w) ≡ t → plain (cond t (out.Present x) (out.Changed x)) ≡ cond t (plain (out.Present w))
+        (plain (out.Changed x))
     by true e = ap (λ n. plain (out.Present n)) (eqb-true x w e)
     by false e = refl
 
-module _ (g : Graph) (a b w : ℕ) (x : Option ℕ) (both : (has g a && has g b) ≡ true) (weight : weight_of g a b ≡ x) where
-  added_by : cond (option_eq eqb x (Some w)) (plain (out.Present w)) (plain (outcome_of_put x)) ≡ answer g (AddEdge a b w)
+module _ (g : Graph) (a b w : ℕ) (x : Option ℕ) (both : (has g a && has g b) ≡ true)
+    (weight : weight_of g a b ≡ x) where
+  added_by : cond (option_eq eqb x (Some w)) (plain (out.Present w)) (plain (outcome_of_put x)) ≡ answer g
+      (AddEdge a b w)
   added_by = sym (add_by w x) ∙ answer_add_edge g a b true x both weight w
 
   pub present_is : true ≡ option_eq eqb x (Some w) → plain (out.Present w) ≡ answer g (AddEdge a b w)
@@ -123,14 +139,16 @@ module _ (g : Graph) (a b w : ℕ) (x : Option ℕ) (both : (has g a && has g b)
     replaced_is o is = ap plain is ∙ replaced
 
     pub replaced_after : change g (AddEdge a b w) ≡ after g (AddEdge a b w)
-    replaced_after = sym (ap (λ t. cond t (change g (AddEdge a b w)) g) (changes x)) ∙ after_outcome g (AddEdge a b w) (outcome_of_put x) replaced
+    replaced_after = sym (ap (λ t. cond t (change g (AddEdge a b w)) g) (changes x)) ∙ after_outcome g (AddEdge a b w)
+        (outcome_of_put x) replaced
       where
         changes : (x : Option ℕ) → is_change (outcome_of_put x) ≡ true
         changes None = refl
         changes (Some y) = refl
 
 there_below : (limit w x : ℕ) → CostIsBelow limit (there_with w x)
-there_below limit w x = elim (x == w) as (λ t. CostIsBelow limit (cond t (out.Present x) (out.Changed x))) [ true ↦ tt | false ↦ tt ]
+there_below limit w x = elim (x == w) as (λ t. CostIsBelow limit (cond t (out.Present x) (out.Changed x)))
+    [ true ↦ tt | false ↦ tt ]
 
 -- only a cheapest path has a cost
 module _ (limit : ℕ) where
@@ -138,11 +156,13 @@ module _ (limit : ℕ) where
   plain_either true x y p q = p
   plain_either false x y p q = q
 
-  either : (b : Bool) (x y : Answer) → CostIsBelow limit x.outcome → CostIsBelow limit y.outcome → CostIsBelow limit (cond b x y).outcome
+  either : (b : Bool) (x y : Answer) → CostIsBelow limit x.outcome → CostIsBelow limit y.outcome → CostIsBelow limit
+      (cond b x y).outcome
   either true x y p q = p
   either false x y p q = q
 
-  weighted : (o : Option ℕ) (there : ℕ → Outcome) (gone : Outcome) → ((w : ℕ) → CostIsBelow limit (there w)) → CostIsBelow limit gone → CostIsBelow limit (by_weight o there gone).outcome
+  weighted : (o : Option ℕ) (there : ℕ → Outcome) (gone : Outcome) → ((w : ℕ) → CostIsBelow limit (there w))
+      → CostIsBelow limit gone → CostIsBelow limit (by_weight o there gone).outcome
   weighted None there gone p q = q
   weighted (Some w) there gone p q = p w
 
@@ -152,7 +172,8 @@ module _ (limit : ℕ) where
 
   pub reach_below : (g : Graph) (a b : ℕ) → CostIsBelow limit (answer g (Reach a b)).outcome
   unfolding answer
-  reach_below g a b = either (has g a && has g b) (by_path (reach_path g a b)) (plain out.NoVertex) (path_below (reach_path g a b)) tt
+  reach_below g a b = either (has g a && has g b) (by_path (reach_path g a b)) (plain out.NoVertex)
+      (path_below (reach_path g a b)) tt
 
   pub levels_below : (g : Graph) (a : ℕ) → CostIsBelow limit (answer g (Levels a)).outcome
   unfolding answer
@@ -163,15 +184,22 @@ module _ (limit : ℕ) where
   update_below g (AddVertex k) update = plain_either (has g k) (out.Present 0) out.Added tt tt
   update_below g (RemoveVertex k) update = plain_either (has g k) (out.Removed 0) out.Absent tt tt
   update_below g (HasVertex k) update = plain_either (has g k) out.Yes out.No tt tt
-  update_below g (AddEdge a b w) update = either (has g a && has g b) (by_weight (weight_of g a b) (there_with w) out.Added) (plain out.NoVertex) (weighted (weight_of g a b) (there_with w) out.Added (there_below limit w) tt) tt
-  update_below g (RemoveEdge a b) update = either (has g a && has g b) (by_weight (weight_of g a b) out.Removed out.NoEdge) (plain out.NoVertex) (weighted (weight_of g a b) out.Removed out.NoEdge (λ _. tt) tt) tt
-  update_below g (HasEdge a b) update = either (has g a && has g b) (by_weight (weight_of g a b) out.Edge out.NoEdge) (plain out.NoVertex) (weighted (weight_of g a b) out.Edge out.NoEdge (λ _. tt) tt) tt
+  update_below g (AddEdge a b w) update = either (has g a && has g b)
+      (by_weight (weight_of g a b) (there_with w) out.Added) (plain out.NoVertex)
+      (weighted (weight_of g a b) (there_with w) out.Added (there_below limit w) tt) tt
+  update_below g (RemoveEdge a b) update = either (has g a && has g b)
+      (by_weight (weight_of g a b) out.Removed out.NoEdge) (plain out.NoVertex)
+      (weighted (weight_of g a b) out.Removed out.NoEdge (λ _. tt) tt) tt
+  update_below g (HasEdge a b) update = either (has g a && has g b) (by_weight (weight_of g a b) out.Edge out.NoEdge)
+      (plain out.NoVertex) (weighted (weight_of g a b) out.Edge out.NoEdge (λ _. tt) tt) tt
   update_below g (Reach a b) update = absurd (update tt)
   update_below g (Levels a) update = absurd (update tt)
   update_below g (Cheapest a b) update = absurd (update tt)
 
-  pub updated_below : (g : Graph) (call : Call) (a : Answer) → ¬ (IsPathCall call) → a ≡ answer g call → CostIsBelow limit a.outcome
-  updated_below g call a update is = subst (λ (x : Answer). CostIsBelow limit x.outcome) (sym is) (update_below g call update)
+  pub updated_below : (g : Graph) (call : Call) (a : Answer) → ¬ (IsPathCall call) → a ≡ answer g call
+      → CostIsBelow limit a.outcome
+  updated_below g call a update is = subst (λ (x : Answer). CostIsBelow limit x.outcome) (sym is)
+      (update_below g call update)
 
   -- an outcome whose cost, if it's one, is below the limit
   pub outcome_below : (o : Outcome) → ((c : ℕ) → o ≡ out.Cost c → c < limit) → CostIsBelow limit o
@@ -179,6 +207,7 @@ module _ (limit : ℕ) where
   outcome_below _ h = tt
 
   -- where a call succeeded with such an answer
-  pub ok_below : {E : Type 0} (r : Result Answer E) (x : Answer) → IfOk r (λ a. a ≡ x) → CostIsBelow limit x.outcome → IfOk r (λ a. CostIsBelow limit a.outcome)
+  pub ok_below : {E : Type 0} (r : Result Answer E) (x : Answer) → IfOk r (λ a. a ≡ x) → CostIsBelow limit x.outcome
+      → IfOk r (λ a. CostIsBelow limit a.outcome)
   ok_below (Ok a) x e h = subst (λ (y : Answer). CostIsBelow limit y.outcome) (sym e) h
   ok_below (Err e) x is h = tt

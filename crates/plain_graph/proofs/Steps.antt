@@ -1,5 +1,7 @@
 -- What a step on the maps makes of the graph that they hold, and that the maps keep what they keep.
-use Rattle.std.proofs.Common.{◌≡◌, ℕ, ◌+◌, ◌-◌, ◌<◌, ◌≤◌, ◌==◌, ◌&&◌, ◌||◌, false, List, [], true, cond, Option, Some, None, Result, Ok, Err, OnOk, OnErr, is_some, refl, sym, ap, subst, ◌∙◌, arith, eqb-true, Bool}
+use Rattle.std.proofs.Common.{◌≡◌, ℕ, ◌+◌, ◌-◌, ◌<◌, ◌≤◌, ◌==◌, ◌&&◌, ◌||◌, false, List, [], true, cond, Option, Some}
+use Rattle.std.proofs.Common.{None, Result, Ok, Err, OnOk, OnErr, is_some, refl, sym, ap, subst, ◌∙◌, arith, eqb-true}
+use Rattle.std.proofs.Common.{Bool}
 use Rattle.std.specs.Prelude.{IsSome, IfSome, IfNone}
 use Rattle.std.specs.Ordering.{nat_cmp}
 use Rattle.std.specs.BTreeMap.{IsOrdered, get, is_at}
@@ -10,13 +12,17 @@ use Rattle.graph_kinds.specs.declared.answer.Memory.{Memory}
 use Rattle.graph_kinds.specs.declared.call.Call.TheVariants.{AddVertex, AddEdge, RemoveEdge}
 use Rattle.graph_kinds.specs.Graph.{Graph, pair_cmp, empty_graph, has, weight_of, pair_count, IsGraph}
 use Rattle.graph_kinds.specs.Answer.{change, without}
-use Rattle.plain_graph.specs.Kept.{Edges, Vertices, graph_in_maps, holds, weight_held, weight_by, Rises, IsCountedGraph, IsMirror, IsIndexedGraph}
-use Rattle.plain_graph.proofs.Changes.{count_of, has-add, has-without, weight-bare, pairs-bare, weight-add, weight-cut, sound-add_vertex, sound-without, sound-add_edge, sound-cut_edge, count-add_vertex, count-add_edge, count-without, count-cut_edge, some_pair}
+use Rattle.plain_graph.specs.Kept.{Edges, Vertices, graph_in_maps, holds, weight_held, weight_by, Rises, IsCountedGraph}
+use Rattle.plain_graph.specs.Kept.{IsMirror, IsIndexedGraph}
+use Rattle.plain_graph.proofs.Changes.{count_of, has-add, has-without, weight-bare, pairs-bare, weight-add, weight-cut}
+use Rattle.plain_graph.proofs.Changes.{sound-add_vertex, sound-without, sound-add_edge, sound-cut_edge}
+use Rattle.plain_graph.proofs.Changes.{count-add_vertex, count-add_edge, count-without, count-cut_edge, some_pair}
 use Rattle.plain_graph.proofs.Held.{has-held, weight-held, graph_from_held, held-empty}
 use Rattle.graph_kinds.proofs.Graphs.{pair_total}
 
 -- maps that rise and hold such a graph, with the count of its edges, keep what they keep
-kept_of : (n : Vertices) → Rises n → (h : Graph) → graph_in_maps n ≡ h → IsGraph h → count_of h ≤ 65536 → (edges : ℕ) → edges ≡ pair_count h → IsCountedGraph n edges
+kept_of : (n : Vertices) → Rises n → (h : Graph) → graph_in_maps n ≡ h → IsGraph h → count_of h ≤ 65536 → (edges : ℕ)
+    → edges ≡ pair_count h → IsCountedGraph n edges
 kept_of n rises h is sound few edges counted = record {
   rising = rises;
   sound = subst IsGraph (sym is) sound;
@@ -27,8 +33,14 @@ kept_of n rises h is sound few edges counted = record {
 -- maps without entries keep what they keep
 pub kept-empty : (m : Vertices) → m.entries ≡ [] → IsOrdered nat_cmp m → IsCountedGraph m 0
 kept-empty m e ordered = kept_of m (record { outer = ordered; inner = none }) empty_graph (held-empty m e)
-    (record { from_key = λ a b w f. absurd (no a b w f); to_key = λ a b w f. absurd (no a b w f); weighed = λ a b w f. absurd (no a b w f) })
-    (omega (arith, finite_set.len-empty nat_cmp, finite_map.len-empty pair_cmp ℕ)) 0 (sym (finite_map.len-empty pair_cmp ℕ))
+    (record {
+      from_key = λ a b w f. absurd (no a b w f);
+      to_key = λ a b w f. absurd
+          (no a b w f);
+      weighed = λ a b w f. absurd (no a b w f);
+    })
+    (omega (arith, finite_set.len-empty nat_cmp, finite_map.len-empty pair_cmp ℕ)) 0
+    (sym (finite_map.len-empty pair_cmp ℕ))
   where
     none : (k : ℕ) (edges : Edges) → get nat_cmp m k ≡ Some edges → IsOrdered nat_cmp edges
     none k edges f = let no : None ≡ Some edges = ap (lookup (is_at (nat_cmp k))) (sym e) ∙ f in absurd (cc)
@@ -37,18 +49,25 @@ kept-empty m e ordered = kept_of m (record { outer = ordered; inner = none }) em
     no a b w f = let none : None ≡ Some w = sym (finite_map.get-empty pair_cmp (a, b)) ∙ f in cc
 
 -- and their index is that of no edges
-pub mirror-empty : (m sources : Vertices) → m.entries ≡ [] → sources.entries ≡ [] → IsOrdered nat_cmp sources → IsMirror m sources
+pub mirror-empty : (m sources : Vertices) → m.entries ≡ [] → sources.entries ≡ [] → IsOrdered nat_cmp sources
+    → IsMirror m sources
 mirror-empty m sources e f ordered = record {
   rising = record { outer = ordered; inner = none };
-  weights = λ a b. ap (λ (es : List (ℕ × Edges)). weight_by (lookup (is_at (nat_cmp b)) es) a) f ∙ sym (ap (λ (es : List (ℕ × Edges)). weight_by (lookup (is_at (nat_cmp a)) es) b) e);
+  weights = λ a b. ap (λ (es : List (ℕ × Edges)). weight_by (lookup (is_at (nat_cmp b)) es) a) f ∙ sym
+      (ap (λ (es : List (ℕ × Edges)). weight_by (lookup (is_at (nat_cmp a)) es) b) e);
 }
   where
     none : (k : ℕ) (edges : Edges) → get nat_cmp sources k ≡ Some edges → IsOrdered nat_cmp edges
     none k edges g = let no : None ≡ Some edges = ap (lookup (is_at (nat_cmp k))) (sym f) ∙ g in absurd (cc)
 
 -- an index stays right where the maps keep their weights
-pub mirror-kept : (m n sources : Vertices) → ((a b : ℕ) → weight_held n a b ≡ weight_held m a b) → IsMirror m sources → IsMirror n sources
-mirror-kept m n sources weights mirror = record { rising = mirror.rising; weights = λ a b. mirror.weights a b ∙ sym (weights a b) }
+pub mirror-kept : (m n sources : Vertices) → ((a b : ℕ) → weight_held n a b ≡ weight_held m a b) → IsMirror m sources
+    → IsMirror n sources
+mirror-kept m n sources weights mirror = record {
+  rising = mirror.rising;
+  weights = λ a b. mirror.weights a b ∙ sym
+      (weights a b);
+}
 
 -- after a vertex was put where it wasn't there, and where it was not put
 module _ (m n : Vertices) (k : ℕ) (others : (q : ℕ) → (k == q) ≡ false → holds n q ≡ holds m q) where
@@ -67,30 +86,36 @@ module _ (m n : Vertices) (k : ℕ) (others : (q : ℕ) → (k == q) ≡ false �
       by false e = others q e
 
 -- what is looked up in the maps or in their index is the weight of the graph
-module _ (m sources : Vertices) {edges : ℕ} (g : Graph) (view : graph_in_maps m ≡ g) (kept : IsIndexedGraph m sources edges) where
+module _ (m sources : Vertices) {edges : ℕ} (g : Graph) (view : graph_in_maps m ≡ g)
+    (kept : IsIndexedGraph m sources edges) where
   pub weight-looked_up : (a b : ℕ) → weight_held m a b ≡ weight_of g a b
   weight-looked_up a b = sym (weight-held m kept.kept.rising.outer a b) ∙ ap (λ (h : Graph). weight_of h a b) view
 
   weight-mirrored : (a b : ℕ) → weight_held sources b a ≡ weight_of g a b
   weight-mirrored a b = kept.mirror.weights a b ∙ weight-looked_up a b
 
-  pub some-source : (k : ℕ) (r : Option ℕ) → IfSome r (λ a. IsSome (weight_held sources k a)) → IfSome r (λ a. IsSome (weight_of g a k))
+  pub some-source : (k : ℕ) (r : Option ℕ) → IfSome r (λ a. IsSome (weight_held sources k a)) → IfSome r
+      (λ a. IsSome (weight_of g a k))
   some-source k None h = tt
   some-source k (Some a) h = subst IsSome (weight-mirrored a k) h
 
-  pub no-source : (k : ℕ) (r : Option ℕ) → IfNone r ((a : ℕ) → weight_held sources k a ≡ None) → IfNone r ((a : ℕ) → weight_of g a k ≡ None)
+  pub no-source : (k : ℕ) (r : Option ℕ) → IfNone r ((a : ℕ) → weight_held sources k a ≡ None) → IfNone r
+      ((a : ℕ) → weight_of g a k ≡ None)
   no-source k None h = λ a. sym (weight-mirrored a k) ∙ h a
   no-source k (Some a) h = tt
 
-  pub some-target : (k : ℕ) (r : Option ℕ) → IfSome r (λ b. IsSome (weight_held m k b)) → IfSome r (λ b. IsSome (weight_of g k b))
+  pub some-target : (k : ℕ) (r : Option ℕ) → IfSome r (λ b. IsSome (weight_held m k b)) → IfSome r
+      (λ b. IsSome (weight_of g k b))
   some-target k None h = tt
   some-target k (Some b) h = subst IsSome (weight-looked_up k b) h
 
-  pub no-target : (k : ℕ) (r : Option ℕ) → IfNone r ((b : ℕ) → weight_held m k b ≡ None) → IfNone r ((b : ℕ) → weight_of g k b ≡ None)
+  pub no-target : (k : ℕ) (r : Option ℕ) → IfNone r ((b : ℕ) → weight_held m k b ≡ None) → IfNone r
+      ((b : ℕ) → weight_of g k b ≡ None)
   no-target k None h = λ b. sym (weight-looked_up k b) ∙ h b
   no-target k (Some b) h = tt
 
-module _ (m n : Vertices) {edges : ℕ} (g : Graph) (view : graph_in_maps m ≡ g) (kept : IsCountedGraph m edges) (rises : Rises n) where
+module _ (m n : Vertices) {edges : ℕ} (g : Graph) (view : graph_in_maps m ≡ g) (kept : IsCountedGraph m edges)
+    (rises : Rises n) where
   has_now : (k : ℕ) → holds m k ≡ has g k
   has_now k = sym (has-held m k) ∙ ap (λ (h : Graph). has h k) view
 
@@ -106,21 +131,29 @@ module _ (m n : Vertices) {edges : ℕ} (g : Graph) (view : graph_in_maps m ≡ 
   counted_now : edges ≡ pair_count g
   counted_now = kept.counted ∙ ap pair_count view
 
-  pub view-stays : ((q : ℕ) → holds n q ≡ holds m q) → ((a b : ℕ) → weight_held n a b ≡ weight_held m a b) → graph_in_maps n ≡ g
+  pub view-stays : ((q : ℕ) → holds n q ≡ holds m q) → ((a b : ℕ) → weight_held n a b ≡ weight_held m a b)
+      → graph_in_maps n ≡ g
   view-stays keys weights = graph_from_held n rises g (λ k. keys k ∙ has_now k) (λ a b. weights a b ∙ weight_now a b)
 
-  pub kept-stays : ((q : ℕ) → holds n q ≡ holds m q) → ((a b : ℕ) → weight_held n a b ≡ weight_held m a b) → IsCountedGraph n edges
+  pub kept-stays : ((q : ℕ) → holds n q ≡ holds m q) → ((a b : ℕ) → weight_held n a b ≡ weight_held m a b)
+      → IsCountedGraph n edges
   kept-stays keys weights = kept_of n rises g (view-stays keys weights) sound_now few_now edges counted_now
 
   module _ (k : ℕ) where
-    pub view-add_vertex : ((q : ℕ) → holds n q ≡ ((k == q) || holds m q)) → ((a b : ℕ) → weight_held n a b ≡ weight_held m a b) → graph_in_maps n ≡ change g (AddVertex k)
-    view-add_vertex keys weights = graph_from_held n rises _ (λ q. keys q ∙ (ap (λ t. (k == q) || t) (has_now q) ∙ sym (has-add g k q))) (λ a b. weights a b ∙ weight_now a b)
+    pub view-add_vertex : ((q : ℕ) → holds n q ≡ ((k == q) || holds m q)) →
+        ((a b : ℕ) → weight_held n a b ≡ weight_held m a b) → graph_in_maps n ≡ change g (AddVertex k)
+    view-add_vertex keys weights = graph_from_held n rises _ (λ q. keys q ∙
+        (ap (λ t. (k == q) || t) (has_now q) ∙ sym (has-add g k q))) (λ a b. weights a b ∙ weight_now a b)
 
-    pub kept-add_vertex : {A : Type 0} (r : Result A Memory) → count_of g < 65536 → OnOk r ((q : ℕ) → holds n q ≡ ((k == q) || holds m q)) → OnErr r ((q : ℕ) → holds n q ≡ holds m q) → ((a b : ℕ) → weight_held n a b ≡ weight_held m a b) → IsCountedGraph n edges
-    kept-add_vertex (Ok u) room ok err weights = kept_of n rises _ (view-add_vertex ok weights) (sound-add_vertex g k sound_now) (omega (arith, count-add_vertex g k)) edges counted_now
+    pub kept-add_vertex : {A : Type 0} (r : Result A Memory) → count_of g < 65536 → OnOk r
+        ((q : ℕ) → holds n q ≡ ((k == q) || holds m q)) → OnErr r ((q : ℕ) → holds n q ≡ holds m q) →
+        ((a b : ℕ) → weight_held n a b ≡ weight_held m a b) → IsCountedGraph n edges
+    kept-add_vertex (Ok u) room ok err weights = kept_of n rises _ (view-add_vertex ok weights)
+        (sound-add_vertex g k sound_now) (omega (arith, count-add_vertex g k)) edges counted_now
     kept-add_vertex (Err u) room ok err weights = kept-stays err weights
 
-    module _ (keys : (q : ℕ) → holds n q ≡ cond (k == q) false (holds m q)) (weights : (a b : ℕ) → weight_held n a b ≡ weight_held m a b)
+    module _ (keys : (q : ℕ) → holds n q ≡ cond (k == q) false (holds m q))
+        (weights : (a b : ℕ) → weight_held n a b ≡ weight_held m a b)
         (no_source : (a : ℕ) → weight_of g a k ≡ None) (no_target : (b : ℕ) → weight_of g k b ≡ None) where
       pub view-cut_vertex : graph_in_maps n ≡ without g k
       view-cut_vertex = graph_from_held n rises _
@@ -128,24 +161,36 @@ module _ (m n : Vertices) {edges : ℕ} (g : Graph) (view : graph_in_maps m ≡ 
           (λ a b. weights a b ∙ (weight_now a b ∙ sym (weight-bare g k no_source no_target a b)))
 
       pub kept-cut_vertex : IsCountedGraph n edges
-      kept-cut_vertex = kept_of n rises _ view-cut_vertex (sound-without g k sound_now) (let less = count-without g k in omega (arith, few_now)) edges (counted_now ∙ sym (pairs-bare g k no_source no_target))
+      kept-cut_vertex = kept_of n rises _ view-cut_vertex (sound-without g k sound_now)
+          (let less = count-without g k in omega (arith, few_now)) edges
+          (counted_now ∙ sym (pairs-bare g k no_source no_target))
 
   module _ (x y : ℕ) (keys : (q : ℕ) → holds n q ≡ holds m q) where
-    pub view-add_edge : (w : ℕ) → ((a b : ℕ) → weight_held n a b ≡ cond ((x == a) && (y == b)) (Some w) (weight_held m a b)) → graph_in_maps n ≡ change g (AddEdge x y w)
-    view-add_edge w weights = graph_from_held n rises _ (λ q. keys q ∙ has_now q) (λ a b. weights a b ∙ (ap (cond ((x == a) && (y == b)) (Some w)) (weight_now a b) ∙ sym (weight-add g x y w a b)))
+    pub view-add_edge : (w : ℕ) → ((a b : ℕ) → weight_held n a b ≡ cond ((x == a) && (y == b)) (Some w)
+        (weight_held m a b)) → graph_in_maps n ≡ change g (AddEdge x y w)
+    view-add_edge w weights = graph_from_held n rises _ (λ q. keys q ∙ has_now q)
+        (λ a b. weights a b ∙ (ap (cond ((x == a) && (y == b)) (Some w)) (weight_now a b) ∙ sym
+        (weight-add g x y w a b)))
 
-    pub kept-add_edge : (w : ℕ) → has g x ≡ true → has g y ≡ true → 1 ≤ w → count_of g < 65536 → ((a b : ℕ) → weight_held n a b ≡ cond ((x == a) && (y == b)) (Some w) (weight_held m a b))
+    pub kept-add_edge : (w : ℕ) → has g x ≡ true → has g y ≡ true → 1 ≤ w → count_of g < 65536 →
+        ((a b : ℕ) → weight_held n a b ≡ cond ((x == a) && (y == b)) (Some w) (weight_held m a b))
         → (count : ℕ) → count ≡ cond (is_some (weight_held m x y)) edges (edges + 1) → IsCountedGraph n count
-    kept-add_edge w from to weighed room weights count counted = kept_of n rises _ (view-add_edge w weights) (sound-add_edge g x y w sound_now from to weighed) (omega (arith, count-add_edge g x y w)) count
-        (counted ∙ ((λ i. cond (is_some (weight_now x y i)) (counted_now i) (counted_now i + 1)) ∙ sym (finite_map.len-insert pair_total g.pairs (x, y) w)))
+    kept-add_edge w from to weighed room weights count counted = kept_of n rises _ (view-add_edge w weights)
+        (sound-add_edge g x y w sound_now from to weighed) (omega (arith, count-add_edge g x y w)) count
+        (counted ∙ ((λ i. cond (is_some (weight_now x y i)) (counted_now i) (counted_now i + 1)) ∙ sym
+        (finite_map.len-insert pair_total g.pairs (x, y) w)))
 
-    pub view-cut_edge : ((a b : ℕ) → weight_held n a b ≡ cond ((x == a) && (y == b)) None (weight_held m a b)) → graph_in_maps n ≡ change g (RemoveEdge x y)
-    view-cut_edge weights = graph_from_held n rises _ (λ q. keys q ∙ has_now q) (λ a b. weights a b ∙ (ap (cond ((x == a) && (y == b)) None) (weight_now a b) ∙ sym (weight-cut g x y a b)))
+    pub view-cut_edge : ((a b : ℕ) → weight_held n a b ≡ cond ((x == a) && (y == b)) None (weight_held m a b))
+        → graph_in_maps n ≡ change g (RemoveEdge x y)
+    view-cut_edge weights = graph_from_held n rises _ (λ q. keys q ∙ has_now q)
+        (λ a b. weights a b ∙ (ap (cond ((x == a) && (y == b)) None) (weight_now a b) ∙ sym (weight-cut g x y a b)))
 
     pub kept-cut_edge : ((a b : ℕ) → weight_held n a b ≡ cond ((x == a) && (y == b)) None (weight_held m a b))
         → (count : ℕ) → count ≡ cond (is_some (weight_held m x y)) (edges - 1) edges → IsCountedGraph n count
-    kept-cut_edge weights count counted = kept_of n rises _ (view-cut_edge weights) (sound-cut_edge g x y sound_now) (let less = count-cut_edge g x y in omega (arith, few_now)) count
-        (counted ∙ ((λ i. cond (is_some (weight_now x y i)) (counted_now i - 1) (counted_now i)) ∙ sym (finite_map.len-remove pair_total g.pairs (x, y))))
+    kept-cut_edge weights count counted = kept_of n rises _ (view-cut_edge weights) (sound-cut_edge g x y sound_now)
+        (let less = count-cut_edge g x y in omega (arith, few_now)) count
+        (counted ∙ ((λ i. cond (is_some (weight_now x y i)) (counted_now i - 1) (counted_now i)) ∙ sym
+        (finite_map.len-remove pair_total g.pairs (x, y))))
 
     -- an edge that is there is counted
     pub counted-there : is_some (weight_held m x y) ≡ true → 1 ≤ edges

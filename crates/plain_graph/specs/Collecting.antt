@@ -1,6 +1,7 @@
 -- How a scan collects the part of a graph that is reached from a key: row 0 is that key's, and each key to which an
 -- edge leads from a row gets the next row when it is met first.
-use Rattle.std.specs.Prelude.{◌≡◌, ◌≢◌, ℕ, ◌<◌, ◌≤◌, ◌%◌, ◌⊎◌, List, [], length, map, All, Option, Some, None, slice_index}
+use Rattle.std.specs.Prelude.{◌≡◌, ◌≢◌, ℕ, ◌<◌, ◌≤◌, ◌%◌, ◌⊎◌, List, [], length, map, All, Option, Some, None}
+use Rattle.std.specs.Prelude.{slice_index}
 use Rattle.std.specs.Ordering.{nat_cmp}
 use Rattle.std.specs.BTreeMap.{get}
 use Rattle.scan_record.specs.declared.rows.EdgeRow.{EdgeRow}
@@ -26,7 +27,8 @@ first_in numbers key = slice_index numbers.firsts.items (bucket_of key)
 pub record IsNumbering (numbers : Numbers) (s : ScanValue) : Type 0 where
   pub wide : length numbers.firsts.items ≡ 65536
   pub differ : (j k : ℕ) → j < k → k < length s.rows → (row_at s j).key ≢ (row_at s k).key
-  pub taken : (k : ℕ) → k < length s.rows → IsOfBucket s (bucket_of (row_at s k).key) (first_in numbers (row_at s k).key)
+  pub taken : (k : ℕ) → k < length s.rows → IsOfBucket s (bucket_of (row_at s k).key)
+      (first_in numbers (row_at s k).key)
   pub found : (k : ℕ) → k < length s.rows → (first_in numbers (row_at s k).key ≡ k)
       ⊎ (get nat_cmp numbers.others (row_at s k).key ≡ Some k)
 

@@ -1,5 +1,6 @@
 -- What a scan tells of its graph, and what stays where the rows stay.
-use Rattle.std.proofs.Common.{◌≡◌, ℕ, zero, suc, ◌+◌, ◌<◌, ◌≤◌, ◌==◌, true, false, cond, List, [], ◌∷◌, length, map, get_or, Some, refl, ap, ap₂, ◌∙◌, subst, arith}
+use Rattle.std.proofs.Common.{◌≡◌, ℕ, zero, suc, ◌+◌, ◌<◌, ◌≤◌, ◌==◌, true, false, cond, List, [], ◌∷◌, length, map}
+use Rattle.std.proofs.Common.{get_or, Some, refl, ap, ap₂, ◌∙◌, subst, arith}
 use Rattle.std.specs.Ordering.{nat_cmp}
 use Rattle.std.specs.Cmp.{nat_cmp_total}
 use Rattle.std.specs.List.{list_any}
@@ -15,13 +16,17 @@ use Rattle.scan_record.proofs.GraphOfScan.{keys_law, neighbours_law}
 use Rattle.graph_kinds.proofs.PathsPairs as pairs
 
 -- the out-neighbours of a row's key are the keys of its edges with a target
-pub row_neighbours : (s : ScanValue) (k : ℕ) → IsScan s → IsComplete s → k < length s.rows → neighbours (graph_of_scan s) (row_at s k).key ≡ target_keys (edges_of s (row_at s k))
+pub row_neighbours : (s : ScanValue) (k : ℕ) → IsScan s → IsComplete s → k < length s.rows → neighbours
+    (graph_of_scan s) (row_at s k).key ≡ target_keys (edges_of s (row_at s k))
 row_neighbours = neighbours_law pairs.neighbours_law pairs.rising_law
 
-any_place : (key : ℕ) (d : VertexRow) (rows : List VertexRow) (k : ℕ) → k < length rows → (get_or rows k d).key ≡ key → list_any (λ (row : VertexRow). row.key == key) rows ≡ true
+any_place : (key : ℕ) (d : VertexRow) (rows : List VertexRow) (k : ℕ) → k < length rows → (get_or rows k d).key ≡ key
+    → list_any (λ (row : VertexRow). row.key == key) rows ≡ true
 any_place key d [] k h e = absurd (omega arith)
-any_place key d (r ∷ rows) zero h e = or_left (r.key == key) (list_any (λ (row : VertexRow). row.key == key) rows) (eq-eqb r.key key e)
-any_place key d (r ∷ rows) (suc k) h e = or_right (r.key == key) (list_any (λ (row : VertexRow). row.key == key) rows) (any_place key d rows k (omega arith) e)
+any_place key d (r ∷ rows) zero h e = or_left (r.key == key) (list_any (λ (row : VertexRow). row.key == key) rows)
+    (eq-eqb r.key key e)
+any_place key d (r ∷ rows) (suc k) h e = or_right (r.key == key) (list_any (λ (row : VertexRow). row.key == key) rows)
+    (any_place key d rows k (omega arith) e)
 
 -- the key of a row is a key of the graph
 pub row_key : (s : ScanValue) (k : ℕ) → k < length s.rows → has (graph_of_scan s) (row_at s k).key ≡ true
@@ -33,14 +38,20 @@ set_short (k ∷ keys) =
     let later = set_short keys in
     let s = set.from_list {R = nat_cmp} keys in
     let one = set.len-insert nat_cmp_total s k in
-    elim (set.contains s k) as (λ b. set.len (set.insert s k) ≡ cond b (set.len s) (set.len s + 1) → set.len (set.insert s k) ≤ suc (length keys)) [
+    elim (set.contains s k) as (λ b. set.len (set.insert s k) ≡ cond b (set.len s) (set.len s + 1) → set.len
+    (set.insert s k) ≤ suc (length keys)) [
       | true ↦ λ e. omega (arith, later, e)
       | false ↦ λ e. omega (arith, later, e)
     ] one
 
 -- the graph has no more keys than there are rows
 pub few_keys : (s : ScanValue) → key_count (graph_of_scan s) ≤ length s.rows
-few_keys s = omega (arith, set_short (map (λ (row : VertexRow). row.key) s.rows), length-map s.rows (λ (row : VertexRow). row.key))
+few_keys s = omega (
+  arith,
+  set_short (map (λ (row : VertexRow). row.key) s.rows),
+  length-map s.rows
+      (λ (row : VertexRow). row.key),
+)
 
 module _ (old new : ScanValue) (k : KeepsRows old new) where
   pub graph_kept : graph_of_scan new ≡ graph_of_scan old
@@ -53,8 +64,10 @@ module _ (old new : ScanValue) (k : KeepsRows old new) where
   complete_kept is = record {
     has_root = rw k.rows is.has_root;
     all_started = cc (k.started, k.rows, is.all_started);
-    keys_differ = λ i j lt h. rw (rows_kept i, rows_kept j) (is.keys_differ i j lt (subst (λ rows. j < length rows) k.rows h));
-    target_keys = λ p t h e. rw (rows_kept t, k.edges) (is.target_keys p t (subst (λ edges. p < length edges) k.edges h) (subst (λ edges. (edge_at (record old { edges = edges }) p).target ≡ Some t) k.edges e));
+    keys_differ = λ i j lt h. rw (rows_kept i, rows_kept j) (is.keys_differ i j lt
+        (subst (λ rows. j < length rows) k.rows h));
+    target_keys = λ p t h e. rw (rows_kept t, k.edges) (is.target_keys p t (subst (λ edges. p < length edges) k.edges h)
+        (subst (λ edges. (edge_at (record old { edges = edges }) p).target ≡ Some t) k.edges e));
   }
 
 pub kept_same : (s : ScanValue) → KeepsRows s s

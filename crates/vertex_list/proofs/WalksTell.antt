@@ -193,7 +193,8 @@ found_here v w from p found link s here z kept since seen_is live is index_is ta
     seen_life w x found link s.life.index s.life.tag z kept seen_is.node index_is tag_is in
     record {
       met = subst (λ (y : Life). MetVertex w y) (sym life) seen_is.node.met;
-      there = subst (λ (y : Life). HoldsBetween from.moment w.front (Has from.key y) s.moment.value.view.front) (sym life)
+      there = subst (λ (y : Life). HoldsBetween from.moment w.front (Has from.key y) s.moment.value.view.front)
+          (sym life)
           (subst (λ (f : List Event). HoldsBetween from.moment w.front (Has from.key (life_in w.sizes w.front x)) f)
           (sym same)
           (record {

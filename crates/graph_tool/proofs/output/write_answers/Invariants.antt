@@ -6,4 +6,5 @@ use Rattle.op_text.specs.declared.write.WriteFailed.{WriteFailed}
 use Rattle.graph_tool.proofs.output.write_answers.Given as goal
 
 abbrev pub invariant-loop-answer : goal.invariant-loop-answer
-invariant-loop-answer g l = Gives {E = WriteFailed} g.K.Sink.taken g.K.Sink.faults l.initial.sink l.sink (answer_lines (take l.answer-index l.answers)) (Ok tt)
+invariant-loop-answer g l = Gives {E = WriteFailed} g.K.Sink.taken g.K.Sink.faults l.initial.sink l.sink
+    (answer_lines (take l.answer-index l.answers)) (Ok tt)

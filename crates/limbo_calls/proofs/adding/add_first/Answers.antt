@@ -38,7 +38,8 @@ link_vertex-requires-clause-may c =
     let at_is : at ≡ bucket_at v0.sizes 0 = c.bucket_at-place.ensures.place ∙ ap (λ (y : Sizes). bucket_at y 0) sizes in
     let one : v0.sizes.buckets ≡ 1 = ap (λ (y : Sizes). y.buckets) c.requires.table.sizes ∙ c.requires.one in
     let none : index_of seen ≡ nowhere = sym c.index.ensures.index ∙ omega (arith, c.if-index-ne16777215.false) in
-    may_link n key v0 v1 v2 x z s t stores v3 v4 at seen c.fill_vertex.ensures.filled c.open_pass.ensures.opened c.open_pass.ensures.table.sound c.load.ensures.looked at_is one none
+    may_link n key v0 v1 v2 x z s t stores v3 v4 at seen c.fill_vertex.ensures.filled c.open_pass.ensures.opened
+    c.open_pass.ensures.table.sound c.load.ensures.looked at_is one none
 
 pub close_pass-requires-clause-open : goal.close_pass-requires-clause-open
 close_pass-requires-clause-open c =
@@ -61,7 +62,9 @@ close_pass-requires-clause-open c =
     let one : v0.sizes.buckets ≡ 1 = ap (λ (y : Sizes). y.buckets) c.requires.table.sizes ∙ c.requires.one in
     let none : index_of seen ≡ nowhere = sym c.index.ensures.index ∙ omega (arith, c.if-index-ne16777215.false) in
     let v5 = c.link_vertex.new.token.view in
-    pass_then n key v0 v1 v2 x z s t stores v3 v4 at seen c.fill_vertex.ensures.filled c.open_pass.ensures.opened c.open_pass.ensures.table.sound c.load.ensures.looked at_is one none v5 _ _ c.load.ensures.table.sound c.in-Won.ensures.tried.1
+    pass_then n key v0 v1 v2 x z s t stores v3 v4 at seen c.fill_vertex.ensures.filled c.open_pass.ensures.opened
+    c.open_pass.ensures.table.sound c.load.ensures.looked at_is one none v5 _ _ c.load.ensures.table.sound
+    c.in-Won.ensures.tried.1
 
 pub returns-clause-steady : goal.returns-clause-steady
 returns-clause-steady c =
@@ -84,4 +87,7 @@ returns-clause-steady c =
     let one : v0.sizes.buckets ≡ 1 = ap (λ (y : Sizes). y.buckets) c.requires.table.sizes ∙ c.requires.one in
     let none : index_of seen ≡ nowhere = sym c.index.ensures.index ∙ omega (arith, c.if-index-ne16777215.false) in
     let v5 = c.link_vertex.new.token.view in
-    λ _. steady_added n key v0 v1 v2 x z s t stores v3 v4 at seen c.fill_vertex.ensures.filled c.open_pass.ensures.opened c.open_pass.ensures.table.sound c.load.ensures.looked at_is one none v5 _ _ c.load.ensures.table.sound c.in-Won.ensures.tried.1 c.close_pass.new.token.view c.close_pass.ensures.makes c.close_pass.ensures.closed
+    λ _. steady_added n key v0 v1 v2 x z s t stores v3 v4 at seen c.fill_vertex.ensures.filled
+    c.open_pass.ensures.opened c.open_pass.ensures.table.sound c.load.ensures.looked at_is one none v5 _ _
+    c.load.ensures.table.sound c.in-Won.ensures.tried.1 c.close_pass.new.token.view c.close_pass.ensures.makes
+    c.close_pass.ensures.closed

@@ -10,4 +10,6 @@ returns-clause-steady c =
     let w = c.close_pass.new.token.view in
     let makes = c.close_pass.ensures.makes in
     let s = c.requires.steady in
-    steady_more true false c.args._steps c.args._steps v w (withdraw_event v ∷ []) makes (omega arith) (omega arith) (makes_none v w (withdraw_event v ∷ []) c.requires.table.layout ((λ y. absurd (cc)), tt) makes s.bare) c.close_pass.ensures.closed s
+    steady_more true false c.args._steps c.args._steps v w (withdraw_event v ∷ []) makes (omega arith) (omega arith)
+    (makes_none v w (withdraw_event v ∷ []) c.requires.table.layout ((λ y. absurd (cc)), tt) makes s.bare)
+    c.close_pass.ensures.closed s

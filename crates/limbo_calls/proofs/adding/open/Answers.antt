@@ -10,4 +10,6 @@ returns-clause-steady c =
     let w = c.open_pass.new.token.view in
     let o = c.open_pass.ensures.opened in
     let s = c.requires.steady in
-    steady_more false true c.args._steps c.args._steps v w (announce_event v o.epoch ∷ []) o.makes (omega arith) (omega arith) (makes_none v w (announce_event v o.epoch ∷ []) c.requires.table.layout ((λ y. absurd (cc)), tt) o.makes s.bare) o.opened s
+    steady_more false true c.args._steps c.args._steps v w (announce_event v o.epoch ∷ []) o.makes (omega arith)
+    (omega arith) (makes_none v w (announce_event v o.epoch ∷ []) c.requires.table.layout
+    ((λ y. absurd (cc)), tt) o.makes s.bare) o.opened s

@@ -23,7 +23,8 @@ loop-waiting-init c = record {
 }
 
 -- rows stay where only the slots of the heap are written
-slots_kept : (s new : ScanValue) → new ≡ record s { slot_zero = new.slot_zero; slot_one = new.slot_one } → KeepsRows s new
+slots_kept : (s new : ScanValue) → new ≡ record s { slot_zero = new.slot_zero; slot_one = new.slot_one }
+    → KeepsRows s new
 slots_kept s new e = record {
   nodes = ap (λ (t : ScanValue). t.nodes) e;
   rows = ap (λ (t : ScanValue). t.rows) e;
@@ -38,24 +39,31 @@ returns-then-vertex-goal-clause-found c =
     let s = c.loop-waiting.scan in
     let new = c.take-row.new.scan in
     let row = c.take-row.result in
-    let taken : IsTaken s new row = is_taken s new row c.vertices.ensures.valid c.loop-waiting.invariant.search c.take-row.ensures.row c.take-row.ensures.waited c.take-row.ensures.least c.take-row.ensures.states c.take-row.ensures.rest in
+    let taken : IsTaken s new row = is_taken s new row c.vertices.ensures.valid c.loop-waiting.invariant.search
+    c.take-row.ensures.row c.take-row.ensures.waited c.take-row.ensures.least c.take-row.ensures.states
+    c.take-row.ensures.rest in
     let kept = kept_on old s new c.loop-waiting.invariant.kept (slots_kept s new c.take-row.ensures.rest) in
     let is = complete_kept old new kept c.requires in (
       omega (arith, c.take-row.ensures.row, rows_long old s c.loop-waiting.invariant.kept),
-      ap (λ (v : VertexRow). v.key) (sym (rows_kept old new kept row)) ∙ (ap (λ (v : VertexRow). v.key) (sym c.vertex.ensures) ∙ c.if-vertex-goal.true),
+      ap (λ (v : VertexRow). v.key) (sym (rows_kept old new kept row)) ∙
+          (ap (λ (v : VertexRow). v.key) (sym c.vertex.ensures) ∙ c.if-vertex-goal.true),
       taken.open_row.settled,
       settled_tree new c.vertices.ensures.valid is row taken.open_row,
     )
 
 pub returns-then-vertex-goal-clause-graph : goal.returns-then-vertex-goal-clause-graph
-returns-then-vertex-goal-clause-graph c = subst IsGraph (graph_kept c.args.scan.now c.loop-waiting.scan c.loop-waiting.invariant.kept) c.loop-waiting.invariant.search.graph
+returns-then-vertex-goal-clause-graph c = subst IsGraph (graph_kept c.args.scan.now c.loop-waiting.scan
+    c.loop-waiting.invariant.kept) c.loop-waiting.invariant.search.graph
 
 pub returns-clause-graph : goal.returns-clause-graph
-returns-clause-graph c = subst IsGraph (graph_kept c.args.scan.now c.loop-waiting.scan c.loop-waiting.invariant.kept) c.loop-waiting.invariant.search.graph
+returns-clause-graph c = subst IsGraph (graph_kept c.args.scan.now c.loop-waiting.scan c.loop-waiting.invariant.kept)
+    c.loop-waiting.invariant.search.graph
 
 pub expand-waiting-requires-clause-open : goal.expand-waiting-requires-clause-open
 expand-waiting-requires-clause-open c =
-    (is_taken c.loop-waiting.scan c.take-row.new.scan c.take-row.result c.vertices.ensures.valid c.loop-waiting.invariant.search c.take-row.ensures.row c.take-row.ensures.waited c.take-row.ensures.least c.take-row.ensures.states c.take-row.ensures.rest).open_row
+    (is_taken c.loop-waiting.scan c.take-row.new.scan c.take-row.result c.vertices.ensures.valid
+    c.loop-waiting.invariant.search c.take-row.ensures.row c.take-row.ensures.waited c.take-row.ensures.least
+    c.take-row.ensures.states c.take-row.ensures.rest).open_row
 
 pub loop-waiting-preserved : goal.loop-waiting-preserved
 loop-waiting-preserved c =
@@ -64,16 +72,20 @@ loop-waiting-preserved c =
     let mid = c.take-row.new.scan in
     let row = c.take-row.result in
     let new = c.expand-waiting.new.scan in
-    let taken : IsTaken s mid row = is_taken s mid row c.vertices.ensures.valid c.loop-waiting.invariant.search c.take-row.ensures.row c.take-row.ensures.waited c.take-row.ensures.least c.take-row.ensures.states c.take-row.ensures.rest in
+    let taken : IsTaken s mid row = is_taken s mid row c.vertices.ensures.valid c.loop-waiting.invariant.search
+    c.take-row.ensures.row c.take-row.ensures.waited c.take-row.ensures.least c.take-row.ensures.states
+    c.take-row.ensures.rest in
     let first = slots_kept s mid c.take-row.ensures.rest in
     let kept = kept_on s mid new first c.expand-waiting.ensures.kept in
-    let key : (r : ℕ) → key_of_row new r ≡ key_of_row s r = λ r. ap (λ (v : VertexRow). v.key) (rows_kept s new kept r) in
+    let key : (r : ℕ) → key_of_row new r ≡ key_of_row s r = λ r. ap (λ (v : VertexRow). v.key)
+    (rows_kept s new kept r) in
     record {
       kept = kept_on old s new c.loop-waiting.invariant.kept kept;
       heap = c.expand-waiting.ensures.heap;
       search = c.expand-waiting.ensures.search;
       not_yet = λ r h e f. elim (cases_eq r row) as (λ _. ⊥) [
-        | inl same ↦ c.if-vertex-goal.false (ap (λ (v : VertexRow). v.key) (c.vertex.ensures ∙ rows_kept s mid first row) ∙ (ap (key_of_row s) (sym same) ∙ (sym (key r) ∙ f)))
+        | inl same ↦ c.if-vertex-goal.false (ap (λ (v : VertexRow). v.key)
+            (c.vertex.ensures ∙ rows_kept s mid first row) ∙ (ap (key_of_row s) (sym same) ∙ (sym (key r) ∙ f)))
         | inr ne ↦
             let was : state_of s r ≡ 1 = taken.only r (c.expand-waiting.ensures.only r e) ne in
             c.loop-waiting.invariant.not_yet r (omega (arith, h, rows_long s new kept)) was (sym (key r) ∙ f)
@@ -87,6 +99,8 @@ returns-clause-none c =
     let scan = c.vertices-2.ensures.valid in
     let kept = c.loop-waiting.invariant.kept in
     let none = nowhere s scan (complete_kept old s kept c.requires) c.loop-waiting.invariant.search
-    (λ r h e. let two = waits s scan r h e in let held = c.loop-waiting.invariant.heap.placed.held r h two in absurd (omega (arith, held.0, c.loop-waiting-test.false, two)))
+    (λ r h e. let two = waits s scan r h e in let held = c.loop-waiting.invariant.heap.placed.held r h two in absurd
+    (omega (arith, held.0, c.loop-waiting-test.false, two)))
     c.args.goal c.loop-waiting.invariant.not_yet in
-    ap₂ (λ (g : Graph) (k : ℕ). least_cost g k c.args.goal) (sym (graph_kept old s kept)) (ap (λ (v : VertexRow). v.key) (sym (rows_kept old s kept 0))) ∙ none
+    ap₂ (λ (g : Graph) (k : ℕ). least_cost g k c.args.goal) (sym (graph_kept old s kept))
+    (ap (λ (v : VertexRow). v.key) (sym (rows_kept old s kept 0))) ∙ none

@@ -7,4 +7,5 @@ pub returns-clause-none : goal.returns-clause-none
 returns-clause-none c =
     let keys = c.args.scan.now.keys in
     stands_nowhere (drop c.args.from keys) c.args.key
-    (λ k lt same. c.loop-place.invariant (c.args.from + k) (omega arith) (omega (arith, lt, length-drop c.args.from keys)) (sym (get_or-drop c.args.from keys k 0) ∙ same))
+    (λ k lt same. c.loop-place.invariant (c.args.from + k) (omega arith)
+    (omega (arith, lt, length-drop c.args.from keys)) (sym (get_or-drop c.args.from keys k 0) ∙ same))

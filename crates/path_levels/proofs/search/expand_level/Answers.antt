@@ -12,18 +12,22 @@ pub loop-place-init : goal.loop-place-init
 loop-place-init c = level_first c.args.scan.now c.args.from c.requires.queue
 
 pub expand-requires-clause-complete : goal.expand-requires-clause-complete
-expand-requires-clause-complete c = complete_kept c.args.scan.now c.loop-place.scan c.loop-place.invariant.kept.rows c.requires.complete
+expand-requires-clause-complete c = complete_kept c.args.scan.now c.loop-place.scan c.loop-place.invariant.kept.rows
+    c.requires.complete
 
 pub expand-requires-clause-place : goal.expand-requires-clause-place
-expand-requires-clause-place c = place_there c.args.scan.now c.loop-place.scan c.args.from c.loop-place.place c.loop-place.invariant c.loop-place.auto.place (omega arith)
+expand-requires-clause-place c = place_there c.args.scan.now c.loop-place.scan c.args.from c.loop-place.place
+    c.loop-place.invariant c.loop-place.auto.place (omega arith)
 
 pub loop-place-preserved : goal.loop-place-preserved
 loop-place-preserved c =
-    level_next c.args.scan.now c.loop-place.scan c.args.from c.loop-place.place c.loop-place.invariant c.loop-place.auto.place (omega arith)
+    level_next c.args.scan.now c.loop-place.scan c.args.from c.loop-place.place c.loop-place.invariant
+    c.loop-place.auto.place (omega arith)
     c.expand.new.scan c.expand.ensures.keys c.expand.ensures.queue c.expand.ensures.ends c.expand.ensures.kept
 
 pub returns-clause-keys : goal.returns-clause-keys
-returns-clause-keys c = level_all c.args.scan.now c.loop-place.scan c.args.from c.loop-place.place c.loop-place.invariant c.loop-place.auto.place (omega arith)
+returns-clause-keys c = level_all c.args.scan.now c.loop-place.scan c.args.from c.loop-place.place
+    c.loop-place.invariant c.loop-place.auto.place (omega arith)
 
 pub returns-clause-queue : goal.returns-clause-queue
 returns-clause-queue c =

@@ -12,7 +12,8 @@ returns-in_err-give_text g c = gives-as (vertices_line-pieces (keys c.args.verti
 
 pub returns-in_err-give_all_spaced : goal.returns-in_err-give_all_spaced
 returns-in_err-give_all_spaced g c = gives-as (vertices_line-pieces (keys c.args.vertices.now))
-    (gives-then c.in_ok-give_text.ensures (gives-stop (codes "\n") c.from_residual-in_err-give_all_spaced.ensures.0 c.in_err-give_all_spaced.ensures))
+    (gives-then c.in_ok-give_text.ensures (gives-stop (codes "\n") c.from_residual-in_err-give_all_spaced.ensures.0
+    c.in_err-give_all_spaced.ensures))
 
 pub returns : goal.returns
 returns g c = gives-as (vertices_line-pieces (keys c.args.vertices.now))

@@ -7,7 +7,8 @@ invariant-loop-left l = record {
   rest : l.scan ≡ record l.fn.scan { keys = l.scan.keys; ends = [] };
   fewer : l.left ≤ l.fn.count;
   long : length l.scan.keys + l.left ≡ l.fn.count;
-  keys : l.scan.keys ++ reverse (take l.left (slot_of l.fn.scan l.slot)) ≡ reverse (take l.fn.count (slot_of l.fn.scan l.slot));
+  keys : l.scan.keys ++ reverse (take l.left (slot_of l.fn.scan l.slot)) ≡ reverse
+      (take l.fn.count (slot_of l.fn.scan l.slot));
 }
 
 abbrev pub decreases-loop-left : goal.decreases-loop-left

@@ -14,9 +14,11 @@ returns-then-not-has-clause-change c = sym (after_levels _ _)
 pub returns-clause-answer : goal.returns-clause-answer
 returns-clause-answer c =
     let g = c.args.self.now in
-    let alike = c.parts_are_answered_alike.ensures.levels g c.args.from c.in_ok-scan.ensures.sound (sym c.if-not-has.ensures) in
+    let alike = c.parts_are_answered_alike.ensures.levels g c.args.from c.in_ok-scan.ensures.sound
+    (sym c.if-not-has.ensures) in
     subst (λ x. IfOk c.copied-answer.result (λ a. a ≡ x))
-    (c.levels-outcome.ensures.answer ∙ ((λ i. by_levels (levels_of (c.in_ok-scan.ensures.graph i) (c.in_ok-scan.ensures.root i))) ∙ (ap by_levels alike ∙ answer_levels _ _ true (sym c.if-not-has.ensures))))
+    (c.levels-outcome.ensures.answer ∙ ((λ i. by_levels (levels_of (c.in_ok-scan.ensures.graph i)
+    (c.in_ok-scan.ensures.root i))) ∙ (ap by_levels alike ∙ answer_levels _ _ true (sym c.if-not-has.ensures))))
     c.copied-answer.ensures
 
 pub returns-clause-change : goal.returns-clause-change

@@ -15,9 +15,12 @@ returns-then-not-has_both-clause-change c = sym (after_reach _ _ _)
 pub returns-clause-answer : goal.returns-clause-answer
 returns-clause-answer c =
     let g = c.args.self.now in
-    let alike = c.parts_are_answered_alike.ensures.reach g c.args.from c.args.to c.in_ok-scan.ensures.sound (and_left _ _ (sym c.if-not-has_both.ensures)) in
+    let alike = c.parts_are_answered_alike.ensures.reach g c.args.from c.args.to c.in_ok-scan.ensures.sound
+    (and_left _ _ (sym c.if-not-has_both.ensures)) in
     subst (λ x. IfOk c.copied-answer.result (λ a. a ≡ x))
-    (c.reach-outcome.ensures.answer ∙ ((λ i. by_path (reach_path (c.in_ok-scan.ensures.graph i) (c.in_ok-scan.ensures.root i) c.args.to)) ∙ (ap by_path alike ∙ answer_reach _ _ _ true (sym c.if-not-has_both.ensures))))
+    (c.reach-outcome.ensures.answer ∙ ((λ i. by_path (reach_path (c.in_ok-scan.ensures.graph i)
+    (c.in_ok-scan.ensures.root i) c.args.to)) ∙ (ap by_path alike ∙ answer_reach _ _ _ true
+    (sym c.if-not-has_both.ensures))))
     c.copied-answer.ensures
 
 pub returns-clause-change : goal.returns-clause-change

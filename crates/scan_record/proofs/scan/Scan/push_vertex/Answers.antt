@@ -3,7 +3,8 @@ use Rattle.scan_record.proofs.Vertices.{vertex_stored}
 use Rattle.scan_record.proofs.scan.Scan.push_vertex.Goals as goal
 
 pub invariant_of-self : goal.invariant_of-self
-invariant_of-self c = vertex_stored c.self.inside _ c.args.self.now c.args.life c.args.key c.self.invariant c.self.view_is
+invariant_of-self c = vertex_stored c.self.inside _ c.args.self.now c.args.life c.args.key c.self.invariant
+    c.self.view_is
     c.requires.room c.requires.index c.requires.absent c.ranges.key.fits (cc) (cc)
     (record {
       rows = omega arith;
