@@ -27,9 +27,9 @@ abbrev pub AreRising : List RipeValue → Type 0
 AreRising [] = Unit {0}
 AreRising (r ∷ rs) = Every (λ (q : RipeValue). r.stamp ≤ q.stamp) rs × AreRising rs
 
--- a limbo is of a token: each of its nodes is spent with the token, was spent when the epoch was at most its stamp, and
--- the token's front has shown an epoch of at least the stamp; the lists that may lead to it are frozen to their ends, all
--- but that which is being frozen, if there is one; no node stands there twice; and stamps rise
+-- a limbo is of a token: each of its nodes is spent with the token, was spent when the epoch was at most its stamp,
+-- and the token's front has shown an epoch of at least the stamp; the lists that may lead to it are frozen to their
+-- ends, all but that which is being frozen, if there is one; no node stands there twice; and stamps rise
 pub record IsLimboOf (but : Option ℕ) (v : View) (nodes : List RipeValue) : Type 0 where
   pub each : Every (λ (r : RipeValue). IsRetired but v r.life r.stamp) nodes
   pub apart : AreApart (map index_in nodes)

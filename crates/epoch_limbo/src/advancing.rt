@@ -19,10 +19,10 @@ pub enum Advanced {
     Lost,
 }
 
-/// Moves the epoch on by one, in O(callers): a load of the epoch, one of each announcement in the order of callers, and
-/// an exchange. `Held` tells the first caller whose announcement showed an epoch below the one loaded; no exchange is
-/// made then. `Lost` comes where the epoch had moved. The token's caller has no open pass, and has moved the epoch fewer
-/// than 2^34 times.
+/// Moves the epoch on by one, in O(callers): a load of the epoch, one of each announcement in the order of callers,
+/// and an exchange. `Held` tells the first caller whose announcement showed an epoch below the one loaded; no
+/// exchange is made then. `Lost` comes where the epoch had moved. The token's caller has no open pass, and has moved
+/// the epoch fewer than 2^34 times.
 pub fn advance(table: &GraphTable, token: &mut Token) -> Advanced
     requires table { IsOf table.now token.old }
     requires number { token.old.view.numbered ≡ true }

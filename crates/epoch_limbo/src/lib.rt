@@ -1,8 +1,8 @@
 //! Passes, the epoch, and the limbo of spent nodes.
 //!
-//! A caller announces the epoch before it walks and withdraws the announcement after that; the epoch moves on only where
-//! no announcement is older; and a node that was spent in an epoch is given back only after two more moves, when no open
-//! pass can hold it (Fraser 2004). The rule that this rests on is core_epoch's.
+//! A caller announces the epoch before it walks and withdraws the announcement after that; the epoch moves on only
+//! where no announcement is older; and a node that was spent in an epoch is given back only after two more moves,
+//! when no open pass can hold it (Fraser 2004). The rule that this rests on is core_epoch's.
 #![tactic(auto)]
 
 mod advancing;

@@ -6,8 +6,8 @@ use Rattle.core_journal.specs.declared.event.Event.{Event}
 use Rattle.core_rule.specs.OwnEvents.{store_event}
 use Rattle.core_rule.specs.declared.view.View.{View}
 
--- the stores that fill a node as a vertex: its key, its link to the next vertex, a second word that leads to no edge, and
--- its counter
+-- the stores that fill a node as a vertex: its key, its link to the next vertex, a second word that leads to no edge,
+-- and its counter
 abbrev pub vertex_stores : View → Life → (key next : ℕ) → List Event
 vertex_stores v x key next =
     store_event v x 0 key

@@ -29,8 +29,8 @@ pub fn fill_vertex(table: &GraphTable, token: &mut Token, fresh: &Fresh, key: u3
     table.store_private(token, fresh, Field::Third, 0);
 }
 
-/// Fills a fresh node as an edge to a target of this key, with this weight and with where `next` leads as the next edge,
-/// in O(1): four stores. The weight is at least 1, and the target is a life of a node of the table.
+/// Fills a fresh node as an edge to a target of this key, with this weight and with where `next` leads as the next
+/// edge, in O(1): four stores. The weight is at least 1, and the target is a life of a node of the table.
 pub fn fill_edge(
     table: &GraphTable,
     token: &mut Token,
