@@ -32,8 +32,8 @@ pub fn close(table: &GraphTable, token: &mut Token, _steps: u32)
     close_pass(table, token);
 }
 
-/// Takes a node, fills it as a vertex of this key, and links it in a pass as the first of the only bucket, where that is
-/// empty.
+/// Takes a node, fills it as a vertex of this key, and links it in a pass as the first of the only bucket, where that
+/// is empty.
 pub fn add_first(table: &GraphTable, token: &mut Token, key: u32, _steps: u32) -> bool
     requires table { IsOf table.now token.old }
     requires steady { IsSteady false _steps token.old.view }
