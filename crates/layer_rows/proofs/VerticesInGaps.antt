@@ -1,5 +1,5 @@
 -- A vertex is linked into the gap to which a walk came, behind the stores that filled it.
-use Rattle.std.proofs.Common.{◌≡◌, ◌≢◌, ℕ, ◌+◌, false, List, [], ◌∷◌, ◌∙◌, None, refl, arith}
+use Rattle.std.proofs.Common.{◌≡◌, ◌≢◌, ℕ, ◌+◌, false, [], ◌∷◌, ◌∙◌, None, refl, arith}
 use Rattle.graph_kinds.specs.History.{Every}
 use Rattle.packed_link.specs.Layout.{IsLayout}
 use Rattle.packed_link.specs.Link.{nowhere, pack}
@@ -9,7 +9,7 @@ use Rattle.core_journal.specs.declared.event.Event.{Event}
 use Rattle.core_counts.specs.Spending.{GetsNone}
 use Rattle.core_rule.specs.OwnEvents.{link_vertex_event}
 use Rattle.core_rule.specs.declared.view.View.{View}
-use Rattle.core_stretches.specs.Holdings.{IsFilledAsVertex, IsHeldFresh}
+use Rattle.core_stretches.specs.Holdings.{IsHeldFresh}
 use Rattle.core_stretches.specs.Makes.{Makes, StaysInPass}
 use Rattle.core_stretches.proofs.MakesTell.{makes_counts}
 use Rattle.node_arena.specs.Filling.{vertex_stores}
@@ -32,10 +32,16 @@ gap_filled v w x key next p z m b g =
     let f : IsHeldFresh v x = record { life = b.holding.held.life; fresh = b.holding.held.fresh } in
     let apart : Every (λ (e : Event). e.place ≢ p.place) (vertex_stores v x key next) = (
       place_apart false v p x 0 z (omega arith) f g.position,
-      (place_apart false v p x 1 z (omega arith) f g.position,
-      (place_apart false v p x 2 z (omega arith) f g.position,
-      (place_apart false v p x 3 z (omega arith) f g.position,
-      tt))),
+      (
+        place_apart false v p x 1 z (omega arith) f g.position,
+        (
+          place_apart false v p x 2 z (omega arith) f g.position,
+          (
+            place_apart false v p x 3 z (omega arith) f g.position,
+            tt,
+          ),
+        ),
+      ),
     ) in
     gap_makes v w (vertex_stores v x key next) p z (stores_stay v x key next) apart m g
 

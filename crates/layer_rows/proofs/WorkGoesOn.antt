@@ -9,7 +9,7 @@ use Rattle.core_journal.specs.Event.{pops, unlinks}
 use Rattle.core_journal.specs.Reuse.{pass_in}
 use Rattle.core_journal.specs.State.{Pass}
 use Rattle.core_kept.specs.Nodes.{IsSpentWith}
-use Rattle.core_counts.specs.Spending.{GetsNone, GotOnly, is_among}
+use Rattle.core_counts.specs.Spending.{GetsNone, is_among}
 use Rattle.core_kept.specs.Counts.{made}
 use Rattle.core_kept.specs.Kept.{IsKept}
 use Rattle.core_counts.specs.Spending.{acts}
@@ -18,14 +18,19 @@ use Rattle.core_lists.proofs.NewNumbers.{new_made}
 use Rattle.core_rule.specs.OwnEvents.{announce_event, pop_event, store_event}
 use Rattle.core_rule.specs.Plays.{Drew, draw_event}
 use Rattle.epoch_limbo.specs.Passes.{IsOpened}
-use Rattle.core_rule.specs.Stretches.{HasNoFresh, HasPass}
+use Rattle.core_rule.specs.Stretches.{HasPass}
 use Rattle.core_rule.specs.declared.view.View.{View}
 use Rattle.core_stretches.specs.Holdings.{HasGotOnly, IsHeldFresh}
 use Rattle.core_stretches.specs.Makes.{Makes, StaysInPass}
 use Rattle.core_stretches.proofs.HoldingsStay.{makes_fresh_by_kind, makes_got, makes_got_unlink, makes_none}
 use Rattle.core_stretches.proofs.MakesTell.{makes_counts, makes_goes, makes_later}
-use Rattle.table_calls.specs.Resting.{IsHolding, IsResting}
-use Rattle.layer_rows.specs.Rows.{HasSpentNone, IsAtWork, IsBuilding, taken_by}
+use Rattle.core_stretches.specs.Moments.{Has, Moment}
+use Rattle.core_journal.specs.Prefix.{IsPrefix}
+use Rattle.core_journal.proofs.Lists.{prefix_trans}
+use Rattle.vertex_list.specs.declared.walks.Found.TheVariants.{Here}
+use Rattle.vertex_list.specs.declared.walks.Sighting.{Sighting}
+use Rattle.table_calls.specs.Resting.{IsResting}
+use Rattle.layer_rows.specs.Rows.{HasSpentNone, IsAtWork, IsBuilding, IsWalked, taken_by}
 
 pub number_on : (v w : View) (own : List Event) → Makes v own w → v.numbered ≡ true → w.numbered ≡ true
 number_on v w own m has = (makes_later v w own m).numbered ∙ has
@@ -163,3 +168,14 @@ only_one v w e z h is m y spent =
     first : (i : ℕ) (b : Bool) → eqb i y ≡ b → (b || false) ≡ true → y ≡ i
     first i true same among = sym (eqb-true i y same)
     first i false same among = absurd (cc)
+
+-- a vertex to which a walk came was present with the key since an older front
+pub walked_here : (v m u w : View) (key : ℕ) (s : Sighting) → IsPrefix v.front m.front → IsPrefix u.front w.front
+    → IsWalked key (Here s) m u → Moment v.front w.front (Has key s.life) s.moment.value.view.front
+walked_here v m u w key s before behind h =
+    let at = s.moment.value.view.front in
+    record {
+      since = prefix_trans v.front m.front at before (prefix_trans m.front h.from.moment at h.since h.found.there.since);
+      until = prefix_trans at u.front w.front h.found.there.until behind;
+      holds = subst (λ (k : ℕ). Has k s.life at) h.key_is h.found.there.holds;
+    }

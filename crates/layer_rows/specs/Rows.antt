@@ -1,5 +1,5 @@
 -- What a token knows between the calls of a worked row, and what these tell.
-use Rattle.std.specs.Prelude.{◌≡◌, ◌≢◌, ◌⊎◌, ℕ, ◌+◌, ◌≤◌, true, false, []}
+use Rattle.std.specs.Prelude.{◌≡◌, ◌≢◌, ◌⊎◌, ℕ, ◌+◌, ◌≤◌, true, false, List, []}
 use Rattle.graph_kinds.specs.declared.call.Call.TheVariants.{AddVertex}
 use Rattle.packed_link.specs.Layout.{IsLayout, second_at}
 use Rattle.packed_link.specs.Link.{index_of, mark_of, nowhere}
@@ -13,13 +13,14 @@ use Rattle.core_journal.specs.State.{state}
 use Rattle.core_kept.specs.Counts.{made}
 use Rattle.core_kept.specs.Nodes.{IsSpentWith}
 use Rattle.core_rule.specs.Fronts.{key_in}
+use Rattle.core_rule.specs.OwnEvents.{link_edge_event}
 use Rattle.core_rule.specs.Plays.{IsSound}
 use Rattle.core_rule.specs.declared.view.View.{View}
 use Rattle.core_stretches.specs.Holdings.{IsUnlinkedVertex}
 use Rattle.core_stretches.specs.Makes.{Makes}
-use Rattle.core_stretches.specs.Moments.{Carries, EndsBy}
+use Rattle.core_stretches.specs.Moments.{Carries, EndsBy, Has, Moment}
 use Rattle.graph_table.specs.Filled.{MayLinkFilledEdge, filled_edge_event}
-use Rattle.graph_table.specs.Table.{MatchLink, list_at, weight_in}
+use Rattle.graph_table.specs.Table.{MatchLink}
 use Rattle.graph_table.specs.declared.answers.LinkTried.{LinkTried}
 use Rattle.table_calls.specs.Resting.{IsHolding, IsResting}
 use Rattle.table_calls.specs.Vertices.{MatchHeld}
@@ -71,7 +72,7 @@ pub record IsNoFront (source : Life) (key : ℕ) (v w : View) : Type 0 where
   pub cause : (mark_of seen ≡ 1) ⊎ ((index_of seen ≢ nowhere) × (key_in w (index_of seen) ≤ key))
 
 -- the fresh node was filled as an edge that may stand in front of the source's list, and was linked there or not
-pub record IsPrepended (r : LinkTried) (source : Life) (weight : ℕ) (x : Life) (v w : View) : Type 0 where
+pub record IsPrepended (r : LinkTried) (source target : Life) (weight : ℕ) (x : Life) (v w : View) : Type 0 where
   pub then : View
   pub sound : IsSound then
   pub layout : IsLayout then.sizes
@@ -81,19 +82,25 @@ pub record IsPrepended (r : LinkTried) (source : Life) (weight : ℕ) (x : Life)
   pub at : place ≡ second_at then.sizes source.index
   pub seen : ℕ
   pub may : MayLinkFilledEdge then place seen x
-  pub source_is : list_at then place ≡ source
-  pub weight_is : weight_in then x.index ≡ weight
+  pub key : ℕ
+  pub event_is : filled_edge_event then place seen x ≡ link_edge_event then place seen key source target weight x
+  pub grows : IsPrefix v.front then.front
   pub tried : MatchLink r then place seen x (filled_edge_event then place seen x) w
   pub held : MatchHeld r w
 
--- a node was taken and linked as an edge of this weight by the last event of the front
-pub record IsEdgeAdded (weight : ℕ) (v w : View) (x : Life) : Type 0 where
+-- a node was taken and linked as an edge of this weight by the last event of the front, from a vertex that was present
+-- with the one key since the old front to one that was present with the other
+pub record IsEdgeAdded (from to weight : ℕ) (v w : View) (x : Life) : Type 0 where
   pub work : IsAtWork w
   pub taken : taken_by w ≡ taken_by v + 1
   pub event : Event
   pub kind : event.kind ≡ LinkEdge
   pub of : event.life ≡ x
   pub weighs : event.weight ≡ weight
+  pub source_at : List Event
+  pub source : Moment v.front w.front (Has from event.source) source_at
+  pub target_at : List Event
+  pub target : Moment v.front w.front (Has to event.target) target_at
   pub last : EndsBy event w
 
 -- the token unlinked a vertex, whose list is open at its head, and spent no other node

@@ -60,7 +60,7 @@ pub fn prepend_edge(
     requires target { MetVertex token.old.view target }
     requires some { 1 ≤ weight }
     ensures table { IsOf table.now token.new }
-    ensures tried { IfSome result (λ tried. IsPrepended tried source weight fresh token.old.view token.new.view) }
+    ensures tried { IfSome result (λ tried. IsPrepended tried source target weight fresh token.old.view token.new.view) }
     ensures none { IsNone result
         → IsNoFront source (key_in token.new.view target.index) token.old.view token.new.view }
 {
@@ -77,13 +77,19 @@ pub fn prepend_edge(
 /// Takes a node, walks to the vertices of two keys, and links the node as an edge from one to the other, in front of the
 /// list. `None` comes where no node was taken, a walk came to no vertex of its key, the list has an edge of that key or
 /// a smaller one, or another caller changed the word.
-pub fn add_edge(table: &GraphTable, token: &mut Token, from: u32, to: u32, weight: u32) -> Option<Life>
+pub fn add_edge(
+    table: &GraphTable,
+    token: &mut Token,
+    from: u32,
+    to: u32,
+    weight: u32,
+) -> Option<Life>
     requires table { IsOf table.now token.old }
     requires work { IsAtWork token.old.view }
     requires few { taken_by token.old.view < most_pops }
     requires some { 1 ≤ weight }
     ensures table { IsOf table.now token.new }
-    ensures added { IfSome result (λ life. IsEdgeAdded weight token.old.view token.new.view life) }
+    ensures added { IfSome result (λ life. IsEdgeAdded from to weight token.old.view token.new.view life) }
 {
     let Taken::Node(fresh) = take(table, token) else {
         return None;
@@ -94,7 +100,14 @@ pub fn add_edge(table: &GraphTable, token: &mut Token, from: u32, to: u32, weigh
     let Found::Here(target) = look_for(table, token, to) else {
         return None;
     };
-    let Some(LinkTried::Won(life)) = prepend_edge(table, token, fresh, source.life, target.life, weight) else {
+    let Some(LinkTried::Won(life)) = prepend_edge(
+        table,
+        token,
+        fresh,
+        source.life,
+        target.life,
+        weight,
+    ) else {
         return None;
     };
     Some(life)

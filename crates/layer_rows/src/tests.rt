@@ -37,27 +37,38 @@ fn removed(rt: &impl Abort, table: &GraphTable, token: &mut Token) -> Spent
 
 #[test]
 fn the_edges_of_a_removed_vertex_are_handed_over_in_the_order_of_their_keys(rt: HostRuntime) {
-    let (table, mut token) = GraphTable::new(rt.alloc(), Layout::new(1, 16, 1)).expect(&rt, "memory");
+    let (table, mut token) = GraphTable::new(rt.alloc(), Layout::new(1, 16, 1)).expect(
+        &rt, "memory",
+    );
     begin(&table, &mut token);
     let spent = removed(&rt, &table, &mut token);
     let mut frozen = freeze_head(&table, &mut token, &spent);
     let first = freeze_next(&table, &mut token, &mut frozen).expect(&rt, "first");
     let second = freeze_next(&table, &mut token, &mut frozen).expect(&rt, "second");
     let third = freeze_next(&table, &mut token, &mut frozen).expect(&rt, "third");
-    assert_eq!(rt; [first.life().index, second.life().index, third.life().index], [5, 4, 3]);
+    assert_eq!(rt;
+        [first.life().index, second.life().index, third.life().index],
+        [5, 4, 3]
+    );
     let None = freeze_next(&table, &mut token, &mut frozen) else {
         panic!(rt; "fourth")
     };
     // The key words of nodes 5, 4 and 3: four words for each node, behind six.
     assert_eq!(rt;
-        [table.load(&mut token, 26), table.load(&mut token, 22), table.load(&mut token, 18)],
+        [
+            table.load(&mut token, 26),
+            table.load(&mut token, 22),
+            table.load(&mut token, 18)
+        ],
         [1, 2, 3]
     );
 }
 
 #[test]
 fn a_removed_vertex_is_buried_behind_its_edges(rt: HostRuntime) {
-    let (table, mut token) = GraphTable::new(rt.alloc(), Layout::new(1, 16, 1)).expect(&rt, "memory");
+    let (table, mut token) = GraphTable::new(rt.alloc(), Layout::new(1, 16, 1)).expect(
+        &rt, "memory",
+    );
     begin(&table, &mut token);
     let spent = removed(&rt, &table, &mut token);
     let mut limbo = Limbo::new(rt.alloc(), 16).expect(&rt, "memory");

@@ -86,8 +86,9 @@ returns-clause-tried c =
       at = place;
       seen = c.in-Some.seen.0;
       may = r.may;
-      source_is = r.source_is;
-      weight_is = r.weight_is;
+      key = c.load-key.result;
+      event_is = r.event_is;
+      grows = r.grows;
       tried = c.link_edge_in.ensures.tried;
       held = c.link_edge_in.ensures.held;
     }

@@ -1,5 +1,4 @@
-use Rattle.std.proofs.Common.{◌≡◌, ◌≢◌, ℕ, ◌<◌, ap, sym, subst, ◌∙◌, arith}
-use Rattle.packed_link.specs.Link.{index_of}
+use Rattle.std.proofs.Common.{◌≡◌, ℕ, ◌<◌, ap, sym, subst, ◌∙◌, arith}
 use Rattle.packed_link.specs.Layout.{Sizes, key_at, second_at}
 use Rattle.core_rule.specs.Fronts.{IsEdgeAbove}
 use Rattle.core_rule.specs.Views.{IsEdgeIn}

@@ -1,4 +1,4 @@
-use Rattle.std.proofs.Common.{◌∙◌, arith}
+use Rattle.std.proofs.Common.{arith}
 use Rattle.layer_rows.proofs.WorkGoesOn.{begins_unspent, opened_work}
 use Rattle.layer_rows.proofs.vertices.begin.Goals as goal
 
