@@ -60,7 +60,7 @@ pub fn prepend_edge(
     requires target { MetVertex token.old.view target }
     requires some { 1 ≤ weight }
     ensures table { IsOf table.now token.new }
-    ensures tried { IfSome result (λ tried. IsPrepended tried source target weight fresh token.old.view token.new.view) }
+    ensures tried { IfSome result (λ r. IsPrepended r source target weight fresh token.old.view token.new.view) }
     ensures none { IsNone result
         → IsNoFront source (key_in token.new.view target.index) token.old.view token.new.view }
 {
@@ -74,9 +74,9 @@ pub fn prepend_edge(
     Some(link_edge_in(table, token, Gap { place, seen }, fresh))
 }
 
-/// Takes a node, walks to the vertices of two keys, and links the node as an edge from one to the other, in front of the
-/// list. `None` comes where no node was taken, a walk came to no vertex of its key, the list has an edge of that key or
-/// a smaller one, or another caller changed the word.
+/// Takes a node, walks to the vertices of two keys, and links the node as an edge from one to the other, in front of
+/// the list. `None` comes where no node was taken, a walk came to no vertex of its key, the list has an edge of that
+/// key or a smaller one, or another caller changed the word.
 pub fn add_edge(
     table: &GraphTable,
     token: &mut Token,

@@ -12,8 +12,8 @@ use graph_updates::bury;
 use vertex_list::{Found, Marked, Unlinked, mark, unlink};
 
 /// Walks to the vertex of a key and marks it, walks to the key once more, and unlinks the marked vertex to which that
-/// walk came. `None` comes where the first walk came to no vertex of the key, the mark was there before, the second walk
-/// came to no marked vertex, or another caller changed the word before that one.
+/// walk came. `None` comes where the first walk came to no vertex of the key, the mark was there before, the second
+/// walk came to no marked vertex, or another caller changed the word before that one.
 pub fn remove(table: &GraphTable, token: &mut Token, key: u32) -> Option<Spent>
     requires table { IsOf table.now token.old }
     requires work { IsAtWork token.old.view }

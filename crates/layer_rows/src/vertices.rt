@@ -40,7 +40,8 @@ pub fn look_for(table: &GraphTable, token: &mut Token, key: u32) -> Found
 }
 
 /// Takes a node, walks to the position at which the key is missing, and links the node there as a vertex. `None` comes
-/// where no node was taken, the walk came to a vertex of the key or to a marked one, or another caller changed the word.
+/// where no node was taken, the walk came to a vertex of the key or to a marked one, or another caller changed the
+/// word.
 pub fn add_vertex(table: &GraphTable, token: &mut Token, key: u32) -> Option<Life>
     requires table { IsOf table.now token.old }
     requires work { IsAtWork token.old.view }
