@@ -1,0 +1,3 @@
+mod EdgesInFront
+mod VerticesInGaps
+mod WorkGoesOn
