@@ -131,10 +131,12 @@ impl PlainGraph {
         ensures change { OnOk result (self.new ≡ after self.old (Call.AddEdge from to weight)) }
         ensures stays { OnErr result (self.new ≡ self.old) }
     {
-        if !self.has_both(from, to) {
+        if !self.has(to) {
             return Ok(Outcome::NoVertex);
         }
-        let before = self.enter_edge(from, to, weight)?;
+        let Some(before) = self.enter_edge(from, to, weight)? else {
+            return Ok(Outcome::NoVertex);
+        };
         if before == Some(weight) {
             return Ok(Outcome::Present(weight));
         }
