@@ -2,9 +2,11 @@
 #![tactic(auto)]
 
 mod heap;
+mod laws;
 mod path;
 mod search;
 
+pub use laws::cheapest_is_fixed_once_settled;
 pub use path::cheapest;
 
 #[cfg(test)]

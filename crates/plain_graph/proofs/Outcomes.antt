@@ -1,6 +1,6 @@
 -- What is answered to each call, by look-ups, and what then stands after it.
 use Rattle.std.proofs.Common.{◌≡◌, ℕ, ◌<◌, ◌&&◌, ◌==◌, eqb, eqb-true, true≢false, Bool, true, false, cond, Option, Some}
-use Rattle.std.proofs.Common.{None, List, Result, Ok, Err, refl, sym, ap, subst, ◌∙◌}
+use Rattle.std.proofs.Common.{None, List, Result, Ok, Err, refl, sym, ap, ap₂, subst, ◌∙◌}
 use Rattle.std.specs.Prelude.{IfOk, OnOk}
 use Rattle.std.specs.Option.{option_eq}
 use Rattle.graph_kinds.specs.declared.call.Call.{Call}
@@ -48,6 +48,10 @@ after_levels g a = stays g (alters g (Levels a))
 pub after_cheapest : (g : Graph) (a b : ℕ) → after g (Cheapest a b) ≡ g
 unfolding after
 after_cheapest g a b = stays g (alters g (Cheapest a b))
+
+pub after_has_edge : (g : Graph) (a b : ℕ) → after g (HasEdge a b) ≡ g
+unfolding after
+after_has_edge g a b = stays g (alters g (HasEdge a b))
 
 pub answer_reach : (g : Graph) (a b : ℕ) (t : Bool) → (has g a && has g b) ≡ t → cond t (by_path (reach_path g a b))
     (plain out.NoVertex) ≡ answer g (Reach a b)
@@ -105,6 +109,74 @@ module _ (g : Graph) (a b : ℕ) (t : Bool) (x : Option ℕ) (both : (has g a &&
   pub answer_has_edge : cond t (by_weight x out.Edge out.NoEdge) (plain out.NoVertex) ≡ answer g (HasEdge a b)
   unfolding answer
   answer_has_edge = on_pair out.Edge out.NoEdge
+
+-- the ends of an edge are there
+pub both_there : (g : Graph) (a b w : ℕ) → IsGraph g → weight_of g a b ≡ Some w → (has g a && has g b) ≡ true
+both_there g a b w sound there = ap₂ (λ s t. s && t) (sound.from_key a b w there) (sound.to_key a b w there)
+
+-- an edge was put, and its source is there; or none was, and it isn't
+pub source_there : (t : Bool) (x y : Option ℕ) (r : Option (Option ℕ)) → r ≡ cond t (Some x) None → r ≡ Some y
+    → (t ≡ true) × (y ≡ x)
+source_there true x y r e f = let same : Some y ≡ Some x = sym f ∙ e in (refl, cc)
+source_there false x y r e f = let no : None ≡ Some y = sym e ∙ f in absurd (cc)
+
+pub source_gone : (t : Bool) (x : Option ℕ) (r : Option (Option ℕ)) → r ≡ cond t (Some x) None → r ≡ None → t ≡ false
+source_gone true x r e f = let no : None ≡ Some x = sym f ∙ e in absurd (cc)
+source_gone false x r e f = refl
+
+-- where one of two keys isn't there, an add of an edge between them is answered so, and leaves all
+module _ (g : Graph) (a b w : ℕ) (lacks : (has g a && has g b) ≡ false) where
+  pub lacks_end : plain out.NoVertex ≡ answer g (AddEdge a b w)
+  lacks_end = answer_add_edge g a b false (weight_of g a b) lacks refl w
+
+  pub lacks_end_left : g ≡ after g (AddEdge a b w)
+  lacks_end_left = after_outcome g (AddEdge a b w) out.NoVertex lacks_end
+
+pub lacks_source : (s t : Bool) → s ≡ false → (s && t) ≡ false
+lacks_source s t e = ap (λ x. x && t) e
+
+pub lacks_target : (s t : Bool) → t ≡ false → (s && t) ≡ false
+lacks_target true t e = e
+lacks_target false t e = refl
+
+-- where both ends are there, the weight before is told and the edge is put
+module _ (g h : Graph) (a b w : ℕ) (o : Option (Option ℕ)) (x : Option ℕ)
+    (told : o ≡ cond (has g a) (Some (weight_of g a b)) None) (is : o ≡ Some x) where
+  there : (has g a ≡ true) × (x ≡ weight_of g a b)
+  there = source_there (has g a) (weight_of g a b) x o told is
+
+  pub entered_both : has g b ≡ true → (has g a && has g b) ≡ true
+  entered_both to = ap₂ (λ s t. s && t) there.0 to
+
+  pub entered_weight : weight_of g a b ≡ x
+  entered_weight = sym there.1
+
+  pub entered_graph : h ≡ cond (has g a) (change g (AddEdge a b w)) g → h ≡ change g (AddEdge a b w)
+  entered_graph e = e ∙ ap (λ t. cond t (change g (AddEdge a b w)) g) there.0
+
+-- where there is no edge between two keys: what is answered by which of them are there, and that a removal leaves all
+module _ (g : Graph) (a b : ℕ) (none : weight_of g a b ≡ None) where
+  plain_by : (t : Bool) → plain (cond t out.NoEdge out.NoVertex) ≡ cond t (plain out.NoEdge) (plain out.NoVertex)
+  plain_by true = refl
+  plain_by false = refl
+
+  quiet : (t : Bool) → is_change (cond t out.NoEdge out.NoVertex) ≡ false
+  quiet true = refl
+  quiet false = refl
+
+  module _ (o : Outcome) (is : o ≡ cond (has g a && has g b) out.NoEdge out.NoVertex) where
+    pub no_edge_there : plain o ≡ answer g (HasEdge a b)
+    no_edge_there = ap plain is ∙ (plain_by (has g a && has g b)
+        ∙ answer_has_edge g a b (has g a && has g b) None refl none)
+
+    pub no_edge_removed : plain o ≡ answer g (RemoveEdge a b)
+    no_edge_removed = ap plain is ∙ (plain_by (has g a && has g b)
+        ∙ answer_remove_edge g a b (has g a && has g b) None refl none)
+
+    pub no_edge_left : g ≡ after g (RemoveEdge a b)
+    no_edge_left = sym (ap (λ t. cond t (change g (RemoveEdge a b)) g)
+        (ap (λ x. is_change x) is ∙ quiet (has g a && has g b)))
+        ∙ after_outcome g (RemoveEdge a b) o no_edge_removed
 
 -- what equals a weight is that weight
 pub is_some_of : (x : Option ℕ) (w : ℕ) → true ≡ option_eq eqb x (Some w) → x ≡ Some w

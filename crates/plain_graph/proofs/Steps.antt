@@ -18,6 +18,7 @@ use Rattle.plain_graph.proofs.Changes.{count_of, has-add, has-without, weight-ba
 use Rattle.plain_graph.proofs.Changes.{sound-add_vertex, sound-without, sound-add_edge, sound-cut_edge}
 use Rattle.plain_graph.proofs.Changes.{count-add_vertex, count-add_edge, count-without, count-cut_edge, some_pair}
 use Rattle.plain_graph.proofs.Held.{has-held, weight-held, graph_from_held, held-empty}
+use Rattle.plain_graph.proofs.Outcomes.{source_there}
 use Rattle.graph_kinds.proofs.Graphs.{pair_total}
 
 -- maps that rise and hold such a graph, with the count of its edges, keep what they keep
@@ -179,6 +180,32 @@ module _ (m n : Vertices) {edges : ℕ} (g : Graph) (view : graph_in_maps m ≡ 
         (sound-add_edge g x y w sound_now from to weighed) (omega (arith, count-add_edge g x y w)) count
         (counted ∙ ((λ i. cond (is_some (weight_now x y i)) (counted_now i) (counted_now i + 1)) ∙ sym
         (finite_map.len-insert pair_total g.pairs (x, y) w)))
+
+    -- an edge was put where its source is there, and the weight before was told
+    module _ (w : ℕ) (o : Option (Option ℕ)) (before : Option ℕ) (weights : (a b : ℕ) → weight_held n a b
+        ≡ cond (holds m x && ((x == a) && (y == b))) (Some w) (weight_held m a b))
+        (told : o ≡ cond (holds m x) (Some (weight_held m x y)) None) (is : o ≡ Some before) where
+      source : has g x ≡ true
+      source = sym (has_now x) ∙ (source_there (holds m x) _ _ o told is).0
+
+      was : before ≡ weight_held m x y
+      was = (source_there (holds m x) _ _ o told is).1
+
+      put : (a b : ℕ) → weight_held n a b ≡ cond ((x == a) && (y == b)) (Some w) (weight_held m a b)
+      put a b = weights a b ∙ ap (λ (t : Bool). cond (t && ((x == a) && (y == b))) (Some w) (weight_held m a b))
+          (source_there (holds m x) _ _ o told is).0
+
+      pub entered-before : Some before ≡ cond (has g x) (Some (weight_of g x y)) None
+      entered-before = ap (λ (v : Option ℕ). Some v) (was ∙ weight_now x y)
+          ∙ sym (ap (λ (t : Bool). cond t (Some (weight_of g x y)) None) source)
+
+      pub view-entered : graph_in_maps n ≡ cond (has g x) (change g (AddEdge x y w)) g
+      view-entered = view-add_edge w put ∙ sym (ap (λ (t : Bool). cond t (change g (AddEdge x y w)) g) source)
+
+      pub kept-entered : has g y ≡ true → 1 ≤ w → count_of g < 65536 → (count : ℕ)
+          → count ≡ cond (is_some before) edges (edges + 1) → IsCountedGraph n count
+      kept-entered to weighed room count counted = kept-add_edge w source to weighed room put count
+          (counted ∙ ap (λ (v : Option ℕ). cond (is_some v) edges (edges + 1)) was)
 
     pub view-cut_edge : ((a b : ℕ) → weight_held n a b ≡ cond ((x == a) && (y == b)) None (weight_held m a b))
         → graph_in_maps n ≡ change g (RemoveEdge x y)

@@ -3,7 +3,7 @@
 //! Each call is answered by look-ups on the graph before it, and then makes its change: the definitions are `answer`
 //! and `after` of `graph_kinds`.
 
-ghost use Rattle.std.specs.Prelude.{◌≡◌, ◌+◌, ◌≤◌, ◌<◌, ◌^◌, ◌&&◌, IfOk, OnOk, OnErr};
+ghost use Rattle.std.specs.Prelude.{◌≡◌, ◌+◌, ◌≤◌, ◌<◌, ◌^◌, ◌&&◌, cond, IfOk, OnOk, OnErr};
 ghost use Rattle.graph_kinds.specs.Graph.{has, key_count, pair_count, IsGraph};
 ghost use Rattle.graph_kinds.specs.Answer.{IsWellMade, plain, answer, after};
 ghost use Rattle.plain_graph.specs.Calls.{CostIsBelow, IsAdd, outcome_of_put};
@@ -131,41 +131,50 @@ impl PlainGraph {
         ensures change { OnOk result (self.new ≡ after self.old (Call.AddEdge from to weight)) }
         ensures stays { OnErr result (self.new ≡ self.old) }
     {
-        if !self.has_both(from, to) {
+        if !self.has(to) {
             return Ok(Outcome::NoVertex);
         }
-        let before = self.enter_edge(from, to, weight)?;
+        let Some(before) = self.enter_edge(from, to, weight)? else {
+            return Ok(Outcome::NoVertex);
+        };
         if before == Some(weight) {
             return Ok(Outcome::Present(weight));
         }
         Ok(put_in_place_of(before))
     }
 
-    /// Takes the edge out where it is there.
+    /// Takes the edge out where it is there; where it isn't, looks which keys are.
     fn remove_edge(&mut self, from: u32, to: u32) -> Outcome
         ensures answer { plain result ≡ answer self.old (Call.RemoveEdge from to) }
         ensures change { self.new ≡ after self.old (Call.RemoveEdge from to) }
     {
-        if !self.has_both(from, to) {
-            return Outcome::NoVertex;
-        }
+        self.allocator();
         match self.cut_edge(from, to) {
             Some(weight) => Outcome::Removed(weight),
-            None => Outcome::NoEdge,
+            None => self.without_edge(from, to),
         }
     }
 
-    /// The weight of the edge, as an answer.
+    /// The weight of the edge, as an answer; where it isn't there, looks which keys are.
     fn has_edge(&self, from: u32, to: u32) -> Outcome
         ensures answer { plain result ≡ answer self.now (Call.HasEdge from to) }
         ensures change { self.now ≡ after self.now (Call.HasEdge from to) }
     {
-        if !self.has_both(from, to) {
-            return Outcome::NoVertex;
-        }
+        self.allocator();
         match self.weight(from, to) {
             Some(weight) => Outcome::Edge(weight),
-            None => Outcome::NoEdge,
+            None => self.without_edge(from, to),
+        }
+    }
+
+    /// What is answered of two keys between which there is no edge.
+    fn without_edge(&self, from: u32, to: u32) -> Outcome
+        ensures { result ≡ cond (has self.now from && has self.now to) Outcome.NoEdge Outcome.NoVertex }
+    {
+        if self.has_both(from, to) {
+            Outcome::NoEdge
+        } else {
+            Outcome::NoVertex
         }
     }
 

@@ -6,7 +6,7 @@
 //! numbers of its rows are kept for the next one, and are no part of the graph.
 
 ghost use Rattle.std.specs.Prelude.{◌≡◌, ℕ, ◌+◌, ◌≤◌, ◌<◌, ◌==◌, [], true, cond, not, IfOk, OnOk, OnErr};
-ghost use Rattle.std.specs.Prelude.{None, IsSome, IfSome, IfNone};
+ghost use Rattle.std.specs.Prelude.{Some, None, IsSome, IfSome, IfNone};
 ghost use Rattle.std.specs.BTreeMap.{keys};
 ghost use Rattle.std.specs.FinMap as finite_map;
 ghost use Rattle.plain_graph.specs.Kept.{pairs_in};
@@ -154,8 +154,8 @@ impl PlainGraph {
         Ok(())
     }
 
-    /// Puts the edge between two vertices, or gives the one that is there its new weight, and answers the weight
-    /// before. O(log V + log E).
+    /// Puts the edge to a vertex, or gives the one that is there its new weight, and answers the weight before; `None`
+    /// where the source is no vertex. O(log V + log E).
     ///
     /// # Errors
     /// `Memory` where there is no room for it; the graph is unchanged then.
@@ -164,21 +164,25 @@ impl PlainGraph {
         from: u32,
         to: u32,
         weight: u32,
-    ) -> Result<Option<u32>, Memory>
-        requires from_key { has self.old from ≡ true }
+    ) -> Result<Option<Option<u32>>, Memory>
         requires to_key { has self.old to ≡ true }
         requires weighed { 1 ≤ weight }
         requires room { key_count self.old + pair_count self.old < 65536 }
-        ensures ok { OnOk result (self.new ≡ change self.old (Call.AddEdge from to weight)) }
+        ensures ok { OnOk result
+            (self.new ≡ cond (has self.old from) (change self.old (Call.AddEdge from to weight)) self.old) }
         ensures err { OnErr result (self.new ≡ self.old) }
-        ensures before { IfOk result (λ w. w ≡ weight_of self.old from to) }
+        ensures before { IfOk result (λ w. w ≡ cond (has self.old from) (Some (weight_of self.old from to)) None) }
     {
         let (vertices, sources) = (&mut self.vertices, &mut self.sources);
-        let before = index::insert_edge(vertices, sources, self.alloc, from, to, weight)?;
-        if before.is_none() {
-            self.edges += 1;
+        match index::insert_edge(vertices, sources, self.alloc, from, to, weight)? {
+            Some(before) => {
+                if before.is_none() {
+                    self.edges += 1;
+                }
+                Ok(Some(before))
+            }
+            None => Ok(None),
         }
-        Ok(before)
     }
 
     /// Takes out a vertex with its edges and the edges to it, and tells whether it was there. O((1 + degree) log V),

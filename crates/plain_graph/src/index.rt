@@ -13,8 +13,8 @@ use crate::maps::{self, Vertices};
 use graph_kinds::Memory;
 use std::alloc::Global;
 
-/// Puts an edge between two vertices that are there, or its new weight, and answers the weight before.
-/// O(log V + log E).
+/// Puts an edge between two vertices, or its new weight, and answers the weight before; `None` where the source isn't
+/// there. O(log V + log E).
 ///
 /// # Errors
 /// `Memory` where there is no room for it; all look-ups are as before then.
@@ -25,21 +25,24 @@ pub fn insert_edge(
     from: u32,
     to: u32,
     weight: u32,
-) -> Result<Option<u32>, Memory>
-    requires from_key { holds vertices.old from ≡ true }
+) -> Result<Option<Option<u32>>, Memory>
     requires rises { Rises vertices.old }
     requires mirror { IsMirror vertices.old sources.old }
     ensures rises { Rises vertices.new }
     ensures mirror { IsMirror vertices.new sources.new }
     ensures keys { (q : ℕ) → holds vertices.new q ≡ holds vertices.old q }
-    ensures weights { OnOk result ((a b : ℕ)
-        → weight_held vertices.new a b ≡ cond ((from == a) && (to == b)) (Some weight) (weight_held vertices.old a b)) }
-    ensures before { IfOk result (λ w. w ≡ weight_held vertices.old from to) }
+    ensures weights { OnOk result ((a b : ℕ) → weight_held vertices.new a b
+        ≡ cond ((holds vertices.old from) && ((from == a) && (to == b))) (Some weight) (weight_held vertices.old a b)) }
+    ensures before { IfOk result (λ w. w ≡ cond (holds vertices.old from) (Some (weight_held vertices.old from to)) None) }
     ensures stays { OnErr result ((a b : ℕ) → weight_held vertices.new a b ≡ weight_held vertices.old a b) }
 {
     maps::insert_edge_anywhere(sources, alloc, to, from, weight)?;
     match maps::insert_edge(vertices, from, to, weight) {
-        Ok(before) => Ok(before),
+        Ok(Some(before)) => Ok(Some(before)),
+        Ok(None) => {
+            maps::remove_edge(sources, to, from);
+            Ok(None)
+        }
         Err(refusal) => {
             maps::remove_edge(sources, to, from);
             Err(refusal)

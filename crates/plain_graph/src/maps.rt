@@ -46,7 +46,8 @@ pub fn enter_vertex(vertices: &mut Vertices, alloc: Global, key: u32) -> Result<
     }
 }
 
-/// Puts an edge out of a vertex that is there, or its new weight, and answers the weight before. O(log V + log E).
+/// Puts an edge out of a vertex, or its new weight, and answers the weight before; `None` where the vertex isn't there.
+/// O(log V + log E).
 ///
 /// # Errors
 /// `Memory` where there is no room for it; all look-ups are as before then.
@@ -55,27 +56,27 @@ pub fn insert_edge(
     from: u32,
     to: u32,
     weight: u32,
-) -> Result<Option<u32>, Memory>
-    requires there { holds vertices.old from ≡ true }
+) -> Result<Option<Option<u32>>, Memory>
     requires rises { Rises vertices.old }
     ensures rises { Rises vertices.new }
     ensures keys { (q : ℕ) → holds vertices.new q ≡ holds vertices.old q }
-    ensures weights { OnOk result ((a b : ℕ)
-        → weight_held vertices.new a b ≡ cond ((from == a) && (to == b)) (Some weight) (weight_held vertices.old a b)) }
-    ensures before { IfOk result (λ w. w ≡ weight_held vertices.old from to) }
+    ensures weights { OnOk result ((a b : ℕ) → weight_held vertices.new a b
+        ≡ cond ((holds vertices.old from) && ((from == a) && (to == b))) (Some weight) (weight_held vertices.old a b)) }
+    ensures before { IfOk result (λ w. w ≡ cond (holds vertices.old from) (Some (weight_held vertices.old from to)) None) }
     ensures absent { OnErr result (weight_held vertices.old from to ≡ None) }
     ensures stays { OnErr result ((a b : ℕ) → weight_held vertices.new a b ≡ weight_held vertices.old a b) }
 {
     match vertices.get_mut(&from) {
         Some(edges) => match edges.insert(to, weight) {
-            Ok(before) => Ok(before),
+            Ok(before) => Ok(Some(before)),
             Err(_) => Err(Memory),
         },
-        None => unreachable!(),
+        None => Ok(None),
     }
 }
 
-/// The same, and puts the vertex without edges before, where it isn't there. O(log V + log E).
+/// Puts an edge out of a vertex, or its new weight, and answers the weight before; where the vertex isn't there, it's
+/// put without edges before. O(log V + log E).
 ///
 /// # Errors
 /// `Memory` where there is no room for it; the weights are as before then.
