@@ -1,7 +1,7 @@
 -- A caller that has drawn its number is between two rounds, of which it has made none.
-use Rattle.std.proofs.Common.{◌≡◌, ℕ, ◌+◌, ◌<◌, ◌≤◌, Bool, true, false, List, [], ◌∷◌, ◌++◌, None, refl, sym, ap, ap₂, ◌∙◌}
+use Rattle.std.proofs.Common.{◌≡◌, ℕ, ◌<◌, ◌≤◌, Bool, false, List, [], ◌∷◌, ◌++◌, None, refl, sym, ap, ap₂, ◌∙◌}
 use Rattle.std.proofs.Common.{subst, arith}
-use Rattle.packed_link.specs.Layout.{Sizes, IsLayout}
+use Rattle.packed_link.specs.Layout.{Sizes}
 use Rattle.core_journal.specs.declared.event.Kind.{Kind}
 use Rattle.core_journal.specs.declared.event.Kind.TheVariants.{DrawNumber}
 use Rattle.core_journal.specs.declared.event.Event.{Event}
@@ -11,12 +11,12 @@ use Rattle.core_kept.specs.Counts.{made}
 use Rattle.core_kept.specs.Kept.{IsKept}
 use Rattle.core_kept.specs.Nodes.{IsFreshWith, IsSpentWith}
 use Rattle.core_lists.proofs.NewNumbers.{new_closed, new_unfresh, new_unspent, new_made}
-use Rattle.core_rule.specs.Plays.{Drew, draw_event, numbered, stays}
+use Rattle.core_rule.specs.Plays.{Drew, draw_event, stays}
 use Rattle.core_rule.specs.declared.view.View.{View}
 use Rattle.epoch_limbo.specs.Limbos.{LimboValue, IsLimboOf}
 use Rattle.epoch_limbo.proofs.LimboStays.{limbo_of_none}
 use Rattle.graph_table.specs.Tokens.{RipeValue, TokenValue}
-use Rattle.free_list_rounds.specs.Rounds.{CallerValue, IsBetweenRounds}
+use Rattle.free_list_rounds.specs.Rounds.{IsBetweenRounds}
 
 module _ (v w : View) (found : ℕ) (d : Drew v found w) where
   number_is : w.number ≡ found

@@ -1,8 +1,6 @@
 -- What a try to give a node back leaves of a caller at work.
-use Rattle.std.proofs.Common.{◌≡◌, ◌≢◌, ◌==◌, ◌||◌, ℕ, ◌+◌, ◌<◌, ◌≤◌, Bool, true, false, List, [], ◌∷◌, map, Option, None, Some}
-use Rattle.std.proofs.Common.{refl, sym, ap, ◌∙◌, subst, arith, ⊎_elim, ◌⊎◌, length, inl, inr, ne_eqb}
-use mathlib.Core.Logic.{dite}
-use native.Mathlib.Decide.{ℕ_discrete}
+use Rattle.std.proofs.Common.{◌≡◌, ◌≢◌, ◌||◌, ℕ, ◌<◌, ◌≤◌, Bool, true, false, List, [], ◌∷◌, map, None}
+use Rattle.std.proofs.Common.{refl, sym, ap, ◌∙◌, subst, arith, length, ne_eqb}
 use Rattle.graph_kinds.specs.History.{Every}
 use Rattle.packed_link.specs.Layout.{Sizes, IsLayout, epoch_at}
 use Rattle.core_journal.specs.Machine.{word_at}
@@ -10,40 +8,27 @@ use Rattle.core_journal.proofs.Lists.{prefix_refl, prefix_trans}
 use Rattle.core_rule.specs.Plays.{IsSound, Looked}
 use Rattle.core_stretches.proofs.MakesAddUp.{makes_look}
 use Rattle.packed_link.specs.Link.{index_of}
-use Rattle.packed_link.specs.declared.link.Life.{Life}
 use Rattle.core_counts.specs.Spending.{GetsNone, is_among}
-use Rattle.core_journal.specs.declared.event.Kind.TheVariants.{PopFree, PushFree, Announce, Withdraw, FreezeHead, FreezeEdge}
-use Rattle.core_journal.specs.declared.event.Kind.{Kind}
+use Rattle.core_journal.specs.declared.event.Kind.TheVariants.{PushFree}
 use Rattle.core_journal.specs.declared.event.Event.{Event}
-use Rattle.core_journal.specs.Event.{pops, moves, unlinks}
 use Rattle.core_journal.specs.State.{Free, Spent}
 use Rattle.core_kept.specs.Nodes.{node_in, IsSpentWith}
-use Rattle.core_rule.specs.OwnEvents.{pop_event, store_event, link_vertex_event, mark_vertex_event}
-use Rattle.core_rule.specs.OwnEvents.{unlink_vertex_event, store_free_event, push_event, move_event}
-use Rattle.core_rule.specs.OwnEvents.{announce_event, withdraw_event}
+use Rattle.core_rule.specs.OwnEvents.{store_free_event, push_event}
 use Rattle.core_rule.specs.Retired.{IsRetired, IsShown}
-use Rattle.core_rule.specs.Stretches.{HasPass, is_of_fresh}
 use Rattle.core_rule.specs.declared.view.View.{View}
-use Rattle.core_stretches.specs.Holdings.{HasNoPass, IsFilledAsVertex, IsHeldFresh, IsHeldSpent}
-use Rattle.core_stretches.specs.Makes.{GivesOther, Makes, StaysInPass}
-use Rattle.core_stretches.proofs.HoldingsStay.{makes_got, makes_got_unlink, makes_retired}
+use Rattle.core_stretches.specs.Holdings.{HasNoPass}
+use Rattle.core_stretches.specs.Makes.{GivesOther, Makes}
+use Rattle.core_stretches.proofs.HoldingsStay.{makes_got, makes_retired}
 use Rattle.core_stretches.proofs.MakesTell.{makes_later}
-use Rattle.epoch_limbo.specs.Limbos.{AreRising, IsLimboOf, IsOut, IsPutBack, IsRipeOut, LimboValue, index_in}
-use Rattle.epoch_limbo.proofs.LimboStays.{limbo_room, limbo_still, limbo_still_by_kind}
+use Rattle.epoch_limbo.specs.Limbos.{AreRising, IsLimboOf, IsPutBack, IsRipeOut, LimboValue, index_in}
+use Rattle.epoch_limbo.proofs.LimboStays.{limbo_room, limbo_still}
 use Rattle.graph_table.specs.Tokens.{RipeValue}
-use Rattle.graph_updates.specs.Burying.{FreezesOf, IsBuried, IsIn, IsToBury}
-use Rattle.node_arena.specs.Filling.{vertex_stores}
+use Rattle.graph_updates.specs.Burying.{IsIn}
 use Rattle.node_arena.specs.Giving.{IsGiven, IsGiveLost}
-use Rattle.node_arena.specs.Taking.{IsTaken}
-use Rattle.vertex_list.specs.Changes.{IsMarked, IsUnlinked, MatchMarked}
-use Rattle.vertex_list.specs.declared.changes.Marked.{Marked}
-use Rattle.vertex_list.specs.declared.changes.Marked.TheVariants.{Won, Was}
-use Rattle.vertex_list.specs.Positions.{IsGap, PositionValue}
-use Rattle.vertex_list.proofs.PositionsGoOn.{gap_makes, place_apart}
-use Rattle.free_list_rounds.specs.Rounds.{CountsGo, HasMade, HoldsSpare, IsAtWork, MatchCut, SparesGo, WorkGoes}
-use Rattle.free_list_rounds.proofs.WorkGoesOn.{IsCalm, IsQuietEvent, Goes, chain, counts_go, every_as, goes, goes_look}
-use Rattle.free_list_rounds.proofs.WorkGoesOn.{got_none, in_limbo, no_kinds, old_spent, pass_goes, spares_chain, spares_go}
-use Rattle.free_list_rounds.proofs.WorkGoesOn.{spares_look, spent_before, still_room, still_there, work_goes}
+use Rattle.free_list_rounds.specs.Rounds.{CountsGo, IsAtWork, SparesGo}
+use Rattle.free_list_rounds.proofs.WorkGoesOn.{counts_go, every_as}
+use Rattle.free_list_rounds.proofs.WorkGoesOn.{got_none, old_spent, pass_goes, spares_go}
+use Rattle.free_list_rounds.proofs.WorkGoesOn.{still_room, still_there}
 
 -- an epoch that was shown was so later on
 pub shown_goes : (v w : View) (own : List Event) → Makes v own w → (epoch : ℕ) → IsShown v epoch → IsShown w epoch

@@ -1,8 +1,6 @@
 -- What opening and closing a pass and moving the epoch leave of a caller at work.
-use Rattle.std.proofs.Common.{◌≡◌, ◌≢◌, ℕ, ◌≤◌, true, false, List, [], ◌∷◌, None, refl, arith, ◌∙◌}
-use Rattle.graph_kinds.specs.History.{Every}
+use Rattle.std.proofs.Common.{◌≡◌, ℕ, true, false, [], ◌∷◌, refl, arith, ◌∙◌}
 use Rattle.packed_link.specs.Layout.{IsLayout}
-use Rattle.core_journal.specs.declared.event.Event.{Event}
 use Rattle.core_rule.specs.OwnEvents.{announce_event, move_event, withdraw_event}
 use Rattle.core_rule.specs.declared.view.View.{View}
 use Rattle.core_stretches.specs.Holdings.{HasNoPass}

@@ -1,11 +1,10 @@
 -- What a stretch of a token's events leaves of a caller at work: its limbo, its spare node, its counts and its pass.
-use Rattle.std.proofs.Common.{◌≡◌, ◌≢◌, ◌==◌, ◌||◌, ℕ, ◌+◌, ◌<◌, ◌≤◌, Bool, true, false, cond, List, [], ◌∷◌, map, Option, None, Some}
-use Rattle.std.proofs.Common.{refl, sym, ap, ap₂, ◌∙◌, subst, arith, ⊎_elim, ◌⊎◌, ne_eqb}
+use Rattle.std.proofs.Common.{◌≡◌, ◌≢◌, ◌||◌, ℕ, ◌+◌, ◌<◌, ◌≤◌, Bool, true, false, cond, List, [], ◌∷◌, map, None, Some}
+use Rattle.std.proofs.Common.{refl, ap, ap₂, ◌∙◌, subst, arith, ⊎_elim, ◌⊎◌, ne_eqb}
 use mathlib.Core.Logic.{dite}
 use native.Mathlib.Decide.{ℕ_discrete}
 use Rattle.graph_kinds.specs.History.{Every}
 use Rattle.packed_link.specs.Layout.{Sizes, IsLayout}
-use Rattle.packed_link.specs.declared.link.Life.{Life}
 use Rattle.core_counts.specs.Spending.{AreFinished, GetsNone, is_among}
 use Rattle.core_counts.proofs.KnownSpentNodes.{got_itself}
 use Rattle.core_journal.specs.declared.event.Kind.{Kind}
@@ -26,7 +25,7 @@ use Rattle.epoch_limbo.specs.Limbos.{LimboValue, index_in}
 use Rattle.epoch_limbo.proofs.LimboStays.{limbo_still_by_kind}
 use Rattle.graph_table.specs.Tokens.{RipeValue}
 use Rattle.graph_updates.specs.Burying.{IsIn}
-use Rattle.free_list_rounds.specs.Rounds.{CountsGo, HasMade, HoldsSpare, IsAtWork, SparesGo, WorkGoes}
+use Rattle.free_list_rounds.specs.Rounds.{CountsGo, IsAtWork, SparesGo, WorkGoes}
 
 pub every_as : {A : Type 0} (P Q : A → Type 0) → ((x : A) → P x → Q x) → (xs : List A) → Every P xs → Every Q xs
 every_as P Q f [] h = tt

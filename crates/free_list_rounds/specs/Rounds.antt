@@ -56,8 +56,8 @@ SparesGo v w = (spare : Option Life) → HoldsSpare spare v → HoldsSpare spare
 abbrev pub CountsGo : (takes shifts : ℕ) → View → View → Type 0
 CountsGo takes shifts v w = (t m : ℕ) → HasMade t m v → HasMade (t + takes) (m + shifts) w
 
--- what a try to unlink came to: a limbo that had all that the token spent has all but the vertex, which is to be buried,
--- or it has all still
+-- what a try to unlink came to: a limbo that had all that the token spent has all but the vertex, which is to be
+-- buried, or it has all still
 abbrev pub MatchCut : Option Life → View → View → Type 0
 MatchCut (Some x) v w = (limbo : LimboValue) → IsAtWork limbo v → (w.number < w.sizes.callers) × IsToBury limbo w x
 MatchCut None v w = WorkGoes v w

@@ -1,4 +1,4 @@
-use Rattle.std.proofs.Common.{◌∷◌, [], Some, sym, subst}
+use Rattle.std.proofs.Common.{Some, sym, subst}
 use Rattle.packed_link.specs.Link.{index_of}
 use Rattle.core_stretches.specs.Holdings.{IsHeldFresh}
 use Rattle.free_list_rounds.proofs.StagesTell.{fill_gap, fill_goes, link_goes, looks_go, looks_spares}

@@ -1,5 +1,4 @@
-use Rattle.std.proofs.Common.{◌∷◌, [], None, subst, arith}
-use Rattle.core_rule.specs.OwnEvents.{pop_event}
+use Rattle.std.proofs.Common.{[], None, subst, arith}
 use Rattle.free_list_rounds.specs.Rounds.{HoldsSpare}
 use Rattle.free_list_rounds.proofs.StagesTell.{took_work, took_pass, took_counts}
 use Rattle.free_list_rounds.proofs.WorkGoesOn.{counts_go, goes_look, spares_look}
