@@ -61,8 +61,9 @@ pub fn insert_edge(
     ensures rises { Rises vertices.new }
     ensures keys { (q : ℕ) → holds vertices.new q ≡ holds vertices.old q }
     ensures weights { OnOk result ((a b : ℕ) → weight_held vertices.new a b
-        ≡ cond ((holds vertices.old from) && ((from == a) && (to == b))) (Some weight) (weight_held vertices.old a b)) }
-    ensures before { IfOk result (λ w. w ≡ cond (holds vertices.old from) (Some (weight_held vertices.old from to)) None) }
+        ≡ cond (holds vertices.old from && ((from == a) && (to == b))) (Some weight) (weight_held vertices.old a b)) }
+    ensures before { IfOk result
+        (λ w. w ≡ cond (holds vertices.old from) (Some (weight_held vertices.old from to)) None) }
     ensures absent { OnErr result (weight_held vertices.old from to ≡ None) }
     ensures stays { OnErr result ((a b : ℕ) → weight_held vertices.new a b ≡ weight_held vertices.old a b) }
 {
