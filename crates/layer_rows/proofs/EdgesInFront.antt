@@ -39,13 +39,13 @@ pub key_loaded : (v w : View) (index at found : ℕ) → Looked v at found w →
     → found ≡ key_in w index
 key_loaded v w index at found l at_is =
     l.word ∙ (ap (word_at v.sizes w.front) at_is ∙ ap (λ (q : Sizes). word_at q w.front (key_at q index))
-        (sym (loaded_sizes v w (loaded v at found w l))))
+    (sym (loaded_sizes v w (loaded v at found w l))))
 
 -- an edge of the list whose key was loaded and is greater
 pub edge_above : (v w : View) (source : Life) (key index at found : ℕ) → IsLayout v.sizes → v.numbered ≡ true
     → IsSound v
     → IsEdgeIn v source index → Looked v at found w → at ≡ key_at v.sizes index → key < found
-        → IsEdgeAbove w source key index
+    → IsEdgeAbove w source key index
 edge_above v w source key index at found z has s m l at_is below = record {
   life = life_in v.sizes v.front index;
   is = refl;
@@ -87,23 +87,37 @@ pub ready : (v m u t : View) (x source target : Life) (key at place seen weight 
     → Looked v at key m → at ≡ key_at v.sizes target.index → Makes m [] u → mark_of seen ≡ 0
     → (index_of seen ≢ nowhere → IsEdgeAbove u source key (index_of seen))
     → Makes u (edge_stores u x key (index_of seen) target weight) t → IsFilledAsEdge t key
-        (index_of seen) target weight x
+    (index_of seen) target weight x
     → place ≡ second_at t.sizes source.index → IsReady v source target key place seen weight x t
 ready v m u t x source target key at place seen weight z zu zt s b from to l at_is mu live behind mt f place_is =
     let has = b.holding.numbered in
     let all : Makes v [] u = makes_chain v m u [] [] (makes_look v m at key has s l) mu in
     let b' = building_loads v u x z all b in
     let stores = edge_stores u x key (index_of seen) target weight in
-    let stays : Every StaysInPass stores = (store_stays u x 0 key,
-        (store_stays u x 1 (pack (index_of seen) 0 x.tag), (store_stays u x 2 (pack target.index 0 target.tag),
-        (store_stays u x 3 weight, tt)))) in
-    let gets : Every (GetsNone None) stores = (store_gets u x 0 key,
-        (store_gets u x 1 (pack (index_of seen) 0 x.tag), (store_gets u x 2 (pack target.index 0 target.tag),
-        (store_gets u x 3 weight, tt)))) in
+    let stays : Every StaysInPass stores = (
+      store_stays u x 0 key,
+      (
+        store_stays u x 1 (pack (index_of seen) 0 x.tag),
+        (
+          store_stays u x 2 (pack target.index 0 target.tag),
+          (store_stays u x 3 weight, tt),
+        ),
+      ),
+    ) in
+    let gets : Every (GetsNone None) stores = (
+      store_gets u x 0 key,
+      (
+        store_gets u x 1 (pack (index_of seen) 0 x.tag),
+        (
+          store_gets u x 2 (pack target.index 0 target.tag),
+          (store_gets u x 3 weight, tt),
+        ),
+      ),
+    ) in
     let g3 = makes_goes u t stores stays mt in
     let g = goes_further v u t (makes_goes v u [] tt all) g3 in
     let building = building_on u t stores x zu stays gets mt b'.holding.numbered b'.holding.there b'.holding.pass
-        b'.unspent f.held in
+    b'.unspent f.held in
     let g1 : GoesOn v m = loaded_goes v m has s (loaded v at key m l) in
     let key_is : key_in t target.index ≡ key = key_still v t z g target.index to.life.there to.met
     ∙ (sym (key_still v m z g1 target.index to.life.there to.met) ∙ sym (key_loaded v m target.index at key l at_is)) in
@@ -111,7 +125,7 @@ ready v m u t x source target key at place seen weight z zu zt s b from to l at_
     let c = makes_counts pops u t stores mt in
     let d = taken_loads v u all in
     let may = may_prepend t zt place seen key source target weight x building.holding from'
-        (vertex_still v t z g target to) place_is live
+    (vertex_still v t z g target to) place_is live
     (λ some. edge_above_still u t zu g3 source key (index_of seen) (behind some)) key_is f.filled in
     record {
       building = building;
@@ -131,7 +145,7 @@ edge_added v u w from to source target life x weight taken source_at target_at s
     let e = filled_edge_event p.then p.place p.seen x in
     let won : Won p.then p.place p.seen e w = p.tried.1 in
     let m : Makes p.then (e ∷ []) w = makes_won p.then w p.place p.seen e p.building.holding.numbered p.sound refl won
-        in
+    in
     let c = makes_counts pops p.then w (e ∷ []) m in
     let d = p.taken in
     let grows = prefix_trans u.front p.then.front w.front p.grows (makes_later p.then w (e ∷ []) m).grows in
@@ -163,7 +177,7 @@ edge_added v u w from to source target life x weight taken source_at target_at s
 -- where no edge may be put in front, by the target's key as it was loaded
 pub no_front : (v m u : View) (source target : Life) (key at : ℕ) → IsLayout v.sizes → v.numbered ≡ true → IsSound v
     → MetVertex v target → Looked v at key m → at ≡ key_at v.sizes target.index → Makes m [] u
-        → IsNoFront source key m u
+    → IsNoFront source key m u
     → IsNoFront source (key_in u target.index) v u
 no_front v m u source target key at z has s to l at_is mu n =
     let mm = makes_look v m at key has s l in
@@ -171,7 +185,7 @@ no_front v m u source target key at z has s to l at_is mu n =
     let g = makes_goes v u [] tt (makes_chain v m u [] [] mm mu) in
     let key_is : key ≡ key_in u target.index = key_loaded v m target.index at key l at_is
     ∙ (key_still v m z g1 target.index to.life.there to.met ∙ sym (key_still v u z g target.index to.life.there to.met))
-        in
+    in
     record {
       then = n.then;
       before = makes_chain v m n.then [] [] mm n.before;

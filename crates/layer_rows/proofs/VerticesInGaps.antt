@@ -21,12 +21,22 @@ use Rattle.layer_rows.proofs.WorkGoesOn.{building_on, gets_none, number_on, pass
 use Rattle.layer_rows.proofs.WorkGoesOn.{unspent_on}
 
 pub stores_stay : (v : View) (x : Life) (key next : ℕ) → Every StaysInPass (vertex_stores v x key next)
-stores_stay v x key next = (store_stays v x 0 key, (store_stays v x 1 (pack next 0 x.tag),
-    (store_stays v x 2 (pack nowhere 0 x.tag), (store_stays v x 3 0, tt))))
+stores_stay v x key next = (
+  store_stays v x 0 key,
+  (
+    store_stays v x 1 (pack next 0 x.tag),
+    (store_stays v x 2 (pack nowhere 0 x.tag), (store_stays v x 3 0, tt)),
+  ),
+)
 
 stores_get : (v : View) (x : Life) (key next : ℕ) → Every (GetsNone None) (vertex_stores v x key next)
-stores_get v x key next = (store_gets v x 0 key, (store_gets v x 1 (pack next 0 x.tag),
-    (store_gets v x 2 (pack nowhere 0 x.tag), (store_gets v x 3 0, tt))))
+stores_get v x key next = (
+  store_gets v x 0 key,
+  (
+    store_gets v x 1 (pack next 0 x.tag),
+    (store_gets v x 2 (pack nowhere 0 x.tag), (store_gets v x 3 0, tt)),
+  ),
+)
 
 -- the gap stays one
 pub gap_filled : (v w : View) (x : Life) (key next : ℕ) (p : PositionValue) → IsLayout v.sizes

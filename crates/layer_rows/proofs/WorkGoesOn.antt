@@ -40,7 +40,7 @@ pub there_on : (v w : View) (own : List Event) → Makes v own w → v.number < 
 there_on v w own m there =
     let h = makes_later v w own m in
     subst (λ (s : Sizes). w.number < s.callers) (sym h.sizes)
-        (subst (λ (n : ℕ). n < v.sizes.callers) (sym h.number) there)
+    (subst (λ (n : ℕ). n < v.sizes.callers) (sym h.number) there)
 
 pub pass_on : (v w : View) (own : List Event) → Every StaysInPass own → Makes v own w → HasPass v → HasPass w
 pass_on v w own every m is =
@@ -108,7 +108,7 @@ pub building_begins : (v w : View) (seen next : ℕ) (x : Life) → IsLayout v.s
 building_begins v w seen next x z m held h = (
   building_on v w (pop_event v seen next ∷ []) x z (((λ y. absurd (cc)), (λ y. absurd (cc))), tt)
       (gets_none (pop_event v seen next) refl (λ y. absurd (cc)), tt) m h.resting.numbered h.resting.there
-          h.resting.pass h.unspent held,
+      h.resting.pass h.unspent held,
   makes_counts pops v w (pop_event v seen next ∷ []) m,
 )
 
@@ -117,7 +117,7 @@ pub building_loads : (v w : View) (x : Life) → IsLayout v.sizes → Makes v []
 building_loads v w x z m b =
     let f : IsHeldFresh v x = record { life = b.holding.held.life; fresh = b.holding.held.fresh } in
     building_on v w [] x z tt tt m b.holding.numbered b.holding.there b.holding.pass b.unspent
-        (makes_fresh_by_kind v w [] z x tt m f).0
+    (makes_fresh_by_kind v w [] z x tt m f).0
 
 pub taken_loads : (v w : View) → Makes v [] w → taken_by w ≡ taken_by v
 taken_loads v w m = let c = makes_counts pops v w [] m in omega (arith, c)
@@ -136,7 +136,7 @@ begins_unspent v w found z d =
     let number : w.number ≡ found = ap (λ (x : View). x.number) d.view in
     let kept : IsKept w.sizes (d.grown ++ e ∷ []) = subst (λ (j : List Event). IsKept w.sizes j) d.front d.sound.kept in
     let none : made acts w.number w.front ≡ 0 = ap₂ (made acts) number d.front
-        ∙ new_made w.sizes d.grown e kept refl acts refl in
+    ∙ new_made w.sizes d.grown e kept refl acts refl in
     record { none = λ x spent. (has_nothing w.sizes z w.front d.sound.kept w.number none).spent x spent }
 
 -- and is at work behind the opening of its pass

@@ -22,7 +22,7 @@ use Rattle.epoch_limbo.specs.Passes.{IsOpened}
 use Rattle.table_calls.specs.Resting.{IsResting, uses_of}
 use Rattle.node_arena.specs.Filling.{vertex_stores}
 use Rattle.node_arena.specs.Taking.{IsTaken}
-use Rattle.vertex_calls.specs.Ready.{IsPrepared, IsReady, is_done}
+use Rattle.vertex_calls.specs.Ready.{IsInPass, IsPrepared, IsReady, is_done}
 use Rattle.vertex_list.specs.Changes.{MatchLinked, MatchMarked, MatchUnlinked}
 use Rattle.vertex_list.specs.Positions.{PositionValue, IsGap}
 use Rattle.vertex_list.specs.declared.changes.Linked.{Linked}
@@ -87,6 +87,24 @@ linked n v w p x (Done life) h r done = record {
   few = count_stays n v w _ refl h.1.makes r.few;
 }
 linked n v w p x (Lost fresh) h r done = absurd (cc)
+
+-- also where it's lost, the token has its number and its pass
+pub in_pass : (n : ℕ) (v w : View) (p : PositionValue) (x : Life) (l : Linked) → MatchLinked l p x v w
+    → IsPrepared n v p x → IsInPass w
+in_pass n v w p x (Done life) h r = record {
+  numbered = (makes_later v w _ h.1.makes).numbered ∙ r.numbered;
+  pass = goes_opened v w (makes_goes v w _ ((λ y. absurd (cc), λ y. absurd (cc)), tt) h.1.makes) r.pass;
+}
+in_pass n v w p x (Lost fresh) h r = record {
+  numbered = (makes_later v w [] h.1.makes).numbered ∙ r.numbered;
+  pass = goes_opened v w (makes_goes v w [] tt h.1.makes) r.pass;
+}
+
+pub pass_looks : (v w : View) → Makes v [] w → IsInPass v → IsInPass w
+pass_looks v w h r = record {
+  numbered = (makes_later v w [] h).numbered ∙ r.numbered;
+  pass = goes_opened v w (makes_goes v w [] tt h) r.pass;
+}
 
 -- the word of the free list is no place of a position
 free_apart : (v : View) (p : PositionValue) → IsLayout v.sizes → IsGap v p → free_at v.sizes ≢ p.place

@@ -11,6 +11,11 @@ use Rattle.vertex_list.specs.Positions.{PositionValue, IsGap}
 use Rattle.vertex_list.specs.declared.changes.Linked.{Linked}
 use Rattle.vertex_list.specs.declared.changes.Linked.TheVariants.{Done, Lost}
 
+-- the token has a number, and its pass is open
+pub record IsInPass (v : View) : Type 0 where
+  pub numbered : v.numbered ≡ true
+  pub pass : HasPass v
+
 -- the token has a number, its pass is open, it holds no fresh node, and it took at most so many nodes
 pub record IsReady (taken : ℕ) (v : View) : Type 0 where
   pub numbered : v.numbered ≡ true

@@ -5,9 +5,9 @@ ghost use Rattle.std.specs.Prelude.{◌≡◌, ◌<◌, ◌+◌, true, false, If
 ghost use Rattle.core_rule.specs.Fronts.{MetVertex};
 ghost use Rattle.graph_table.specs.Tokens.{IsOf};
 ghost use Rattle.table_calls.specs.Resting.{IsResting, uses_of};
-ghost use Rattle.vertex_list.specs.Positions.{IsAnyPosition, IsPosition, LeadsToDead};
+ghost use Rattle.vertex_list.specs.Positions.{IsAnyPosition, IsPosition, LeadsToDead, PositionValue};
 ghost use Rattle.vertex_list.specs.Walks.{MatchFound, MatchStepped};
-ghost use Rattle.vertex_calls.specs.Ready.{IsPrepared, IsReady, is_done};
+ghost use Rattle.vertex_calls.specs.Ready.{IsInPass, IsPrepared, IsReady, is_done};
 
 use epoch_limbo::open_pass;
 use graph_table::{Fresh, GraphTable, Token};
@@ -133,7 +133,20 @@ pub fn add(
     requires table { IsOf table.now token.old }
     requires prepared { IsPrepared _taken token.old.view position fresh }
     ensures table { IsOf table.now token.new }
+    ensures pass { IsInPass token.new.view }
     ensures ready { is_done result ≡ true → IsReady _taken token.new.view }
 {
     link(table, token, position, fresh)
+}
+
+/// Walks to a key from the word of its bucket, also while a node is held that wasn't linked.
+pub fn look_again(table: &GraphTable, token: &mut Token, key: u32) -> Found
+    requires table { IsOf table.now token.old }
+    requires pass { IsInPass token.old.view }
+    ensures table { IsOf table.now token.new }
+    ensures pass { IsInPass token.new.view }
+    ensures found { (position : PositionValue) × (position.key ≡ key) × MatchFound result position token.new.view }
+{
+    let position = start(table, token, key);
+    walk(table, token, position)
 }

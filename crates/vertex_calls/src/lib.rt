@@ -8,4 +8,4 @@ mod calls;
 #[cfg(test)]
 mod tests;
 
-pub use calls::{add, first, forward, open, pass_by, prepare, remove, seek};
+pub use calls::{add, first, forward, look_again, open, pass_by, prepare, remove, seek};

@@ -1,6 +1,6 @@
 //! The calls on one thread: keys that share a bucket, and a link that is lost.
 
-use crate::{add, first, forward, open, pass_by, prepare, remove, seek};
+use crate::{add, first, forward, look_again, open, pass_by, prepare, remove, seek};
 use graph_table::GraphTable;
 use packed_link::Layout;
 use table_calls::{enter, split_off};
@@ -54,24 +54,29 @@ fn keys_that_share_a_bucket_are_found_and_unlinked(rt: HostRuntime) {
     assert!(rt; matches!(seek(&table, &mut one, position, 2), Found::Gone(_)));
 }
 
+// Row 24, on tokens.
 #[test]
 fn a_link_that_is_lost_hands_its_node_back(rt: HostRuntime) {
-    let (table, mut one) = GraphTable::new(rt.alloc(), Layout::new(2, 4, 1024)).expect(
-        &rt, "memory",
-    );
+    let (table, mut one) = GraphTable::new(rt.alloc(), Layout::new(2, 2, 1)).expect(&rt, "memory");
     assert_eq!(rt; enter(&table, &mut one), 0);
     let mut two = split_off(&table, &mut one);
     assert_eq!(rt; enter(&table, &mut two), 1);
     open(&table, &mut one);
     open(&table, &mut two);
+    // Both find the key missing, and each fills a node for it.
+    let (position, fresh) = prepare(&table, &mut one, 5, 0).expect(&rt, "node");
     let (position_too, fresh_too) = prepare(&table, &mut two, 5, 0).expect(&rt, "node");
-    let life = fresh_too.life();
-    let (position, fresh) = prepare(&table, &mut one, 1029, 0).expect(&rt, "node");
-    let Linked::Done(_) = add(&table, &mut one, position, fresh, 1) else {
+    let life = fresh.life();
+    let Linked::Done(other) = add(&table, &mut two, position_too, fresh_too, 1) else {
         panic!(rt; "lost")
     };
-    let Linked::Lost(fresh_too) = add(&table, &mut two, position_too, fresh_too, 1) else {
+    let Linked::Lost(fresh) = add(&table, &mut one, position, fresh, 1) else {
         panic!(rt; "linked")
     };
-    assert!(rt; fresh_too.life() == life);
+    assert!(rt; fresh.life() == life);
+    let Found::Here(sighting) = look_again(&table, &mut one, 5) else {
+        panic!(rt; "not there")
+    };
+    assert!(rt; sighting.life == other);
+    assert!(rt; other != life);
 }

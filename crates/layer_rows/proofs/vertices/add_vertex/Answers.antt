@@ -11,7 +11,7 @@ look_for-requires-clause-pass c =
     let v = c.args.token.now.view in
     let n = c.in-Node.ensures.taken in
     (building_begins v c.take.new.token.view n.seen n.next c.in-Node.fresh c.requires.table.layout n.makes n.held
-        c.requires.work).0.holding.pass
+    c.requires.work).0.holding.pass
 
 pub fill_vertex-requires-clause-fresh : goal.fill_vertex-requires-clause-fresh
 fill_vertex-requires-clause-fresh c =
@@ -21,7 +21,7 @@ fill_vertex-requires-clause-fresh c =
     let x = c.in-Node.fresh in
     let begun = building_begins v m n.seen n.next x c.requires.table.layout n.makes n.held c.requires.work in
     let b = building_loads m c.look_for.new.token.view x c.take.ensures.table.layout c.in-Gone.ensures.walked.makes
-        begun.0 in
+    begun.0 in
     record { life = b.holding.held.life; fresh = b.holding.held.fresh }
 
 pub link-requires-clause-gap : goal.link-requires-clause-gap
@@ -34,7 +34,7 @@ link-requires-clause-gap c =
     let u = c.look_for.new.token.view in
     let b = building_loads m u x c.take.ensures.table.layout c.in-Gone.ensures.walked.makes begun.0 in
     gap_filled u c.fill_vertex.new.token.view x c.args.key (index_of c.word.result.0) c.in-Gone.position
-        c.look_for.ensures.table.layout c.fill_vertex.ensures.makes b c.in-Gone.ensures.walked.found.gap
+    c.look_for.ensures.table.layout c.fill_vertex.ensures.makes b c.in-Gone.ensures.walked.found.gap
 
 pub returns-in-Done-clause-added : goal.returns-in-Done-clause-added
 returns-in-Done-clause-added c =
@@ -50,7 +50,7 @@ returns-in-Done-clause-added c =
     let p = c.in-Gone.position in
     let b = building_loads m u x c.take.ensures.table.layout walked.makes begun.0 in
     let filled = building_filled u f x c.args.key (index_of c.word.result.0) c.look_for.ensures.table.layout
-        c.fill_vertex.ensures.makes c.fill_vertex.ensures.filled.held b in
+    c.fill_vertex.ensures.makes c.fill_vertex.ensures.filled.held b in
     let taken : taken_by f ≡ taken_by v + 1 = filled.1 ∙ (taken_loads m u walked.makes ∙ begun.1) in
     let added = vertex_added v f w p x c.fill_vertex.ensures.table.layout filled.0 taken c.in-Done.ensures.linked.1 in
     let here = subst (λ (k : ℕ). IsVertexAdded k v w x) (walked.found.key ∙ walked.key_is) added in

@@ -8,7 +8,7 @@ returns-clause-work c =
     let m = c.enter.new.token.view in
     let z = c.enter.ensures.table.layout in
     (opened_work m c.open_pass.new.token.view z c.enter.ensures.resting
-        (begins_unspent v m _ z c.enter.ensures.drew) c.open_pass.ensures.opened).0
+    (begins_unspent v m _ z c.enter.ensures.drew) c.open_pass.ensures.opened).0
 
 pub returns-clause-taken : goal.returns-clause-taken
 returns-clause-taken c =
@@ -16,5 +16,5 @@ returns-clause-taken c =
     let m = c.enter.new.token.view in
     let z = c.enter.ensures.table.layout in
     let same = (opened_work m c.open_pass.new.token.view z c.enter.ensures.resting
-        (begins_unspent v m _ z c.enter.ensures.drew) c.open_pass.ensures.opened).1 in
+    (begins_unspent v m _ z c.enter.ensures.drew) c.open_pass.ensures.opened).1 in
     omega (arith, same, c.enter.ensures.uses)
