@@ -123,18 +123,18 @@ most-bound f (suc n) x low =
     (λ ne. let a = most-bound f n x (omega arith) in omega arith)
 
 -- the keys and the steps on a chain have bounds
-abbrev IsWithin : Chain → ℕ → ℕ → Type 0
-IsWithin c bound last = (x : ℕ) → IsOn c (Node x) → (c.key x ≤ bound) × (c.since x ≤ last)
+abbrev HasBounds : Chain → ℕ → ℕ → Type 0
+HasBounds c bound last = (x : ℕ) → IsOn c (Node x) → (c.key x ≤ bound) × (c.since x ≤ last)
 
 -- where a word of the chain stands, as one number
 abbrev score : Chain → ℕ → Position → ℕ
 score c last p = rank_of c p * (last + 1) + since_of c p
 
-since_within : (c : Chain) (bound last : ℕ) (p : Position) → IsWithin c bound last → IsOn c p → since_of c p ≤ last
+since_within : (c : Chain) (bound last : ℕ) (p : Position) → HasBounds c bound last → IsOn c p → since_of c p ≤ last
 since_within c bound last Head within on = omega arith
 since_within c bound last (Node x) within on = (within x on).1
 
-rank_within : (c : Chain) (bound last : ℕ) (p : Position) → IsWithin c bound last → IsOn c p → rank_of c p ≤ bound + 1
+rank_within : (c : Chain) (bound last : ℕ) (p : Position) → HasBounds c bound last → IsOn c p → rank_of c p ≤ bound + 1
 rank_within c bound last Head within on = omega arith
 rank_within c bound last (Node x) within on = omega (arith, (within x on).0)
 
@@ -154,13 +154,13 @@ score-rises c last p q before within = rises_by (rank_of c p) (since_of c p) (ra
     (since_of c q) last before within
 
 score-bound : (c : Chain) (bound last : ℕ) (p : Position)
-    → IsWithin c bound last → IsOn c p → score c last p ≤ (bound + 1) * (last + 1) + last
+    → HasBounds c bound last → IsOn c p → score c last p ≤ (bound + 1) * (last + 1) + last
 score-bound c bound last p within on =
     let a = times (rank_of c p) (bound + 1) (last + 1) (rank_within c bound last p within on) in
     omega (arith, a, since_within c bound last p within on)
 
 -- from a word of a chain with such bounds one meets some list
-met_within : (c : Chain) (bound last steps : ℕ) (p : Position) → IsChain c → IsWithin c bound last → IsOn c p
+met_within : (c : Chain) (bound last steps : ℕ) (p : Position) → IsChain c → HasBounds c bound last → IsOn c p
     → (bound + 1) * (last + 1) + last + 1 ≤ steps + score c last p → (xs : List ℕ) × MeetsFrom c p xs
 met_within c bound last zero p chain within on enough =
     absurd (omega (arith, score-bound c bound last p within on))
@@ -177,7 +177,7 @@ pub IsMet-from_chain : (c : Chain) (size : ℕ)
 IsMet-from_chain c size chain below =
     let bound : ℕ = most c.key size in
     let last : ℕ = most c.since size in
-    let within : IsWithin c bound last = λ x on.
+    let within : HasBounds c bound last = λ x on.
     (most-bound c.key size x (below x on), most-bound c.since size x (below x on)) in
     let found = met_within c bound last ((bound + 1) * (last + 1) + last + 1) Head chain within tt (omega arith) in
     (found.0, IsMet-from_Meets c found.0 chain found.1)

@@ -10,15 +10,15 @@ use Rattle.core_chain.specs.Table.{Places, chain_in, WritesWord, StandsAlone, St
 module _ (old new : ℕ → ℕ) (places : Places) (on on' : ℕ → Bool) (since since' : ℕ → ℕ)
     (kept : (x : ℕ) → IsTrue (on x) → since' x ≡ since x) where
   -- the chain before and after
-  abbrev before : Chain
-  before = chain_in old places on since
+  abbrev old_chain : Chain
+  old_chain = chain_in old places on since
 
-  abbrev after : Chain
-  after = chain_in new places on' since'
+  abbrev new_chain : Chain
+  new_chain = chain_in new places on' since'
 
   -- a write at one word of a chain keeps its other words and the keys
   ChangesOnly-in : (at : Position) (word : ℕ)
-      → StandsAlone places at → WritesWord old new (places.word_at at) word → ChangesOnly before after at
+      → StandsAlone places at → WritesWord old new (places.word_at at) word → ChangesOnly old_chain new_chain at
   ChangesOnly-in at word alone writes = record {
     next = λ p ne. ap index_of (writes.others (places.word_at p) (alone.words p ne));
     mark = λ p ne. ap mark_of (writes.others (places.word_at p) (alone.words p ne));

@@ -26,10 +26,10 @@ use Rattle.core_journal.specs.Life.{key_of}
 use Rattle.core_journal.specs.Event.{marks_vertex}
 use Rattle.core_journal.specs.Right.{FramedFrom, RightSilent, IsOwn, IsEdgeCall, IsMarkedAfter, OwnReply, RightOwn}
 use Rattle.core_journal.specs.Right.{RightLate, RightAs, Right, IsBookOf, CallersApart}
-use Rattle.core_journal.proofs.Calls.{same_graph_is, pair_of, IsEdgeChange, edge_change, one_pair, touches_first}
+use Rattle.core_journal.proofs.Calls.{same_graph_is, called_pair, IsEdgeChange, edge_change, one_pair, touches_first}
 use Rattle.core_journal.proofs.Calls.{touches_second}
-use Rattle.core_journal.proofs.Turns.{applied, replayed, Does, RunsFrom, SilentBy, IsCut, LateBy, IsCutLater}
-use Rattle.core_journal.proofs.Turns.{OwnReplyBy, OwnBy, StandsBy, BookIn, BooksIn, graph_at}
+use Rattle.core_journal.proofs.Turns.{applied, after_turns, Does, RunsFrom, SilentBy, IsCut, LateBy, IsCutLater}
+use Rattle.core_journal.proofs.Turns.{OwnReplyBy, OwnBy, StandsBy, BookIn, BooksIn, graph_by_turns}
 use Rattle.core_journal.proofs.Lists.{every_map, get_short}
 use Rattle.core_journal.proofs.KeptLives.{key_more}
 use Rattle.graph_kinds.specs.declared.answer.Answer.{Answer}
@@ -69,13 +69,13 @@ runs_from past (e ∷ es) r = (
       (led past e r.0) (runs_from (past ++ e ∷ []) es r.1),
 )
 
-graph_from : (past rest : List Event) (p : ℕ) → RegularFrom past rest → replayed (graph_of past)
+graph_from : (past rest : List Event) (p : ℕ) → RegularFrom past rest → after_turns (graph_of past)
     (take p (turns_from past rest)) ≡ graph_of (past ++ take p rest)
 graph_from past [] zero r = ap graph_of (sym (append-nil past))
 graph_from past [] (suc p) r = ap graph_of (sym (append-nil past))
 graph_from past (e ∷ es) zero r = ap graph_of (sym (append-nil past))
 graph_from past (e ∷ es) (suc p) r =
-    ap (λ (g : Graph). replayed g (take p (turns_from (past ++ e ∷ []) es))) (sym (led past e r.0)) ∙
+    ap (λ (g : Graph). after_turns g (take p (turns_from (past ++ e ∷ []) es))) (sym (led past e r.0)) ∙
     (graph_from (past ++ e ∷ []) es p r.1 ∙ ap graph_of (append_assoc past (e ∷ []) (take p es)))
 
 graph_first : graph_of [] ≡ empty_graph
@@ -83,10 +83,10 @@ unfolding graph_of
 graph_first = refl
 
 -- the turns up to a place give the graph at that place
-pub graph_turns : (journal : List Event) (p : ℕ) → IsRegular journal → graph_at (turns journal) p ≡ graph_of
+pub graph_turns : (journal : List Event) (p : ℕ) → IsRegular journal → graph_by_turns (turns journal) p ≡ graph_of
     (take p journal)
 unfolding turns
-graph_turns journal p r = ap (λ (g : Graph). replayed g (take p (turns_from [] journal))) (sym graph_first)
+graph_turns journal p r = ap (λ (g : Graph). after_turns g (take p (turns_from [] journal))) (sym graph_first)
     ∙ graph_from [] journal p r.steps
 
 length_from : (past rest : List Event) → length (turns_from past rest) ≡ length rest
@@ -103,8 +103,8 @@ take_whole [] = refl
 take_whole (x ∷ xs) = ap (λ l. x ∷ l) (take_whole xs)
 
 -- all turns give the graph of the journal
-pub last_turns : (journal : List Event) → IsRegular journal → replayed empty_graph (turns journal) ≡ graph_of journal
-last_turns journal r = ap (replayed empty_graph) (sym (take_whole (turns journal))) ∙
+pub last_turns : (journal : List Event) → IsRegular journal → after_turns empty_graph (turns journal) ≡ graph_of journal
+last_turns journal r = ap (after_turns empty_graph) (sym (take_whole (turns journal))) ∙
     (graph_turns journal (length (turns journal)) r ∙ ap graph_of
     (ap (λ n. take n journal) (length_turns journal) ∙ take_whole journal))
 
@@ -159,8 +159,8 @@ marks_call past e key k marks is = ap (λ b. cond b (call_of past e) None) (k.re
 -- the edge event's call is on the pair of the keys of its lives
 record IsOnPair (past : List Event) (link : Event) (c : Call) : Type 0 where
   pub edge : IsEdgeCall c
-  pub source : key_of past link.source ≡ Some (pair_of c).0
-  pub target : key_of past link.target ≡ Some (pair_of c).1
+  pub source : key_of past link.source ≡ Some (called_pair c).0
+  pub target : key_of past link.target ≡ Some (called_pair c).1
 
 added_pair : (past : List Event) (link : Event) (w : ℕ) (c : Call) → (a b : Option ℕ) → key_of past link.source ≡ a
     → key_of past link.target ≡ b → option_map (λ p. AddEdge p.0 p.1 w) (both a b) ≡ Some c → IsOnPair past link c
@@ -238,7 +238,7 @@ cut_later journal caller e event r own m = by m.life
     on : IsOnPair past m.link k.call
     on = on_pair past event m.link k.call event.kind m.edge k.is
 
-    same : pair_of k.call ≡ pair_of e.call
+    same : called_pair k.call ≡ called_pair e.call
     same = one_pair (graph_of past) e.call k.call m.pair on.edge k.alters (sym own.leads ∙ k.leads)
 
     ends : IsEdgeChange (graph_of past) k.call
@@ -256,18 +256,18 @@ cut_later journal caller e event r own m = by m.life
       number = m.number;
       since = m.since;
       until = m.until;
-      cut = cut_at journal caller e.call m.number m.mark (pair_of k.call).0 r m.at m.other m.marks
-          (key m.link.source (pair_of k.call).0 on.source life)
-          (touches_first e.call (pair_of k.call).0 m.pair (ap (λ (p : ℕ × ℕ). p.0) same));
+      cut = cut_at journal caller e.call m.number m.mark (called_pair k.call).0 r m.at m.other m.marks
+          (key m.link.source (called_pair k.call).0 on.source life)
+          (touches_first e.call (called_pair k.call).0 m.pair (ap (λ (p : ℕ × ℕ). p.0) same));
       there = ends.source;
     }
     by (inr life) = record {
       number = m.number;
       since = m.since;
       until = m.until;
-      cut = cut_at journal caller e.call m.number m.mark (pair_of k.call).1 r m.at m.other m.marks
-          (key m.link.target (pair_of k.call).1 on.target life)
-          (touches_second e.call (pair_of k.call).1 m.pair (ap (λ (p : ℕ × ℕ). p.1) same));
+      cut = cut_at journal caller e.call m.number m.mark (called_pair k.call).1 r m.at m.other m.marks
+          (key m.link.target (called_pair k.call).1 on.target life)
+          (touches_second e.call (called_pair k.call).1 m.pair (ap (λ (p : ℕ × ℕ). p.1) same));
       there = ends.target;
     }
 

@@ -171,13 +171,13 @@ alike_edge k x (Cheapest a b) h t = absurd t
 pub alike_trans : (k : ℕ) (x y z : Graph) → AlikeFor k x y → AlikeFor k y z → AlikeFor k x z
 alike_trans k x y z f g = record { there = g.there; left = g.left ∙ f.left }
 
-abbrev pub pair_of : Call → ℕ × ℕ
-pair_of (AddEdge a b w) = (a, b)
-pair_of (RemoveEdge a b) = (a, b)
-pair_of _ = (0, 0)
+abbrev pub called_pair : Call → ℕ × ℕ
+called_pair (AddEdge a b w) = (a, b)
+called_pair (RemoveEdge a b) = (a, b)
+called_pair _ = (0, 0)
 
 abbrev pair_weight : Graph → Call → Option ℕ
-pair_weight g c = weight_of g (pair_of c).0 (pair_of c).1
+pair_weight g c = weight_of g (called_pair c).0 (called_pair c).1
 
 changed_there : (w x : ℕ) → is_change (there_with w x) ≡ true → x ≢ w
 changed_there w x e same =
@@ -221,8 +221,8 @@ removes_edge g a b w ha hb there = λ i. is_change (cond (ha i && hb i) (by_weig
 
 -- an edge call that alters the graph: both keys are there, and the pair's weight changes
 pub record IsEdgeChange (x : Graph) (c : Call) : Type 0 where
-  pub source : has x (pair_of c).0 ≡ true
-  pub target : has x (pair_of c).1 ≡ true
+  pub source : has x (called_pair c).0 ≡ true
+  pub target : has x (called_pair c).1 ≡ true
   pub turned : pair_weight (after x c) c ≢ pair_weight x c
 
 itself : (a b : ℕ) → ((a == a) && (b == b)) ≡ true
@@ -262,7 +262,8 @@ edge_change x (Levels a) h e = absurd h
 edge_change x (Cheapest a b) h e = absurd h
 
 -- an edge call changes no other pair
-edge_else : (x : Graph) (c : Call) (a b : ℕ) → IsEdgeCall c → ((a == (pair_of c).0) && (b == (pair_of c).1)) ≡ false
+edge_else : (x : Graph) (c : Call) (a b : ℕ) → IsEdgeCall c → ((a == (called_pair c).0) && (b == (called_pair c).1))
+    ≡ false
     → weight_of (after x c) a b ≡ weight_of x a b
 edge_else x (AddEdge c d w) a b h e = after_either (λ g. weight_of g a b ≡ weight_of x a b) x (AddEdge c d w)
     (λ f. weight_put x.pairs c d w a b ∙ ap (λ t. cond t (Some w) (weight_of x a b)) e) refl
@@ -278,21 +279,23 @@ edge_else x (Cheapest c d) a b h e = absurd h
 
 -- two edge calls with one change are on one pair
 pub one_pair : (x : Graph) (c d : Call) → IsEdgeCall c → IsEdgeCall d → alters x d ≡ true → after x c ≡ after x d
-    → pair_of d ≡ pair_of c
-one_pair x c d hc hd does same = by (((pair_of d).0 == (pair_of c).0) && ((pair_of d).1 == (pair_of c).1)) refl
+    → called_pair d ≡ called_pair c
+one_pair x c d hc hd does same = by (((called_pair d).0 == (called_pair c).0) &&
+    ((called_pair d).1 == (called_pair c).1)) refl
   where
-    by : (b : Bool) → (((pair_of d).0 == (pair_of c).0) && ((pair_of d).1 == (pair_of c).1)) ≡ b → pair_of d ≡ pair_of c
+    by : (b : Bool) → (((called_pair d).0 == (called_pair c).0) && ((called_pair d).1 == (called_pair c).1)) ≡ b →
+        called_pair d ≡ called_pair c
     by true e =
-        let f = eqb-true (pair_of d).0 (pair_of c).0 (and_left ((pair_of d).0 == (pair_of c).0)
-        ((pair_of d).1 == (pair_of c).1) e) in
-        let s = eqb-true (pair_of d).1 (pair_of c).1 (and_right ((pair_of d).0 == (pair_of c).0)
-        ((pair_of d).1 == (pair_of c).1) e) in
+        let f = eqb-true (called_pair d).0 (called_pair c).0 (and_left ((called_pair d).0 == (called_pair c).0)
+        ((called_pair d).1 == (called_pair c).1) e) in
+        let s = eqb-true (called_pair d).1 (called_pair c).1 (and_right ((called_pair d).0 == (called_pair c).0)
+        ((called_pair d).1 == (called_pair c).1) e) in
         λ i. (f i, s i)
     by false e = absurd ((edge_change x d hd does).turned (ap (λ (g : Graph). pair_weight g d) (sym same)
-        ∙ edge_else x c (pair_of d).0 (pair_of d).1 hc e))
+        ∙ edge_else x c (called_pair d).0 (called_pair d).1 hc e))
 
 -- an edge call is on its first key
-pub touches_first : (c : Call) (k : ℕ) → IsEdgeCall c → k ≡ (pair_of c).0 → Touches c k
+pub touches_first : (c : Call) (k : ℕ) → IsEdgeCall c → k ≡ (called_pair c).0 → Touches c k
 touches_first (AddEdge a b w) k h e = inl e
 touches_first (RemoveEdge a b) k h e = inl e
 touches_first (AddVertex j) k h e = absurd h
@@ -304,7 +307,7 @@ touches_first (Levels a) k h e = absurd h
 touches_first (Cheapest a b) k h e = absurd h
 
 -- and on its second
-pub touches_second : (c : Call) (k : ℕ) → IsEdgeCall c → k ≡ (pair_of c).1 → Touches c k
+pub touches_second : (c : Call) (k : ℕ) → IsEdgeCall c → k ≡ (called_pair c).1 → Touches c k
 touches_second (AddEdge a b w) k h e = inr e
 touches_second (RemoveEdge a b) k h e = inr e
 touches_second (AddVertex j) k h e = absurd h

@@ -164,26 +164,26 @@ covers_by journal caller dull entries h quiet p e at by does =
     cases false true false false idle i j k t = absurd (true≢false (sym t))
 
 -- each event is idle, or of a caller below a number
-abbrev pub all_below : ℕ → List Event → Bool
-all_below n xs = list_all (λ (e : Event). is_idle e.kind || leb (e.caller + 1) n) xs
+abbrev pub callers_below : ℕ → List Event → Bool
+callers_below n xs = list_all (λ (e : Event). is_idle e.kind || leb (e.caller + 1) n) xs
 
-below_at : (n : ℕ) (xs : List Event) → all_below n xs ≡ true → (k : ℕ) (e : Event) → slice_get xs k ≡ Some e →
+below_at : (n : ℕ) (xs : List Event) → callers_below n xs ≡ true → (k : ℕ) (e : Event) → slice_get xs k ≡ Some e →
     (is_idle e.kind || leb (e.caller + 1) n) ≡ true
 below_at n [] h k e at = absurd (cc)
 below_at n (x ∷ xs) h zero e at = let same : x ≡ e = cc in ap (λ (d : Event). is_idle d.kind || leb (d.caller + 1) n)
     (sym same) ∙ first (is_idle x.kind || leb (x.caller + 1) n) h
   where
-    first : (b : Bool) → (b && all_below n xs) ≡ true → b ≡ true
+    first : (b : Bool) → (b && callers_below n xs) ≡ true → b ≡ true
     first true h = refl
     first false h = h
 below_at n (x ∷ xs) h (suc k) e at = below_at n xs (rest (is_idle x.kind || leb (x.caller + 1) n) h) k e at
   where
-    rest : (b : Bool) → (b && all_below n xs) ≡ true → all_below n xs ≡ true
+    rest : (b : Bool) → (b && callers_below n xs) ≡ true → callers_below n xs ≡ true
     rest true h = h
     rest false h = absurd (cc)
 
 -- where two callers have books, and each event is idle or of one of them, the journal is closed
-pub closed_by : (journal : List Event) (b c : Book) → b.caller ≡ 0 → c.caller ≡ 1 → all_below 2 journal ≡ true
+pub closed_by : (journal : List Event) (b c : Book) → b.caller ≡ 0 → c.caller ≡ 1 → callers_below 2 journal ≡ true
     → IsClosed journal (b ∷ c ∷ [])
 closed_by journal b c zeroth oneth h = record {
   has = λ p e at does. cases p e at does (is_idle e.kind) (leb (e.caller + 1) 2) refl refl

@@ -11,14 +11,14 @@ use Rattle.core_journal.specs.Passing.{passing_from, passing, is_own_change, cha
 use Rattle.core_journal.specs.Prefix.{IsPrefix}
 
 -- an event behind a front, as one of the rest
-record IsBehind (xs ys : List Event) (p : ℕ) (e : Event) : Type 0 where
+record StandsBehind (xs ys : List Event) (p : ℕ) (e : Event) : Type 0 where
   pub k : ℕ
   pub number : p ≡ length xs + k
   pub at : slice_get ys k ≡ Some e
   pub before : take p (xs ++ ys) ≡ xs ++ take k ys
 
 behind_get : (xs ys : List Event) (p : ℕ) (e : Event) → length xs ≤ p → slice_get (xs ++ ys) p ≡ Some e
-    → IsBehind xs ys p e
+    → StandsBehind xs ys p e
 behind_get [] ys p e far at = record { k = p; number = omega arith; at = at; before = refl }
 behind_get (x ∷ xs) ys zero e far at = absurd (omega arith)
 behind_get (x ∷ xs) ys (suc p) e far at = let h = behind_get xs ys p e
@@ -107,11 +107,11 @@ module _ (test : List Event → Event → Bool) where
     pub passing_grows : passing test front ≤ passing test journal
     passing_grows = omega (arith, rest_count)
 
-    at_rest : (n : ℕ) (e : Event) → length front ≤ n → slice_get journal n ≡ Some e → IsBehind front p.rest n e
+    at_rest : (n : ℕ) (e : Event) → length front ≤ n → slice_get journal n ≡ Some e → StandsBehind front p.rest n e
     at_rest n e far at = behind_get front p.rest n e far (subst (λ (l : List Event). slice_get l n ≡ Some e)
         (sym p.whole) at)
 
-    passes_rest : (n : ℕ) (e : Event) (b : IsBehind front p.rest n e) → test (take n journal) e ≡ true → test
+    passes_rest : (n : ℕ) (e : Event) (b : StandsBehind front p.rest n e) → test (take n journal) e ≡ true → test
         (front ++ take b.k p.rest) e ≡ true
     passes_rest n e b h = subst (λ (l : List Event). test l e ≡ true) (ap (take n) (sym p.whole) ∙ b.before) h
 

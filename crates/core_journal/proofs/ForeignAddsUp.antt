@@ -94,11 +94,11 @@ from_dropped (suc n) (x ∷ xs) k e at = let same : suc n + k ≡ suc (n + k) = 
     (λ (i : ℕ). slice_get (x ∷ xs) i ≡ Some e) (sym same) (from_dropped n xs k e at)
 
 -- an element of the first ones
-record IsTaken (n : ℕ) (xs : List Event) (p : ℕ) (e : Event) : Type 0 where
+record IsAmongFirst (n : ℕ) (xs : List Event) (p : ℕ) (e : Event) : Type 0 where
   pub low : p < n
   pub at : slice_get xs p ≡ Some e
 
-from_taken : (n : ℕ) (xs : List Event) (p : ℕ) (e : Event) → slice_get (take n xs) p ≡ Some e → IsTaken n xs p e
+from_taken : (n : ℕ) (xs : List Event) (p : ℕ) (e : Event) → slice_get (take n xs) p ≡ Some e → IsAmongFirst n xs p e
 from_taken zero xs p e at = absurd (cc)
 from_taken (suc n) [] p e at = absurd (cc)
 from_taken (suc n) (x ∷ xs) zero e at = record { low = omega arith; at = at }

@@ -289,7 +289,8 @@ any_kept f g key each q (d ∷ xs) =
     by None ys zs h = h
     by (Some k) ys zs h = case k (k == key) (q == key) refl refl ys zs h
 
-abbrev sought : ℕ × ℕ → List ((ℕ × ℕ) × ℕ) → Option ℕ
+-- what the list of pairs has for one
+abbrev pub sought : ℕ × ℕ → List ((ℕ × ℕ) × ℕ) → Option ℕ
 sought q ys = entry.find pair_cmp q ys
 
 -- pairs that tie are one

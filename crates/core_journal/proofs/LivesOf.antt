@@ -5,11 +5,11 @@ use Rattle.std.proofs.Common.{eqb-true}
 use Rattle.std.specs.Prelude.{option_map, option_and_then}
 use Rattle.std.specs.List.{list_any, cons_option}
 use Rattle.std.specs.Ordering.{eq_by_cmp}
-use Rattle.std.specs.FinMap.Entries as entry
 use Rattle.std.proofs.lemmas.List.{reverse-append}
 use Rattle.graph_kinds.specs.Graph.{pair_cmp, has, weight_of}
 use Rattle.graph_kinds.proofs.Calls.{and_left, and_right}
 use Rattle.graph_kinds.proofs.Graphs.{pair_total}
+use Rattle.graph_kinds.proofs.PathsLists.{In}
 use Rattle.std.specs.Cmp.{tied_itself, Equal-is}
 use Rattle.packed_link.specs.declared.link.Life.{Life}
 use Rattle.core_journal.specs.declared.event.Event.{Event}
@@ -18,7 +18,7 @@ use Rattle.core_journal.specs.Life.{vertex_marked, edge_marked, key_of, link_of}
 use Rattle.core_journal.specs.GraphOf.{both, weighed, present_key, pair_between, present_pair, key_by, pair_by}
 use Rattle.core_journal.specs.GraphOf.{graph_of}
 use Rattle.core_journal.proofs.Snoc.{same_is}
-use Rattle.core_journal.proofs.GraphRows.{has-graph, weight-graph, tied}
+use Rattle.core_journal.proofs.GraphRows.{has-graph, weight-graph, sought, tied}
 
 equal : (n : ℕ) → (n == n) ≡ true
 equal n = grind arith
@@ -148,9 +148,6 @@ key_of_life journal x k h = by (find (λ (e : Event). links_vertex e.kind && sam
         (ap (λ b. cond b (present_key journal d.life) None) links ∙ (ap (present_key journal) (sym same) ∙ h)) journal
         is
 
-abbrev sought : ℕ × ℕ → List ((ℕ × ℕ) × ℕ) → Option ℕ
-sought q ys = entry.find pair_cmp q ys
-
 pair_case : (f : Event → Option ((ℕ × ℕ) × ℕ)) (P : Type 0) (q : ℕ × ℕ) (w : ℕ) (d : Event) → (f d ≡ Some (q, w) → P) →
     (ps : List ((ℕ × ℕ) × ℕ)) → (sought q ps ≡ Some w → P) → (o : Option ((ℕ × ℕ) × ℕ)) → f d ≡ o → sought q
     (cons_option o ps) ≡ Some w → P
@@ -175,13 +172,8 @@ life_of_pair journal a b w h = pair_listed (pair_by journal) ((x : Life) × (pre
     (λ d e. (d.life, (when_some (links_edge d.kind) (present_pair journal d.life) ((a, b), w) e).1)) (reverse journal)
     (sym (weight-graph journal a b) ∙ h)
 
--- an event is one of a list
-abbrev Among : Event → List Event → Type 0
-Among d [] = ⊥
-Among d (x ∷ xs) = (x ≡ d) ⊎ Among d xs
-
 pair_among : (f : Event → Option ((ℕ × ℕ) × ℕ)) (q : ℕ × ℕ) (w : ℕ) (d : Event) → f d ≡ Some (q, w) → (xs : List Event)
-    → Among d xs → (v : ℕ) × (sought q (filter_map f xs) ≡ Some v)
+    → In d xs → (v : ℕ) × (sought q (filter_map f xs) ≡ Some v)
 pair_among f q w d is [] h = absurd h
 pair_among f q w d is (x ∷ xs) (inl same) = (
   w,
@@ -196,23 +188,23 @@ pair_among f q w d is (x ∷ xs) (inr h) = more (f x) (filter_map f xs) (pair_am
     more (Some p) ps h = elim (eq_by_cmp pair_cmp q p.0) as (λ b. (v : ℕ) × (cond b (Some p.1) (sought q ps) ≡ Some v))
         [ true ↦ (p.1, refl) | false ↦ h ]
 
-among_last : (d : Event) (xs : List Event) (x : Event) → (x ≡ d) ⊎ Among d xs → Among d (xs ++ x ∷ [])
+among_last : (d : Event) (xs : List Event) (x : Event) → (x ≡ d) ⊎ In d xs → In d (xs ++ x ∷ [])
 among_last d [] x (inl h) = inl h
 among_last d [] x (inr h) = absurd h
 among_last d (y ∷ ys) x (inl h) = inr (among_last d ys x (inl h))
 among_last d (y ∷ ys) x (inr (inl h)) = inl h
 among_last d (y ∷ ys) x (inr (inr h)) = inr (among_last d ys x (inr h))
 
-among_reverse : (d : Event) (xs : List Event) → Among d xs → Among d (reverse xs)
+among_reverse : (d : Event) (xs : List Event) → In d xs → In d (reverse xs)
 among_reverse d [] h = absurd h
-among_reverse d (x ∷ xs) (inl h) = subst (Among d) (sym (reverse-append (x ∷ []) xs))
+among_reverse d (x ∷ xs) (inl h) = subst (In d) (sym (reverse-append (x ∷ []) xs))
     (among_last d (reverse xs) x (inl h))
-among_reverse d (x ∷ xs) (inr h) = subst (Among d) (sym (reverse-append (x ∷ []) xs))
+among_reverse d (x ∷ xs) (inr h) = subst (In d) (sym (reverse-append (x ∷ []) xs))
     (among_last d (reverse xs) x (inr (among_reverse d xs h)))
 
-found_among : (test : Event → Bool) (xs : List Event) (d : Event) → find test xs ≡ Some d → Among d xs
+found_among : (test : Event → Bool) (xs : List Event) (d : Event) → find test xs ≡ Some d → In d xs
 found_among test [] d e = absurd (cc)
-found_among test (x ∷ xs) d e = elim (test x) as (λ b. cond b (Some x) (find test xs) ≡ Some d → Among d (x ∷ xs)) [
+found_among test (x ∷ xs) d e = elim (test x) as (λ b. cond b (Some x) (find test xs) ≡ Some d → In d (x ∷ xs)) [
   | true ↦ λ g. let same : x ≡ d = cc in inl same
   | false ↦ λ g. inr (found_among test xs d g)
 ] e

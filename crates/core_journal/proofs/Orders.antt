@@ -74,8 +74,8 @@ items_at_place c p (b ∷ bs) apart = (
 abbrev parts : ℕ → List Entry → List Entry
 parts p es = filter (stands Silent p) es ++ (filter (stands Late p) es ++ filter (stands Own p) es)
 
-abbrev behind : ℕ → List Entry → List Entry
-behind p es = filter (λ (e : Entry). leb p e.place) es
+abbrev entries_from : ℕ → List Entry → List Entry
+entries_from p es = filter (λ (e : Entry). leb p e.place) es
 
 no_part : (c : Class) (p : ℕ) (es : List Entry) → Every (λ (e : Entry). p < e.place) es → filter (stands c p) es ≡ []
 no_part c p es h = none_filtered c p es (every_map (λ (e : Entry). p < e.place) (λ (e : Entry). StandsAt c p e → ⊥)
@@ -106,11 +106,11 @@ tested c d p e es class place = ap (λ b. cond b (e ∷ filter (stands c p) es) 
     and_true true = refl
     and_true false = refl
 
-kept : (p : ℕ) (e : Entry) (es : List Entry) → p ≤ e.place → behind p (e ∷ es) ≡ e ∷ behind p es
-kept p e es h = ap (λ b. cond b (e ∷ behind p es) (behind p es)) (le-leb p e.place h)
+kept : (p : ℕ) (e : Entry) (es : List Entry) → p ≤ e.place → entries_from p (e ∷ es) ≡ e ∷ entries_from p es
+kept p e es h = ap (λ b. cond b (e ∷ entries_from p es) (entries_from p es)) (le-leb p e.place h)
 
-dropped : (p : ℕ) (e : Entry) (es : List Entry) → e.place < p → behind p (e ∷ es) ≡ behind p es
-dropped p e es h = ap (λ b. cond b (e ∷ behind p es) (behind p es)) (less (leb p e.place) refl)
+dropped : (p : ℕ) (e : Entry) (es : List Entry) → e.place < p → entries_from p (e ∷ es) ≡ entries_from p es
+dropped p e es h = ap (λ b. cond b (e ∷ entries_from p es) (entries_from p es)) (less (leb p e.place) refl)
   where
     less : (b : Bool) → leb p e.place ≡ b → b ≡ false
     less false f = refl
@@ -132,7 +132,8 @@ placed p e es Own class place later =
     ((tested Late Own p e es class place ∙ no_part Late p es h) i ++ tested Own Own p e es class place i))
     ∙ ap (λ l. e ∷ l) (sym (λ i. no_part Silent p es h i ++ (no_part Late p es h i ++ filter (stands Own p) es)))
 
-split : (n least p : ℕ) (es : List Entry) → FramedFrom n least es → behind p es ≡ parts p es ++ behind (p + 1) es
+split : (n least p : ℕ) (es : List Entry) → FramedFrom n least es → entries_from p es ≡ parts p es
+    ++ entries_from (p + 1) es
 split n least p [] f = refl
 split n least p (e ∷ es) f = dite (ℕ_discrete p e.place)
     (λ same.
@@ -144,23 +145,24 @@ split n least p (e ∷ es) f = dite (ℕ_discrete p e.place)
     let rest = split n e.end p es f.1 in
     let skip : parts p (e ∷ es) ≡ parts p es = λ i. skipped Silent p e es ne i ++
     (skipped Late p e es ne i ++ skipped Own p e es ne i) in
-    elim (leb p e.place) as (λ b. leb p e.place ≡ b → behind p (e ∷ es) ≡ parts p (e ∷ es) ++ behind (p + 1) (e ∷ es)) [
+    elim (leb p e.place) as (λ b. leb p e.place ≡ b → entries_from p (e ∷ es) ≡ parts p (e ∷ es)
+    ++ entries_from (p + 1) (e ∷ es)) [
       | true ↦ λ is.
           let less : p < e.place = omega (arith, ne, leb-true p e.place is) in
           let none = no_parts p es (every_map (λ (d : Entry). e.end ≤ d.place) (λ (d : Entry). p < d.place)
           (λ d h. omega (arith, h, f.0.until, less)) es (all_since n e.end es f.1)) in
-          kept p e es (omega arith) ∙ (ap (λ l. e ∷ l) (rest ∙ ap (λ l. l ++ behind (p + 1) es) none) ∙ sym
+          kept p e es (omega arith) ∙ (ap (λ l. e ∷ l) (rest ∙ ap (λ l. l ++ entries_from (p + 1) es) none) ∙ sym
           (λ i. (skip ∙ none) i ++ kept (p + 1) e es (omega arith) i))
       | false ↦ λ is.
           let less : e.place < p = omega (arith, leb-false p e.place is) in
           dropped p e es less ∙ (rest ∙ sym (λ i. skip i ++ dropped (p + 1) e es (omega arith) i))
     ] refl)
 
-all_behind : (n least : ℕ) (es : List Entry) → FramedFrom n least es → behind 0 es ≡ es
+all_behind : (n least : ℕ) (es : List Entry) → FramedFrom n least es → entries_from 0 es ≡ es
 all_behind n least [] f = refl
 all_behind n least (e ∷ es) f = kept 0 e es (omega arith) ∙ ap (λ l. e ∷ l) (all_behind n e.end es f.1)
 
-none_behind : (n least : ℕ) (es : List Entry) → FramedFrom n least es → behind (n + 1) es ≡ []
+none_behind : (n least : ℕ) (es : List Entry) → FramedFrom n least es → entries_from (n + 1) es ≡ []
 none_behind n least [] f = refl
 none_behind n least (e ∷ es) f = dropped (n + 1) e es (omega (arith, f.0.until, f.0.within))
     ∙ none_behind n e.end es f.1
@@ -200,10 +202,10 @@ walk_items : (ts : List Turn) (books : List Book) (b : Book) → BookIn ts b →
     ((c : Class) (p : ℕ) → items_of b.caller (entries_at c p books) ≡ map (item b.caller)
     (filter (stands c p) b.entries))
     → (past ss : List Turn) (p : ℕ) → p ≡ length past → past ++ ss ≡ ts → items_of b.caller
-    (history_from p ss books) ≡ map (item b.caller) (behind p b.entries)
+    (history_from p ss books) ≡ map (item b.caller) (entries_from p b.entries)
 walk_items ts books b k fits past [] p here whole =
     let end : length ts ≡ p = omega (arith, here, ap length whole, length-append past []) in
-    let gone : behind (p + 1) b.entries ≡ [] = none_behind p 0 b.entries
+    let gone : entries_from (p + 1) b.entries ≡ [] = none_behind p 0 b.entries
     (subst (λ (n : ℕ). FramedFrom n 0 b.entries) end k.framed) in
     three b.caller (entries_at Silent p books) (entries_at Late p books) (entries_at Own p books)
     ∙ ((λ i. fits Silent p i ++ (fits Late p i ++ fits Own p i))
@@ -220,7 +222,7 @@ walk_items ts books b k fits past (s ∷ ss) p here whole =
     (or_running s (entries_at Own p books))
     ∙ ((λ j. fits Silent p j ++ (fits Late p j ++ own_at ts books b p s k at (fits Own p) j)) ∙ sym
     (items_in (item b.caller) p b.entries))) i ++ rest i)
-    ∙ (sym (map-append (item b.caller) (parts p b.entries) (behind (p + 1) b.entries)) ∙ ap (map (item b.caller))
+    ∙ (sym (map-append (item b.caller) (parts p b.entries) (entries_from (p + 1) b.entries)) ∙ ap (map (item b.caller))
     (sym (split (length ts) 0 p b.entries k.framed))))
 
 -- a caller's items are the entries of its book

@@ -21,7 +21,8 @@ use Rattle.core_journal.specs.History.{Turn, stands, item, running, entries_at, 
 use Rattle.core_journal.specs.Right.{StandsAt, CallersApart}
 use Rattle.graph_kinds.proofs.Calls.{IsPlain, answer-plain, after_same}
 use Rattle.core_journal.proofs.Calls.{removes_there, answers_removed, there_removed, only_removal, same_removal}
-use Rattle.core_journal.proofs.Turns.{Does, RunsFrom, runs_at, SilentBy, OwnReplyBy, OwnBy, StandsBy, BookIn, graph_at}
+use Rattle.core_journal.proofs.Turns.{Does, RunsFrom, runs_at, SilentBy, OwnReplyBy, OwnBy, StandsBy}
+use Rattle.core_journal.proofs.Turns.{BookIn, graph_by_turns}
 use Rattle.core_journal.proofs.Turns.{stands_at, each_at, IsFree, EntryIn, BooksIn, entries_in}
 use Rattle.core_journal.proofs.Lists.{every_append, every_left, every_right, every_map, every_both, every_none}
 use Rattle.core_journal.proofs.Lists.{every_filter, get_short, get_here}
@@ -66,17 +67,18 @@ quiet_entry x caller e s = let both = quiet_by e.answer.outcome x caller e refl 
 
 -- silent entries are such items
 pub silent_items : (ts : List Turn) (books : List Book) (p : ℕ) → Every
-    (λ (b : Book). Every (EntryIn ts books b.caller) b.entries) books → Every (IsQuietItem (graph_at ts p))
+    (λ (b : Book). Every (EntryIn ts books b.caller) b.entries) books → Every (IsQuietItem (graph_by_turns ts p))
     (entries_at Silent p books)
 silent_items ts books p h = each_at Silent p (λ (b : Book). Every (EntryIn ts books b.caller) b.entries)
-    (IsQuietItem (graph_at ts p))
-    (λ b k. every_map (EntryIn ts books b.caller) (λ (e : Entry). StandsAt Silent p e → IsQuietItem (graph_at ts p)
+    (IsQuietItem (graph_by_turns ts p))
+    (λ b k. every_map (EntryIn ts books b.caller)
+    (λ (e : Entry). StandsAt Silent p e → IsQuietItem (graph_by_turns ts p)
     (item b.caller e)) (λ e g s. one b.caller e g s) b.entries k) books h
   where
-    one : (caller : ℕ) (e : Entry) → EntryIn ts books caller e → StandsAt Silent p e → IsQuietItem (graph_at ts p)
+    one : (caller : ℕ) (e : Entry) → EntryIn ts books caller e → StandsAt Silent p e → IsQuietItem (graph_by_turns ts p)
         (item caller e)
-    one caller e g s = quiet_entry (graph_at ts p) caller e
-        (subst (λ (q : ℕ). SilentBy e.answer.outcome (graph_at ts q) e) s.place
+    one caller e g s = quiet_entry (graph_by_turns ts p) caller e
+        (subst (λ (q : ℕ). SilentBy e.answer.outcome (graph_by_turns ts q) e) s.place
         (subst (λ (c : Class). StandsBy c ts caller e) s.class g.stands))
 
 -- an own entry at p, where the turn t makes the call c
@@ -84,8 +86,8 @@ pub record IsOwnItem (ts : List Turn) (books : List Book) (p : ℕ) (t : Turn) (
   pub entry : Entry
   pub is : i ≡ item t.caller entry
   pub place : entry.place ≡ p
-  pub leads : after (graph_at ts p) entry.call ≡ after (graph_at ts p) c
-  pub reply : OwnReplyBy entry.answer.outcome ts t.caller entry (graph_at ts p)
+  pub leads : after (graph_by_turns ts p) entry.call ≡ after (graph_by_turns ts p) c
+  pub reply : OwnReplyBy entry.answer.outcome ts t.caller entry (graph_by_turns ts p)
   pub free : IsFree ts books t.caller entry.place entry.end
 
 own_by : (ts : List Turn) (books : List Book) (caller : ℕ) (e : Entry) → EntryIn ts books caller e → e.class ≡ Own
@@ -97,7 +99,7 @@ pub record IsTurnOf (t : Turn) (caller : ℕ) (ts : List Turn) (e : Entry) : Typ
   pub by : t.caller ≡ caller
   pub call : Call
   pub is : t.call ≡ Some call
-  pub leads : after (graph_at ts e.place) e.call ≡ after (graph_at ts e.place) call
+  pub leads : after (graph_by_turns ts e.place) e.call ≡ after (graph_by_turns ts e.place) call
 
 turn_of : (ts : List Turn) (p : ℕ) (t : Turn) (caller : ℕ) (e : Entry) → slice_get ts p ≡ Some t → e.place ≡ p
     → OwnBy ts caller e → IsTurnOf t caller ts e
@@ -119,9 +121,10 @@ own_item ts books p t c caller e at is g s =
       entry = e;
       is = ap (λ (u : ℕ). item u e) (sym turn.by);
       place = s.place;
-      leads = subst (λ (q : ℕ). after (graph_at ts q) e.call ≡ after (graph_at ts q) c) s.place
-          (subst (λ (d : Call). after (graph_at ts e.place) e.call ≡ after (graph_at ts e.place) d) call turn.leads);
-      reply = subst (λ (q : ℕ). OwnReplyBy e.answer.outcome ts t.caller e (graph_at ts q)) s.place mine.reply;
+      leads = subst (λ (q : ℕ). after (graph_by_turns ts q) e.call ≡ after (graph_by_turns ts q) c) s.place
+          (subst (λ (d : Call). after (graph_by_turns ts e.place) e.call ≡ after (graph_by_turns ts e.place) d) call
+          turn.leads);
+      reply = subst (λ (q : ℕ). OwnReplyBy e.answer.outcome ts t.caller e (graph_by_turns ts q)) s.place mine.reply;
       free = h.free;
     }
   where
@@ -254,14 +257,14 @@ not_cut _ ts caller k e x call r = r
 
 -- the item at a removal removes the key
 pub removal_here : (ts : List Turn) (books : List Book) (p : ℕ) (t : Turn) (k : ℕ) (i : Item) → has
-    (graph_at ts p) k ≡ true → (i ≡ running t.caller (RemoveVertex k)) ⊎ IsOwnItem ts books p t (RemoveVertex k) i
+    (graph_by_turns ts p) k ≡ true → (i ≡ running t.caller (RemoveVertex k)) ⊎ IsOwnItem ts books p t (RemoveVertex k) i
     → IsRemoval k i
 removal_here ts books p t k i h (inl e) = subst (IsRemoval k) (sym e)
     (record { call = refl; done = tt; meets = λ z there later. removes_there z k there; leads = λ z. refl })
 removal_here ts books p t k i h (inr o) =
-    let call = only_removal (graph_at ts p) o.entry.call k h o.leads in
-    subst (IsRemoval k) (sym o.is) (own_removal (graph_at ts p) k t.caller o.entry h call
-    (not_cut o.entry.answer.outcome ts t.caller k o.entry (graph_at ts p) call o.reply))
+    let call = only_removal (graph_by_turns ts p) o.entry.call k h o.leads in
+    subst (IsRemoval k) (sym o.is) (own_removal (graph_by_turns ts p) k t.caller o.entry h call
+    (not_cut o.entry.answer.outcome ts t.caller k o.entry (graph_by_turns ts p) call o.reply))
 
 -- the item at a turn is its caller's
 pub item_by : (ts : List Turn) (books : List Book) (p : ℕ) (t : Turn) (c : Call) (i : Item) → (i ≡ running t.caller c)
@@ -314,8 +317,8 @@ found ts books h runs caller k q t at cuts other past (s ∷ ss) p here whole le
     let there : slice_get ts p ≡ Some t = subst (λ (n : ℕ). slice_get ts n ≡ Some t) (sym same) at in
     let is : s ≡ t = cc in
     let s_cuts : s.call ≡ Some (RemoveVertex k) = ap (λ (u : Turn). u.call) is ∙ cuts in
-    let has_k : has (graph_at ts p) k ≡ true = there_removed (graph_at ts p) k
-    (subst (Does (graph_at ts p)) s_cuts (runs_at empty_graph ts p s runs s_at)) in
+    let has_k : has (graph_by_turns ts p) k ≡ true = there_removed (graph_by_turns ts p) k
+    (subst (Does (graph_by_turns ts p)) s_cuts (runs_at empty_graph ts p s runs s_at)) in
     let one = one_here ts books p s (RemoveVertex k) h s_at s_cuts in
     let all = free p s (omega arith) (omega arith) s_at in
     record {

@@ -80,32 +80,32 @@ quiet_stretch sizes past (x ∷ xs) h r =
     split false is h = (is, h)
 
 -- the lives for which a node was taken
-abbrev pub taken_by : ℕ → Event → Option Life
-taken_by index e = cond (pops e.kind && (e.life.index == index)) (Some e.life) None
+abbrev pub life_taken : ℕ → Event → Option Life
+life_taken index e = cond (pops e.kind && (e.life.index == index)) (Some e.life) None
 
-abbrev pub lives_of : ℕ → List Event → List Life
-lives_of index xs = filter_map (taken_by index) xs
+abbrev pub lives_taken : ℕ → List Event → List Life
+lives_taken index xs = filter_map (life_taken index) xs
 
 equal : (n : ℕ) → (n == n) ≡ true
 equal n = grind arith
 
-one_of : (P : Life → Type 0) (index : ℕ) (xs : List Event) → Every P (lives_of index xs) → (k : ℕ) (d : Event)
+one_of : (P : Life → Type 0) (index : ℕ) (xs : List Event) → Every P (lives_taken index xs) → (k : ℕ) (d : Event)
     → slice_get xs k ≡ Some d → d.kind ≡ PopFree → d.life.index ≡ index → P d.life
 one_of P index [] h k d at kind same = absurd (cc)
 one_of P index (x ∷ xs) h zero d at kind same =
     let here : x ≡ d = cc in
-    let found : taken_by index x ≡ Some d.life = ap (taken_by index) here ∙
+    let found : life_taken index x ≡ Some d.life = ap (life_taken index) here ∙
     (λ i. cond (pops (kind i) && (same i == index)) (Some d.life) None) ∙ ap (λ b. cond b (Some d.life) None)
     (equal index) in
-    (subst (λ (o : Option Life). Every P (cons_option o (lives_of index xs))) found h).0
-one_of P index (x ∷ xs) h (suc k) d at kind same = one_of P index xs (rest (taken_by index x) h) k d at kind same
+    (subst (λ (o : Option Life). Every P (cons_option o (lives_taken index xs))) found h).0
+one_of P index (x ∷ xs) h (suc k) d at kind same = one_of P index xs (rest (life_taken index x) h) k d at kind same
   where
-    rest : (o : Option Life) → Every P (cons_option o (lives_of index xs)) → Every P (lives_of index xs)
+    rest : (o : Option Life) → Every P (cons_option o (lives_taken index xs)) → Every P (lives_taken index xs)
     rest None h = h
     rest (Some y) h = h.1
 
 -- a node is taken whose lives before are over
 pub take_one : (sizes : Sizes) (past : List Event) (e : Event) → ReusesSafely sizes past → Every (IsOver sizes past)
-    (lives_of e.life.index past) → ReusesSafely sizes (past ++ e ∷ [])
+    (lives_taken e.life.index past) → ReusesSafely sizes (past ++ e ∷ [])
 take_one sizes past e r over = reuse_snoc sizes past e r (λ kind k earlier was pop same. one_of
     (IsOver sizes past) e.life.index past over k earlier was pop same)

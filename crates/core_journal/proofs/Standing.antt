@@ -10,6 +10,7 @@ use Rattle.graph_kinds.specs.declared.call.Row.{Row}
 use Rattle.graph_kinds.specs.declared.entry.Class.{Class}
 use Rattle.graph_kinds.specs.declared.entry.Class.TheVariants.{Silent, Late, Own}
 use Rattle.graph_kinds.specs.declared.entry.Entry.{Entry}
+use Rattle.graph_kinds.proofs.PathsLists.{In}
 use Rattle.core_journal.specs.declared.book.Book.{Book}
 use Rattle.core_journal.specs.History.{Turn, item, running, entries_at, or_running, items_at, history_from, HasBook}
 use Rattle.core_journal.specs.Order.{Placed, placed, placed_from, IsEntryOf, IsPlacedAt}
@@ -193,26 +194,22 @@ rows_interleave books h rows replies long has each booked = record {
       (rows_booked books rows replies has);
 }
 
-abbrev Among : Placed → List Placed → Type 0
-Among x [] = ⊥
-Among x (y ∷ ys) = (y ≡ x) ⊎ Among x ys
-
-among_left : (x : Placed) (xs ys : List Placed) → Among x xs → Among x (xs ++ ys)
+among_left : (x : Placed) (xs ys : List Placed) → In x xs → In x (xs ++ ys)
 among_left x [] ys h = absurd h
 among_left x (z ∷ xs) ys (inl h) = inl h
 among_left x (z ∷ xs) ys (inr h) = inr (among_left x xs ys h)
 
-among_right : (x : Placed) (xs ys : List Placed) → Among x ys → Among x (xs ++ ys)
+among_right : (x : Placed) (xs ys : List Placed) → In x ys → In x (xs ++ ys)
 among_right x [] ys h = h
 among_right x (z ∷ xs) ys h = inr (among_right x xs ys h)
 
-number_of : (x : Placed) (xs : List Placed) → Among x xs → (n : ℕ) × (slice_get xs n ≡ Some x)
+number_of : (x : Placed) (xs : List Placed) → In x xs → (n : ℕ) × (slice_get xs n ≡ Some x)
 number_of x [] h = absurd h
 number_of x (y ∷ ys) (inl h) = (0, ap (λ (z : Placed). Some z) h)
 number_of x (y ∷ ys) (inr h) = let r = number_of x ys h in (suc r.0, r.1)
 
 running_in : (ts : List Turn) (books : List Book) (p k : ℕ) (t : Turn) (c : Call) → slice_get ts k ≡ Some t
-    → t.call ≡ Some c → entries_at Own (p + k) books ≡ [] → Among
+    → t.call ≡ Some c → entries_at Own (p + k) books ≡ [] → In
     (record { place = p + k; class = Own; item = running t.caller c }) (placed_from p ts books)
 running_in [] books p k t c at is alone = absurd (cc)
 running_in (s ∷ ts) books p zero t c at is alone =
@@ -222,17 +219,17 @@ running_in (s ∷ ts) books p zero t c at is alone =
     among_left _ _ (placed_from (p + 1) ts books)
     (among_right _ (placed p Silent (entries_at Silent p books)) _
     (among_right _ (placed p Late (entries_at Late p books)) (placed p Own (or_running s (entries_at Own p books)))
-    (subst (λ (xs : List Item). Among (record { place = p + 0; class = Own; item = running t.caller c })
+    (subst (λ (xs : List Item). In (record { place = p + 0; class = Own; item = running t.caller c })
     (placed p Own (or_running s xs))) (sym empty)
-    (subst (λ (u : Turn). Among (record { place = p + 0; class = Own; item = running t.caller c })
+    (subst (λ (u : Turn). In (record { place = p + 0; class = Own; item = running t.caller c })
     (placed p Own (or_running u []))) (sym same)
-    (subst (λ (o : Option Call). Among (record { place = p + 0; class = Own; item = running t.caller c })
+    (subst (λ (o : Option Call). In (record { place = p + 0; class = Own; item = running t.caller c })
     (placed p Own (elim o as (λ _. List Item) [ None ↦ [] | Some d ↦ running t.caller d ∷ [] ]))) (sym is)
     (inl (λ i. record { place = n i; class = Own; item = running t.caller c })))))))
 running_in (s ∷ ts) books p (suc k) t c at is alone =
     let n : p + 1 + k ≡ p + suc k = omega arith in
     among_right _ _ (placed_from (p + 1) ts books)
-    (subst (λ (q : ℕ). Among (record { place = q; class = Own; item = running t.caller c })
+    (subst (λ (q : ℕ). In (record { place = q; class = Own; item = running t.caller c })
     (placed_from (p + 1) ts books)) n
     (running_in ts books (p + 1) k t c at is (ap (λ q. entries_at Own q books) n ∙ alone)))
 
@@ -244,5 +241,5 @@ pub running_stands : (ts : List Turn) (books : List Book) (p : ℕ) (t : Turn) (
 running_stands ts books p t c at is alone =
     let z : 0 + p ≡ p = omega arith in
     number_of _ (placed_from 0 ts books)
-    (subst (λ (q : ℕ). Among (record { place = q; class = Own; item = running t.caller c }) (placed_from 0 ts books)) z
+    (subst (λ (q : ℕ). In (record { place = q; class = Own; item = running t.caller c }) (placed_from 0 ts books)) z
     (running_in ts books 0 p t c at is (ap (λ q. entries_at Own q books) z ∙ alone)))

@@ -25,9 +25,9 @@ applied g None = g
 applied g (Some c) = after g c
 
 -- the graph after turns in order
-abbrev pub replayed : Graph → List Turn → Graph
-replayed g [] = g
-replayed g (t ∷ ts) = replayed (applied g t.call) ts
+abbrev pub after_turns : Graph → List Turn → Graph
+after_turns g [] = g
+after_turns g (t ∷ ts) = after_turns (applied g t.call) ts
 
 -- a call alters the graph, where there is one
 abbrev pub Does : Graph → Option Call → Type 0
@@ -41,13 +41,14 @@ RunsFrom g (t ∷ ts) = Does g t.call × RunsFrom (applied g t.call) ts
 
 -- a call of a turn alters the graph at it
 pub runs_at : (g : Graph) (ts : List Turn) (p : ℕ) (t : Turn) → RunsFrom g ts → slice_get ts p ≡ Some t → Does
-    (replayed g (take p ts)) t.call
+    (after_turns g (take p ts)) t.call
 runs_at g [] p t r e = absurd (cc)
 runs_at g (s ∷ ts) zero t r e = let same : s ≡ t = cc in subst (λ (x : Turn). Does g x.call) same r.0
 runs_at g (s ∷ ts) (suc p) t r e = runs_at (applied g s.call) ts p t r.1 e
 
 -- one more turn
-pub replayed-snoc : (g : Graph) (ts : List Turn) (t : Turn) → replayed g (ts ++ t ∷ []) ≡ applied (replayed g ts) t.call
+pub replayed-snoc : (g : Graph) (ts : List Turn) (t : Turn) → after_turns g (ts ++ t ∷ [])
+    ≡ applied (after_turns g ts) t.call
 replayed-snoc g [] t = refl
 replayed-snoc g (s ∷ ts) t = replayed-snoc (applied g s.call) ts t
 
@@ -80,8 +81,8 @@ abbrev pub OwnReplyBy : Outcome → List Turn → ℕ → Entry → Graph → Ty
 OwnReplyBy Overtaken ts caller e x = IsCutLater ts caller e x
 OwnReplyBy _ ts caller e x = e.answer ≡ answer x e.call
 
-abbrev pub graph_at : List Turn → ℕ → Graph
-graph_at ts p = replayed empty_graph (take p ts)
+abbrev pub graph_by_turns : List Turn → ℕ → Graph
+graph_by_turns ts p = after_turns empty_graph (take p ts)
 
 pub record OwnBy (ts : List Turn) (caller : ℕ) (e : Entry) : Type 0 where
   pub turn : Turn
@@ -89,11 +90,11 @@ pub record OwnBy (ts : List Turn) (caller : ℕ) (e : Entry) : Type 0 where
   pub by : turn.caller ≡ caller
   pub call : Call
   pub is : turn.call ≡ Some call
-  pub leads : after (graph_at ts e.place) e.call ≡ after (graph_at ts e.place) call
-  pub reply : OwnReplyBy e.answer.outcome ts caller e (graph_at ts e.place)
+  pub leads : after (graph_by_turns ts e.place) e.call ≡ after (graph_by_turns ts e.place) call
+  pub reply : OwnReplyBy e.answer.outcome ts caller e (graph_by_turns ts e.place)
 
 abbrev pub StandsBy : Class → List Turn → ℕ → Entry → Type 0
-StandsBy Silent ts caller e = SilentBy e.answer.outcome (graph_at ts e.place) e
+StandsBy Silent ts caller e = SilentBy e.answer.outcome (graph_by_turns ts e.place) e
 StandsBy Late ts caller e = LateBy ts caller e
 StandsBy Own ts caller e = OwnBy ts caller e
 

@@ -15,11 +15,11 @@ use Rattle.graph_kinds.specs.History.{Item, Every, Touches, Demand, Meets, left_
 use Rattle.graph_kinds.specs.Graph.{Graph, empty_graph, has}
 use Rattle.graph_kinds.specs.Answer.{alters, after}
 use Rattle.core_journal.specs.History.{Turn, stands, item, running, entries_at, or_running, history_from}
-use Rattle.core_journal.proofs.Turns.{applied, replayed}
+use Rattle.core_journal.proofs.Turns.{applied, after_turns}
 use Rattle.core_journal.specs.Right.{StandsAt, is_silent, FramedFrom, CallersApart}
 use Rattle.core_journal.proofs.Calls.{there_removed, AlikeFor, alike_edge, alike_trans}
 use Rattle.core_journal.proofs.Turns.{all_since, Does, RunsFrom, runs_at, replayed-snoc, LateBy, IsCutLater, OwnReplyBy}
-use Rattle.core_journal.proofs.Turns.{OwnBy, StandsBy, BookIn, graph_at, stands_at, each_at, IsFree, BooksIn}
+use Rattle.core_journal.proofs.Turns.{OwnBy, StandsBy, BookIn, graph_by_turns, stands_at, each_at, IsFree, BooksIn}
 use Rattle.core_journal.proofs.Turns.{entries_in}
 use Rattle.core_journal.proofs.Places.{silent_legal, silent_items, plain_item, IsOwnItem, none_filtered, one_here}
 use Rattle.core_journal.proofs.Places.{none_here, IsRemoval, removal_here, item_by, overtaken, found}
@@ -139,21 +139,22 @@ pub record IsFit (x : Graph) (c : Call) (i : Item) (later : List Item) : Type 0 
   pub leads : next x i.call i.reply ≡ after x c
 
 item_fits : (ts : List Turn) (books : List Book) (p : ℕ) (t : Turn) (c : Call) (i : Item) (later : List Item) → alters
-    (graph_at ts p) c ≡ true
-    → ((e : Entry) → IsFree ts books t.caller e.place e.end → e.place ≡ p → IsCutLater ts t.caller e (graph_at ts p)
-    → IsOvertaken (graph_at ts p) t.caller e.call later)
-    → (i ≡ running t.caller c) ⊎ IsOwnItem ts books p t c i → IsFit (graph_at ts p) c i later
-item_fits ts books p t c i later does f (inl e) = subst (λ (j : Item). IsFit (graph_at ts p) c j later) (sym e)
+    (graph_by_turns ts p) c ≡ true
+    → ((e : Entry) → IsFree ts books t.caller e.place e.end → e.place ≡ p →
+    IsCutLater ts t.caller e (graph_by_turns ts p)
+    → IsOvertaken (graph_by_turns ts p) t.caller e.call later)
+    → (i ≡ running t.caller c) ⊎ IsOwnItem ts books p t c i → IsFit (graph_by_turns ts p) c i later
+item_fits ts books p t c i later does f (inl e) = subst (λ (j : Item). IsFit (graph_by_turns ts p) c j later) (sym e)
     (record { meets = does; leads = refl })
 item_fits ts books p t c i later does f (inr o) =
-    let both = own_meets o.entry.answer.outcome ts t.caller o.entry (graph_at ts p) later
+    let both = own_meets o.entry.answer.outcome ts t.caller o.entry (graph_by_turns ts p) later
     (f o.entry o.free o.place) refl o.reply in
-    subst (λ (j : Item). IsFit (graph_at ts p) c j later) (sym o.is)
+    subst (λ (j : Item). IsFit (graph_by_turns ts p) c j later) (sym o.is)
     (record { meets = both.0; leads = both.1 ∙ o.leads })
 
 graph_here : (ts past ss : List Turn) (p : ℕ) → p ≡ length past → past ++ ss ≡ ts
-    → graph_at ts p ≡ replayed empty_graph past
-graph_here ts past ss p here whole = ap (replayed empty_graph)
+    → graph_by_turns ts p ≡ after_turns empty_graph past
+graph_here ts past ss p here whole = ap (after_turns empty_graph)
     (ap (λ (n : ℕ). take n ts) here ∙ (ap (take (length past)) (sym whole) ∙ take_here past ss))
 
 at_turn : (x last : Graph) (late later : List Item) (c : Option Call) → LegalFrom (applied x c) later last → c ≡ None
@@ -171,27 +172,31 @@ one_turn x last late later c i l f empty =
 
 -- a removal with the late items before it
 cut_turn : (ts : List Turn) (books : List Book) (p k : ℕ) (t : Turn) (i : Item) (later : List Item) (last : Graph)
-    → BooksIn ts books → slice_get ts p ≡ Some t → t.call ≡ Some (RemoveVertex k) → has (graph_at ts p) k ≡ true
+    → BooksIn ts books → slice_get ts p ≡ Some t → t.call ≡ Some (RemoveVertex k) → has (graph_by_turns ts p) k ≡ true
     → (i ≡ running t.caller (RemoveVertex k)) ⊎ IsOwnItem ts books p t (RemoveVertex k) i → LegalFrom
-    (after (graph_at ts p) (RemoveVertex k)) later last → LegalFrom (graph_at ts p)
+    (after (graph_by_turns ts p) (RemoveVertex k)) later last → LegalFrom (graph_by_turns ts p)
     (entries_at Late p books ++ (i ∷ later)) last
 cut_turn ts books p k t i later last h at is there kind l =
     let r = removal_here ts books p t k i there kind in
-    late_legal ts p t k at is i (item_by ts books p t (RemoveVertex k) i kind) r (graph_at ts p) last later
+    late_legal ts p t k at is i (item_by ts books p t (RemoveVertex k) i kind) r (graph_by_turns ts p) last later
     (λ z a. (r.meets z a.there later, subst (λ (g : Graph). LegalFrom g later last) (sym (r.leads z ∙ a.left)) l))
-    books h.apart h.each (graph_at ts p) (record { there = there; left = refl })
+    books h.apart h.each (graph_by_turns ts p) (record { there = there; left = refl })
 
 -- what stands at a turn before the later items, but for the silent ones
 turn_legal : (ts : List Turn) (books : List Book) (p : ℕ) (t : Turn) (c : Call) (i : Item) (later : List Item)
-    (last : Graph) → BooksIn ts books → slice_get ts p ≡ Some t → t.call ≡ Some c → alters (graph_at ts p) c ≡ true
-    → ((e : Entry) → IsFree ts books t.caller e.place e.end → e.place ≡ p → IsCutLater ts t.caller e (graph_at ts p)
-    → IsOvertaken (graph_at ts p) t.caller e.call later)
-    → (i ≡ running t.caller c) ⊎ IsOwnItem ts books p t c i → LegalFrom (after (graph_at ts p) c) later last → LegalFrom
-    (graph_at ts p) (entries_at Late p books ++ (i ∷ later)) last
+    (last : Graph) → BooksIn ts books → slice_get ts p ≡ Some t → t.call ≡ Some c → alters (graph_by_turns ts p) c
+    ≡ true
+    → ((e : Entry) → IsFree ts books t.caller e.place e.end → e.place ≡ p →
+    IsCutLater ts t.caller e (graph_by_turns ts p)
+    → IsOvertaken (graph_by_turns ts p) t.caller e.call later)
+    → (i ≡ running t.caller c) ⊎ IsOwnItem ts books p t c i → LegalFrom (after (graph_by_turns ts p) c) later last →
+    LegalFrom
+    (graph_by_turns ts p) (entries_at Late p books ++ (i ∷ later)) last
 turn_legal ts books p t (RemoveVertex k) i later last h at is does f kind l = cut_turn ts books p k t i later last h at
-    is (there_removed (graph_at ts p) k does) kind l
+    is (there_removed (graph_by_turns ts p) k does) kind l
 turn_legal ts books p t c i later last h at is does f kind l =
-    one_turn (graph_at ts p) last (entries_at Late p books) later c i l (item_fits ts books p t c i later does f kind)
+    one_turn (graph_by_turns ts p) last (entries_at Late p books) later c i l
+    (item_fits ts books p t c i later does f kind)
     (no_late ts p t at (λ k e. absurd (cc)) books h.each)
 
 -- no late and no own item stands behind the last turn
@@ -223,57 +228,60 @@ apart_items silent late own later = append_assoc silent (late ++ own) later ∙ 
 
 walk : (ts : List Turn) (books : List Book) → BooksIn ts books → RunsFrom empty_graph ts → (past ss : List Turn) (p : ℕ)
     → p ≡ length past → past ++ ss ≡ ts
-    → LegalFrom (graph_at ts p) (history_from p ss books) (replayed empty_graph ts)
+    → LegalFrom (graph_by_turns ts p) (history_from p ss books) (after_turns empty_graph ts)
 walk ts books h runs past [] p here whole =
     let gone = none_last ts p (omega (arith, here, ap length whole, length-append past [])) books h.each in
-    let same : graph_at ts p ≡ replayed empty_graph ts = graph_here ts past [] p here whole ∙ ap (replayed empty_graph)
+    let same : graph_by_turns ts p ≡ after_turns empty_graph ts = graph_here ts past [] p here whole ∙
+    ap (after_turns empty_graph)
     (sym (append-nil past) ∙ whole) in
-    silent_legal (graph_at ts p) (replayed empty_graph ts) (entries_at Silent p books) _
+    silent_legal (graph_by_turns ts p) (after_turns empty_graph ts) (entries_at Silent p books) _
     (silent_items ts books p (entries_in ts books h))
-    (subst (λ (xs : List Item). LegalFrom (graph_at ts p) (xs ++ entries_at Own p books) (replayed empty_graph ts))
+    (subst (λ (xs : List Item). LegalFrom (graph_by_turns ts p) (xs ++ entries_at Own p books)
+    (after_turns empty_graph ts))
     (sym gone.0)
-    (subst (λ (xs : List Item). LegalFrom (graph_at ts p) xs (replayed empty_graph ts)) (sym gone.1) same))
+    (subst (λ (xs : List Item). LegalFrom (graph_by_turns ts p) xs (after_turns empty_graph ts)) (sym gone.1) same))
 walk ts books h runs past (s ∷ ss) p here whole =
     let at : slice_get ts p ≡ Some s = subst (λ (l : List Turn). slice_get l p ≡ Some s) whole
     (subst (λ (n : ℕ). slice_get (past ++ s ∷ ss) n ≡ Some s) (sym here) (get_here past s ss)) in
     let next_here : p + 1 ≡ length (past ++ s ∷ []) = omega (arith, length-append past (s ∷ []), here) in
     let next_whole = append_assoc past (s ∷ []) ss ∙ whole in
-    let step : graph_at ts (p + 1) ≡ applied (graph_at ts p) s.call =
+    let step : graph_by_turns ts (p + 1) ≡ applied (graph_by_turns ts p) s.call =
     graph_here ts (past ++ s ∷ []) ss (p + 1) next_here next_whole ∙
     (replayed-snoc empty_graph past s ∙ ap (λ (g : Graph). applied g s.call)
     (sym (graph_here ts past (s ∷ ss) p here whole))) in
-    let rest = subst (λ (g : Graph). LegalFrom g (history_from (p + 1) ss books) (replayed empty_graph ts)) step
+    let rest = subst (λ (g : Graph). LegalFrom g (history_from (p + 1) ss books) (after_turns empty_graph ts)) step
     (walk ts books h runs (past ++ s ∷ []) ss (p + 1) next_here next_whole) in
-    subst (λ (l : List Item). LegalFrom (graph_at ts p) l (replayed empty_graph ts))
+    subst (λ (l : List Item). LegalFrom (graph_by_turns ts p) l (after_turns empty_graph ts))
     (sym (apart_items (entries_at Silent p books) (entries_at Late p books) (or_running s (entries_at Own p books))
     (history_from (p + 1) ss books)))
-    (silent_legal (graph_at ts p) (replayed empty_graph ts) (entries_at Silent p books) _
+    (silent_legal (graph_by_turns ts p) (after_turns empty_graph ts) (entries_at Silent p books) _
     (silent_items ts books p (entries_in ts books h))
-    (elim s.call as (λ o. s.call ≡ o → LegalFrom (graph_at ts p)
+    (elim s.call as (λ o. s.call ≡ o → LegalFrom (graph_by_turns ts p)
     (entries_at Late p books ++ (or_running s (entries_at Own p books) ++ history_from (p + 1) ss books))
-    (replayed empty_graph ts)) [
-      | None ↦ λ none. at_turn (graph_at ts p) (replayed empty_graph ts) (entries_at Late p books)
+    (after_turns empty_graph ts)) [
+      | None ↦ λ none. at_turn (graph_by_turns ts p) (after_turns empty_graph ts) (entries_at Late p books)
           (history_from (p + 1) ss books) s.call rest none
           (no_late ts p s at (λ k e. absurd (cc)) books h.each) (or_running s (entries_at Own p books))
           (none_here ts books p s h at none)
       | Some c ↦ λ is.
           let one = one_here ts books p s c h at is in
-          let does : alters (graph_at ts p) c ≡ true = subst (Does (graph_at ts p)) is
+          let does : alters (graph_by_turns ts p) c ≡ true = subst (Does (graph_by_turns ts p)) is
           (runs_at empty_graph ts p s runs at) in
-          subst (λ (xs : List Item). LegalFrom (graph_at ts p)
-          (entries_at Late p books ++ (xs ++ history_from (p + 1) ss books)) (replayed empty_graph ts))
+          subst (λ (xs : List Item). LegalFrom (graph_by_turns ts p)
+          (entries_at Late p books ++ (xs ++ history_from (p + 1) ss books)) (after_turns empty_graph ts))
           (sym one.list)
-          (turn_legal ts books p s c one.it (history_from (p + 1) ss books) (replayed empty_graph ts) h at is does
-          (λ e free place r. overtaken (graph_at ts p) s.caller e.call r.cut.key
+          (turn_legal ts books p s c one.it (history_from (p + 1) ss books) (after_turns empty_graph ts) h at is does
+          (λ e free place r. overtaken (graph_by_turns ts p) s.caller e.call r.cut.key
           (history_from (p + 1) ss books) r.cut.touched r.there
           (found ts books h runs s.caller r.cut.key r.number r.cut.turn r.cut.at r.cut.cuts r.cut.other
           (past ++ s ∷ []) ss (p + 1) next_here next_whole (omega (arith, r.since, place))
           (λ n u low high there. free n u (omega (arith, place, low)) (omega (arith, high, r.until)) there)))
-          one.kind (subst (λ (o : Option Call). LegalFrom (applied (graph_at ts p) o) (history_from (p + 1) ss books)
-          (replayed empty_graph ts)) is rest))
+          one.kind (subst (λ (o : Option Call). LegalFrom (applied (graph_by_turns ts p) o)
+          (history_from (p + 1) ss books)
+          (after_turns empty_graph ts)) is rest))
     ] refl))
 
 -- the history of true books over turns is legal
 pub legal_turns : (ts : List Turn) (books : List Book) → BooksIn ts books → RunsFrom empty_graph ts
-    → LegalFrom empty_graph (history_from 0 ts books) (replayed empty_graph ts)
+    → LegalFrom empty_graph (history_from 0 ts books) (after_turns empty_graph ts)
 legal_turns ts books h runs = walk ts books h runs [] ts 0 refl refl

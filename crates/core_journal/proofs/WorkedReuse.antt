@@ -26,15 +26,15 @@ callers_reuse =
     (take_one small (before 11) (takes 0 1 2) (quiet_stretch small (before 4) (between 4 11) refl
     (take_one small (before 3) (takes 0 0 1) (quiet_stretch small [] (before 3) refl (reuse_nil small)) tt)) tt)) tt)
 
-abbrev given : List Event
-given = eight_events ++ life_given_back
+abbrev until_given_back : List Event
+until_given_back = eight_events ++ life_given_back
 
 -- the first life of node 0 ends at event 11, and the pass that is open when the node is taken again was announced at 18
-others : (n : ℕ) → (pass_in tiny given (suc n)).is_open ≡ false
+others : (n : ℕ) → (pass_in tiny until_given_back (suc n)).is_open ≡ false
 unfolding state
 others n = let ne : (suc n == 0) ≡ false = ne_eqb (suc n) 0 (λ h. omega (arith, h)) in rw ne refl
 
-first_over : IsOver tiny given (first_life 0)
+first_over : IsOver tiny until_given_back (first_life 0)
 unfolding state
 first_over = record {
   end = 11;
@@ -48,14 +48,16 @@ first_over = record {
   passes = λ caller is. passes caller is;
 }
   where
-    passes : (caller : ℕ) → (pass_in tiny given caller).is_open ≡ true → 11 < (pass_in tiny given caller).since
+    passes : (caller : ℕ) → (pass_in tiny until_given_back caller).is_open ≡ true →
+        11 < (pass_in tiny until_given_back caller).since
     passes zero is = omega arith
     passes (suc n) is = absurd (true≢false (sym is ∙ others n))
 
 pub second_reuse : ReusesSafely tiny second_life
 second_reuse =
-    take_one tiny given taken_again
-    (quiet_stretch tiny (take 3 given) (drop 3 given) refl
-    (take_one tiny (take 2 given) (record blank { kind = PopFree; place = 3; word = 33554433; life = first_life 0 })
-    (quiet_stretch tiny [] (take 2 given) refl (reuse_nil tiny)) tt))
+    take_one tiny until_given_back taken_again
+    (quiet_stretch tiny (take 3 until_given_back) (drop 3 until_given_back) refl
+    (take_one tiny (take 2 until_given_back) (record blank
+    { kind = PopFree; place = 3; word = 33554433; life = first_life 0 })
+    (quiet_stretch tiny [] (take 2 until_given_back) refl (reuse_nil tiny)) tt))
     (first_over, tt)

@@ -26,7 +26,7 @@ cost_on g a y x w (z ∷ []) h is =
 cost_on g a y x w (z ∷ u ∷ q) h is = omega (arith, cost_on g u y x w (u ∷ q) h.2 is)
 
 -- a path to y that ends with the pair from x
-pub record IsBehind (g : Graph) (a y cost : ℕ) : Type 0 where
+pub record EndsInPair (g : Graph) (a y cost : ℕ) : Type 0 where
   pub x : ℕ
   pub front : List ℕ
   pub weight : ℕ
@@ -35,7 +35,8 @@ pub record IsBehind (g : Graph) (a y cost : ℕ) : Type 0 where
   pub total : cost_of g front + weight ≡ cost
 
 -- one more pair at its front
-behind_on : (g : Graph) (a x y z c : ℕ) → x ≡ a → is_some (weight_of g x z) ≡ true → IsBehind g z y c → IsBehind g a y
+behind_on : (g : Graph) (a x y z c : ℕ) → x ≡ a → is_some (weight_of g x z) ≡ true → EndsInPair g z y c →
+    EndsInPair g a y
     (unwrap_or (weight_of g x z) 0 + c)
 behind_on g a x y z c same pair b =
     let head = path_head g z b.x b.front b.is_path in
@@ -50,7 +51,7 @@ behind_on g a x y z c same pair b =
 
 -- a path of two keys at least ends with a pair
 last_pair : (g : Graph) → IsGraph g → (a y : ℕ) → has g a ≡ true → (x z : ℕ) (p : List ℕ) → IsPath g a y (x ∷ z ∷ p)
-    → IsBehind g a y (cost_of g (x ∷ z ∷ p))
+    → EndsInPair g a y (cost_of g (x ∷ z ∷ p))
 last_pair g is a y there x z [] h =
     let same : z ≡ y = h.2.1 in
     let w = weight_there (weight_of g x z) h.1 in
@@ -68,7 +69,7 @@ last_pair g is a y there x z (u ∷ p) h = behind_on g a x y z (cost_of g (z ∷
 
 -- and so does each path to another key than the first
 pub path_behind : (g : Graph) → IsGraph g → (a y : ℕ) → has g a ≡ true → a ≢ y → (p : List ℕ) → IsPath g a y p
-    → IsBehind g a y (cost_of g p)
+    → EndsInPair g a y (cost_of g p)
 path_behind g is a y there ne [] h = absurd h
 path_behind g is a y there ne (x ∷ []) h = absurd (ne (sym h.0 ∙ h.1))
 path_behind g is a y there ne (x ∷ z ∷ p) h = last_pair g is a y there x z p h
@@ -128,7 +129,7 @@ before_there g is a y d there ne e =
     best : IsLeastCost g a y d
     best = some_least g a y is there d e
 
-    over : IsBehind g a y (cost_of g best.path)
+    over : EndsInPair g a y (cost_of g best.path)
     over = path_behind g is a y there ne best.path best.is_path
 
     front_least : (p : List ℕ) → IsPath g a over.x p → cost_of g over.front ≤ cost_of g p

@@ -75,10 +75,11 @@ module _ (g : Graph) (a i : ℕ) (known level : List ℕ) (t : IsTurn g a i know
   reached x w = elim (in_or_not (known ++ level) x) as (λ _. In x (known ++ level) ⊎ In x
       (level_after g (known ++ level) level)) [
         | inl k ↦ inl k
-        | inr new ↦ elim (t.in_level w.0 w.1) as (λ _. In x (known ++ level) ⊎ In x (level_after g (known ++ level) level)) [
-          | inl k ↦ let s = t.known_in w.0 k in inl (all_known x (suc s.0, omega (arith, s.1), (w.0, s.2, w.2)))
-          | inr l ↦ inr (in_after g (known ++ level) level x w.0 new l w.2)
-        ]
+        | inr new ↦ elim (t.in_level w.0 w.1) as (λ _. In x (known ++ level) ⊎
+            In x (level_after g (known ++ level) level)) [
+              | inl k ↦ let s = t.known_in w.0 k in inl (all_known x (suc s.0, omega (arith, s.1), (w.0, s.2, w.2)))
+              | inr l ↦ inr (in_after g (known ++ level) level x w.0 new l w.2)
+            ]
       ]
 
   pub next_turn : IsTurn g a (suc i) (known ++ level) (level_after g (known ++ level) level)

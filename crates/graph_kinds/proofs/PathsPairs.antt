@@ -25,12 +25,12 @@ neighbours_law g x y = elim (is_some (weight_of g x y)) as (λ b. is_some (weigh
     ] refl
 
 -- each number is below those after it
-abbrev pub Rises : List ℕ → Type 0
-Rises [] = Unit {0}
-Rises (y ∷ ys) = ((z : ℕ) → In z ys → y < z) × Rises ys
+abbrev pub IsAscending : List ℕ → Type 0
+IsAscending [] = Unit {0}
+IsAscending (y ∷ ys) = ((z : ℕ) → In z ys → y < z) × IsAscending ys
 
 -- so each is below the next
-pub rises_next : (xs : List ℕ) → Rises xs → IsStrictlyIncreasing xs
+pub rises_next : (xs : List ℕ) → IsAscending xs → IsStrictlyIncreasing xs
 rises_next [] r k h = absurd (omega arith)
 rises_next (x ∷ []) r k h = absurd (omega arith)
 rises_next (x ∷ y ∷ ys) r zero h = r.0 y (inl refl)
@@ -72,12 +72,12 @@ above x y z (e ∷ es) b h =
     ] refl h
 
 -- the second keys of the pairs with one first key rise
-rising : (x : ℕ) (es : List ((ℕ × ℕ) × ℕ)) → T (is_sorted pair_cmp es) → Rises (filter_map (neighbour_by x) es)
+rising : (x : ℕ) (es : List ((ℕ × ℕ) × ℕ)) → T (is_sorted pair_cmp es) → IsAscending (filter_map (neighbour_by x) es)
 rising x [] s = tt
 rising x (e ∷ es) s =
     let parts = and_parts (below_all pair_cmp e.0 es) (is_sorted pair_cmp es) (bool_true _ s) in
     let later = rising x es (subst T (sym parts.1) tt) in
-    elim (e.0.0 == x) as (λ c. (e.0.0 == x) ≡ c → Rises (cons_option (cond c (Some e.0.1) None)
+    elim (e.0.0 == x) as (λ c. (e.0.0 == x) ≡ c → IsAscending (cons_option (cond c (Some e.0.1) None)
     (filter_map (neighbour_by x) es))) [
       | true ↦ λ t. (
         λ z h. above x e.0.1 z es (subst T (sym (ap (λ (u : ℕ). below_all pair_cmp (u, e.0.1) es)
@@ -88,7 +88,7 @@ rising x (e ∷ es) s =
     ] refl
 
 -- so the neighbours of a key rise
-pub neighbours_rise : (g : Graph) (x : ℕ) → Rises (neighbours g x)
+pub neighbours_rise : (g : Graph) (x : ℕ) → IsAscending (neighbours g x)
 neighbours_rise g x = rising x (map.entries g.pairs) (map.entries_sorted g.pairs)
 
 pub rising_law : (g : Graph) (x : ℕ) → IsStrictlyIncreasing (neighbours g x)

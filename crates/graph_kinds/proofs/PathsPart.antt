@@ -12,7 +12,7 @@ use Rattle.graph_kinds.specs.Levels.{GoesByParents}
 use Rattle.graph_kinds.specs.Part.{IsPart, part}
 use Rattle.graph_kinds.proofs.Graphs.{same_graph, weight_kept}
 use Rattle.graph_kinds.proofs.PathsLists.{In, stands}
-use Rattle.graph_kinds.proofs.PathsPairs.{Rises, neighbours_rise}
+use Rattle.graph_kinds.proofs.PathsPairs.{IsAscending, neighbours_rise}
 use Rattle.graph_kinds.proofs.PathsWalks.{weight_there, in_neighbours, neighbours_in, key_behind, path_on, walk_key}
 use Rattle.graph_kinds.proofs.LevelsTurns.{IsTurn, first_turn, next_turn, none_left}
 use Rattle.graph_kinds.proofs.LevelsReach as reach
@@ -22,7 +22,8 @@ use Rattle.graph_kinds.proofs.CostsOnly.{only_law}
 use Rattle.graph_kinds.proofs.LevelsLaws.{all_law, in_some_level}
 
 -- two rising lists of the same numbers are one
-same_rising : (xs ys : List ℕ) → Rises xs → Rises ys → ((z : ℕ) → In z xs → In z ys) → ((z : ℕ) → In z ys → In z xs)
+same_rising : (xs ys : List ℕ) → IsAscending xs → IsAscending ys → ((z : ℕ) → In z xs → In z ys) →
+    ((z : ℕ) → In z ys → In z xs)
     → xs ≡ ys
 same_rising [] [] r s f k = refl
 same_rising [] (y ∷ ys) r s f k = absurd (k y (inl refl))

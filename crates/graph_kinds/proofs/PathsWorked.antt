@@ -17,12 +17,12 @@ use Rattle.graph_kinds.proofs.CostsCheapest.{leads, leads_test}
 use Rattle.graph_kinds.proofs.CostsOnly.{only_law}
 
 -- how many numbers of a list differ
-abbrev count : List ℕ → ℕ
-count [] = 0
-count (k ∷ ks) = cond (stands_in ks k) (count ks) (count ks + 1)
+abbrev distinct_count : List ℕ → ℕ
+distinct_count [] = 0
+distinct_count (k ∷ ks) = cond (stands_in ks k) (distinct_count ks) (distinct_count ks + 1)
 
 -- a set of a list has as many keys
-len-from_list : (ks : List ℕ) → set.len (set.from_list {R = nat_cmp} ks) ≡ count ks
+len-from_list : (ks : List ℕ) → set.len (set.from_list {R = nat_cmp} ks) ≡ distinct_count ks
 len-from_list [] = set.len-empty nat_cmp
 len-from_list (k ∷ ks) =
     set.len-insert nat_cmp_total (set.from_list ks) k

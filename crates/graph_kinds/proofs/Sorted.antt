@@ -15,11 +15,11 @@ use Rattle.std.specs.FinSet as set
 use Rattle.graph_kinds.specs.Graph.{Graph, has, sorted_keys}
 use Rattle.graph_kinds.specs.Levels.{stands_in}
 use Rattle.graph_kinds.proofs.PathsLists.{In}
-use Rattle.graph_kinds.proofs.PathsPairs.{Rises, rises_next, bool_true}
+use Rattle.graph_kinds.proofs.PathsPairs.{IsAscending, rises_next, bool_true}
 
 -- the entries of the keys of a set
-abbrev Marked : Type 0
-Marked = ℕ × Unit {0}
+abbrev SetEntry : Type 0
+SetEntry = ℕ × Unit {0}
 
 below : (x y : ℕ) → is_lt (nat_cmp x y) ≡ true → x < y
 below x y lt = by (nat_cmp x y) refl lt
@@ -29,14 +29,14 @@ below x y lt = by (nat_cmp x y) refl lt
     by Equal e t = absurd (true≢false (sym t))
     by Greater e t = absurd (true≢false (sym t))
 
-above : (x z : ℕ) (es : List Marked) → T (below_all nat_cmp x es) → In z (list_map (λ e. e.0) es) → x < z
+above : (x z : ℕ) (es : List SetEntry) → T (below_all nat_cmp x es) → In z (list_map (λ e. e.0) es) → x < z
 above x z [] b h = absurd h
 above x z (e ∷ es) b h =
     let parts = and_parts (is_lt (nat_cmp x e.0)) (below_all nat_cmp x es) (bool_true _ b) in
     let lt = below x e.0 parts.0 in
     elim h as (λ _. x < z) [ inl same ↦ omega (arith, lt, same) | inr l ↦ above x z es (subst T (sym parts.1) tt) l ]
 
-rising : (es : List Marked) → T (is_sorted nat_cmp es) → Rises (list_map (λ e. e.0) es)
+rising : (es : List SetEntry) → T (is_sorted nat_cmp es) → IsAscending (list_map (λ e. e.0) es)
 rising [] s = tt
 rising (e ∷ es) s =
     let parts = and_parts (below_all nat_cmp e.0 es) (is_sorted nat_cmp es) (bool_true _ s) in
@@ -53,13 +53,13 @@ looked k [] = refl
 looked k (x ∷ xs) = λ i. (unsigned_tied k x ∙ nat_eq_equiv.symm k x) i || looked k xs i
 
 -- the keys of the entries of numbers are the numbers
-unmarked : (xs : List ℕ) → list_map (λ e. e.0) (list_map (λ k. let e : Marked = (k, tt) in e) xs) ≡ xs
+unmarked : (xs : List ℕ) → list_map (λ e. e.0) (list_map (λ k. let e : SetEntry = (k, tt) in e) xs) ≡ xs
 unmarked [] = refl
 unmarked (x ∷ xs) = ap (λ ys. x ∷ ys) (unmarked xs)
 
 pub sorted-exact : (g : Graph) (k : ℕ) → stands_in (sorted_keys g) k ≡ has g k
 sorted-exact g k =
-    let es : List Marked = list_map (λ k. (k, tt)) (set.items g.keys) in
+    let es : List SetEntry = list_map (λ k. (k, tt)) (set.items g.keys) in
     let m = map.from_entries {X = Unit {0}} {R = nat_cmp} es in
     sym (looked k (map.keys m))
     ∙ (sym (map.contains_key-keys m k)

@@ -33,11 +33,11 @@ place_of-bound sizes (Second i) hp = omega arith
 place_of-bound sizes (Third i) hp = omega arith
 
 -- the name of the word at a place of the table
-abbrev Named : Sizes → ℕ → Type 0
-Named sizes i = (p : Place) × IsPlace sizes p × (place_of sizes p ≡ i)
+abbrev NameOf : Sizes → ℕ → Type 0
+NameOf sizes i = (p : Place) × IsPlace sizes p × (place_of sizes p ≡ i)
 
 -- a place among the words of the nodes: by its remainder modulo 4
-named_word : (sizes : Sizes) (i : ℕ) → 4 + sizes.callers + sizes.buckets ≤ i → i < word_count sizes → Named sizes i
+named_word : (sizes : Sizes) (i : ℕ) → 4 + sizes.callers + sizes.buckets ≤ i → i < word_count sizes → NameOf sizes i
 named_word sizes i low high =
     let from : ℕ = i - (4 + sizes.callers + sizes.buckets) in
     ⊎_elim (λ (key : from % 4 ≡ 0). (Key (from / 4), omega arith, omega arith)) (λ (key : from % 4 ≡ 0 → ⊥).
@@ -47,7 +47,7 @@ named_word sizes i low high =
     (cases_eq (from % 4) 2)) (cases_eq (from % 4) 1)) (cases_eq (from % 4) 0)
 
 -- a place behind the counters
-named_list : (sizes : Sizes) (i : ℕ) → 4 ≤ i → i < word_count sizes → Named sizes i
+named_list : (sizes : Sizes) (i : ℕ) → 4 ≤ i → i < word_count sizes → NameOf sizes i
 named_list sizes i low high =
     ⊎_elim (λ (announcement : i < 4 + sizes.callers). (Announce (i - 4), omega arith, omega arith))
     (λ (behind : 4 + sizes.callers ≤ i).
@@ -57,7 +57,7 @@ named_list sizes i low high =
     (cases_lt i (4 + sizes.callers + sizes.buckets))) (cases_lt i (4 + sizes.callers))
 
 -- each place of the table is that of a word
-pub place_of-onto : (sizes : Sizes) (i : ℕ) → i < word_count sizes → Named sizes i
+pub place_of-onto : (sizes : Sizes) (i : ℕ) → i < word_count sizes → NameOf sizes i
 place_of-onto sizes zero high = (Meeting, tt, refl)
 place_of-onto sizes (suc zero) high = (Number, tt, refl)
 place_of-onto sizes (suc (suc zero)) high = (Epoch, tt, refl)
