@@ -47,10 +47,10 @@ runs_at g (s ∷ ts) zero t r e = let same : s ≡ t = cc in subst (λ (x : Turn
 runs_at g (s ∷ ts) (suc p) t r e = runs_at (applied g s.call) ts p t r.1 e
 
 -- one more turn
-pub replayed-snoc : (g : Graph) (ts : List Turn) (t : Turn) → after_turns g (ts ++ t ∷ [])
+pub after_turns-snoc : (g : Graph) (ts : List Turn) (t : Turn) → after_turns g (ts ++ t ∷ [])
     ≡ applied (after_turns g ts) t.call
-replayed-snoc g [] t = refl
-replayed-snoc g (s ∷ ts) t = replayed-snoc (applied g s.call) ts t
+after_turns-snoc g [] t = refl
+after_turns-snoc g (s ∷ ts) t = after_turns-snoc (applied g s.call) ts t
 
 abbrev pub SilentBy : Outcome → Graph → Entry → Type 0
 SilentBy Again x e = Unit {0}

@@ -18,7 +18,8 @@ use Rattle.core_journal.specs.History.{Turn, stands, item, running, entries_at, 
 use Rattle.core_journal.proofs.Turns.{applied, after_turns}
 use Rattle.core_journal.specs.Right.{StandsAt, is_silent, FramedFrom, CallersApart}
 use Rattle.core_journal.proofs.Calls.{there_removed, AlikeFor, alike_edge, alike_trans}
-use Rattle.core_journal.proofs.Turns.{all_since, Does, RunsFrom, runs_at, replayed-snoc, LateBy, IsCutLater, OwnReplyBy}
+use Rattle.core_journal.proofs.Turns.{all_since, Does, RunsFrom, runs_at, after_turns-snoc, LateBy}
+use Rattle.core_journal.proofs.Turns.{IsCutLater, OwnReplyBy}
 use Rattle.core_journal.proofs.Turns.{OwnBy, StandsBy, BookIn, graph_by_turns, stands_at, each_at, IsFree, BooksIn}
 use Rattle.core_journal.proofs.Turns.{entries_in}
 use Rattle.core_journal.proofs.Places.{silent_legal, silent_items, plain_item, IsOwnItem, none_filtered, one_here}
@@ -247,7 +248,7 @@ walk ts books h runs past (s ∷ ss) p here whole =
     let next_whole = append_assoc past (s ∷ []) ss ∙ whole in
     let step : graph_by_turns ts (p + 1) ≡ applied (graph_by_turns ts p) s.call =
     graph_here ts (past ++ s ∷ []) ss (p + 1) next_here next_whole ∙
-    (replayed-snoc empty_graph past s ∙ ap (λ (g : Graph). applied g s.call)
+    (after_turns-snoc empty_graph past s ∙ ap (λ (g : Graph). applied g s.call)
     (sym (graph_here ts past (s ∷ ss) p here whole))) in
     let rest = subst (λ (g : Graph). LegalFrom g (history_from (p + 1) ss books) (after_turns empty_graph ts)) step
     (walk ts books h runs (past ++ s ∷ []) ss (p + 1) next_here next_whole) in

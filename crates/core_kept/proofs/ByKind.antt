@@ -1,6 +1,6 @@
 -- Facts of the state and the words, kind by kind.
 use Rattle.std.proofs.Common.{◌≡◌, ◌≢◌, ℕ, ◌+◌, ◌<◌, List, [], ◌∷◌, ◌++◌, Bool, true, false, cond, ◌&&◌, refl, sym, ap}
-use Rattle.std.proofs.Common.{◌∙◌, subst, ne_eqb, eq-eqb, eqb-true}
+use Rattle.std.proofs.Common.{◌∙◌, subst, ne_eqb, eq-eqb, eqb-true, ◌≤◌, arith}
 use Rattle.std.specs.Prelude.{take_while, ◌==◌, ◌||◌}
 use Rattle.std.proofs.lemmas.List.Sums.{take_while-cons}
 use Rattle.std.specs.List.{list_any}
@@ -10,14 +10,19 @@ use Rattle.core_chain.specs.Table.{WritesWord}
 use Rattle.packed_link.specs.Layout.{Sizes, word_count}
 use Rattle.core_journal.specs.Event.{draws}
 use Rattle.core_journal.specs.declared.event.Kind.{Kind}
+use Rattle.core_journal.specs.declared.event.Kind.TheVariants.{PopFree, LinkVertex, MarkVertex, UnlinkVertex, LinkEdge}
+use Rattle.core_journal.specs.declared.event.Kind.TheVariants.{MarkEdge, UnlinkEdge, ReplaceEdge}
+use Rattle.core_journal.specs.declared.event.Kind.TheVariants.{FreezeHead, FreezeEdge}
+use Rattle.core_journal.specs.declared.event.Kind.TheVariants.{StoreFree, PushFree}
 use Rattle.core_journal.specs.declared.event.Event.{Event}
 use Rattle.core_journal.specs.Prefix.{IsPrefix}
 use Rattle.core_journal.specs.Machine.{word_at}
 use Rattle.core_journal.specs.State.{Mode, Spent, Linked, Node, State, is_linked, put, handed, frozen_part, state_by}
-use Rattle.core_journal.specs.State.{opening, state}
+use Rattle.core_journal.specs.State.{opening, state, joined_edge}
 use Rattle.core_journal.proofs.MachineWords.{word_here, word_else}
-use Rattle.core_journal.proofs.States.{state-nil, state-snoc}
+use Rattle.core_journal.proofs.States.{state-nil, state-snoc, counted_by}
 use Rattle.core_kept.specs.Kept.{Allowed, AllowedAs, IsKept}
+use Rattle.core_kept.specs.Nodes.{node_in}
 use Rattle.core_kept.proofs.Induction.{kept_all, kept_onward}
 
 -- the words after an event
@@ -158,3 +163,84 @@ marked_state s i = record s { count = s.count + 1; node = put i (record (s.node 
 -- the state in which a list is closed at its head, before the frozen part is handed over
 abbrev pub closed_state : State → ℕ → State
 closed_state s i = record s { count = s.count + 1; frozen = put i true s.frozen }
+
+-- the kinds that link no edge
+abbrev pub IsNoJoin : Kind → Type 0
+IsNoJoin LinkEdge = ⊥
+IsNoJoin ReplaceEdge = ⊥
+IsNoJoin _ = Unit {0}
+
+pub put_since : (s : State) (i : ℕ) (v : Node) → v.since ≡ (s.node i).since → (y : ℕ) → (put i v s.node y).since ≡
+    (s.node y).since
+put_since s i v h y = put_case (λ (n : Node). n.since ≡ (s.node y).since) i v s.node y
+    (λ same. h ∙ ap (λ (j : ℕ). (s.node j).since) (sym same)) (λ _. refl)
+
+pub handed_since : (x : ℕ) (s : State) (y : ℕ) → ((handed x s).node y).since ≡ (s.node y).since
+handed_since x s y = handed_case (λ (n : Node). n.since ≡ (s.node y).since) s x y refl (λ _ _ _. refl)
+
+-- such an event leaves by which event a node was linked
+pub since_still : (k : Kind) → IsNoJoin k → (sizes : Sizes) (e : Event) (s : State) (y : ℕ) →
+    ((state_by k sizes e s).node y).since ≡ (s.node y).since
+since_still LinkEdge n sizes e s y = absurd n
+since_still ReplaceEdge n sizes e s y = absurd n
+since_still PopFree n sizes e s y = put_since s e.life.index _ refl y
+since_still LinkVertex n sizes e s y = put_since s e.life.index _ refl y
+since_still MarkVertex n sizes e s y = put_since s e.life.index _ refl y
+since_still UnlinkVertex n sizes e s y = put_since s e.life.index _ refl y
+since_still UnlinkEdge n sizes e s y = put_since s e.life.index _ refl y
+since_still StoreFree n sizes e s y = put_since s e.life.index _ refl y
+since_still PushFree n sizes e s y = put_since s e.life.index _ refl y
+since_still MarkEdge n sizes e s y = handed_since (s.node e.life.index).source.index (marked_state s e.life.index) y
+    ∙ put_since s e.life.index (record (s.node e.life.index) { marked = true }) refl y
+since_still FreezeEdge n sizes e s y = handed_since (s.node e.life.index).source.index (marked_state s e.life.index) y
+    ∙ put_since s e.life.index (record (s.node e.life.index) { marked = true }) refl y
+since_still FreezeHead n sizes e s y = handed_since e.life.index (closed_state s e.life.index) y
+since_still _ n sizes e s y = refl
+
+-- each node was linked by an event before
+pub record Sinces (s : State) : Type 0 where
+  pub each : (x : ℕ) → (s.node x).since ≤ s.count
+
+sinces_step : (sizes : Sizes) → KeepsByKind sizes (λ (s : State) (w : ℕ → ℕ). Sinces s)
+sinces_step sizes past e kept c LinkEdge by ok w a = record {
+  each = λ x. put_case
+      (λ (v : Node). v.since ≤ (state sizes past).count + 1) e.life.index
+      (record (node_in sizes past e.life.index) {
+        mode = Linked;
+        vertex = false;
+        key = e.key;
+        source = e.source;
+        target =
+            e.target;
+        weight = e.weight;
+        since = (state sizes past).count + 1;
+      }) (state sizes past).node x (λ _. omega arith)
+      (λ _. omega (arith, c.each x));
+}
+sinces_step sizes past e kept c ReplaceEdge by ok w a = record {
+  each = λ x.
+      let s : State = state sizes past in
+      let j : State = joined_edge sizes e s in
+      let h = handed_since (j.node e.old.index).source.index (marked_state j e.old.index) x in
+      let p = put_since j e.old.index (record (j.node e.old.index) { marked = true }) refl x in
+      let q = put_case (λ (v : Node). v.since ≤ s.count + 1) e.life.index
+      (record (s.node e.life.index) {
+        mode = Linked;
+        vertex = false;
+        key = e.key;
+        source = e.source;
+        target =
+            e.target;
+        weight = e.weight;
+        since = s.count + 1;
+      }) s.node x (λ _. omega arith)
+      (λ _. omega (arith, c.each x)) in omega (arith, h, p, q);
+}
+sinces_step sizes past e kept c k by ok w a = record {
+  each = λ x. omega
+      (arith, since_still k tt sizes e (state sizes past) x, counted_by k sizes e (state sizes past), c.each x);
+}
+
+pub sinces : (sizes : Sizes) (journal : List Event) → IsKept sizes journal → Sinces (state sizes journal)
+sinces sizes journal kept = holds_all sizes (λ (s : State) (w : ℕ → ℕ). Sinces s) (sinces_step sizes)
+    (record { each = λ x. omega arith }) journal kept

@@ -302,7 +302,8 @@ contents_step sizes z past e kept c FreezeHead by ok w a = handed_contents sizes
           (λ same.
           let v : (node_in sizes past x).vertex ≡ true = ap (λ (y : ℕ). (node_in sizes past y).vertex) same
           ∙ ok.spent.vertex in
-          let m : (node_in sizes past x).mode ≡ Spent = ap (λ (y : ℕ). (node_in sizes past y).mode) same ∙ ok.spent.spent in
+          let m : (node_in sizes past x).mode ≡ Spent = ap (λ (y : ℕ). (node_in sizes past y).mode) same ∙
+          ok.spent.spent in
           let here : w (second_at sizes x) ≡ e.word = ap w (omega (arith, ok.place, same)) ∙ a.here
           (omega (arith, ok.place, ok.there)) in
           let old : word_at sizes past (second_at sizes x) ≡ word_at sizes past e.place = ap (word_at sizes past)

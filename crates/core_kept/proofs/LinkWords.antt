@@ -331,12 +331,12 @@ link_words sizes z journal kept = holds_all sizes (LinkWords sizes) (link_words_
     (record { each = link_words_first sizes z }) journal kept
 
 -- a node that is taken was free, and begins its next life
-pub record IsTaken (sizes : Sizes) (past : List Event) (e : Event) : Type 0 where
+pub record TakesFreeNode (sizes : Sizes) (past : List Event) (e : Event) : Type 0 where
   pub free : (node_in sizes past e.life.index).mode ≡ Free
   pub tag : e.life.tag ≡ (node_in sizes past e.life.index).tag + 1
 
 pub taken : (sizes : Sizes) → IsLayout sizes → (past : List Event) (e : Event) → IsKept sizes past
-    → IsPopFree sizes past e → IsTaken sizes past e
+    → IsPopFree sizes past e → TakesFreeNode sizes past e
 taken sizes z past e kept ok =
     let m : (node_in sizes past e.life.index).mode ≡ Free = first_is_free sizes z past kept e.life.index ok.there
     ok.seen in

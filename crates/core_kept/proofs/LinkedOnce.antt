@@ -17,7 +17,8 @@ use Rattle.core_kept.specs.Facts.{LinkedOnce}
 use Rattle.core_kept.proofs.ReplaceCases.{replaced_case}
 use Rattle.core_kept.proofs.ByKind.{KeepsIn, put_case, handed_case, marked_state, closed_state, all_in}
 use Rattle.core_kept.proofs.LinkWords.{taken}
-use Rattle.core_kept.proofs.PastLives.{IsWithin, same_tag, about_other, about_else, about_this, other_index, other_tag}
+use Rattle.core_kept.proofs.PastLives.{BeginsNoLife, same_tag, about_other, about_else, about_this}
+use Rattle.core_kept.proofs.PastLives.{other_index, other_tag}
 use Rattle.core_kept.proofs.PastLives.{this_life, lives}
 
 put_fresh : (s : State) (i : ℕ) (v : Node) (x : ℕ) → (v.mode ≡ Fresh → (s.node i).mode ≡ Fresh) →
@@ -30,7 +31,7 @@ handed_fresh s v x = handed_case (λ (u : Node). u.mode ≡ Fresh → (s.node x)
     (λ _ _ _ m. absurd (cc))
 
 -- only the taking of a node makes it fresh
-pub fresh_before : (k : Kind) → IsWithin k → (sizes : Sizes) (e : Event) (s : State) (x : ℕ) →
+pub fresh_before : (k : Kind) → BeginsNoLife k → (sizes : Sizes) (e : Event) (s : State) (x : ℕ) →
     ((state_by k sizes e s).node x).mode ≡ Fresh → (s.node x).mode ≡ Fresh
 fresh_before PopFree o sizes e s x = absurd o
 fresh_before LinkVertex o sizes e s x = put_fresh s e.life.index _ x (λ m. absurd (cc))

@@ -64,27 +64,28 @@ on_unlinked i y (x ∷ xs) h = by (on_unlinked i y xs) (x == i) refl h
         (λ later. let m = more later in (on_later x y xs m.0, m.1)) h
 
 -- a node that another was put behind
-record IsBehind (is : ℕ → Bool) (xs : List ℕ) : Type 0 where
+record HasPredecessor (is : ℕ → Bool) (xs : List ℕ) : Type 0 where
   pub node : ℕ
   pub on : On xs node
   pub at : is node ≡ true
 
 -- what stands on a list into which a node was put: that node, behind one that passes the test, or what stood there
-on_behind : (is : ℕ → Bool) (i y : ℕ) (xs : List ℕ) → On (put_behind is i xs) y → ((y ≡ i) × IsBehind is xs) ⊎ On xs y
+on_behind : (is : ℕ → Bool) (i y : ℕ) (xs : List ℕ) → On (put_behind is i xs) y → ((y ≡ i) × HasPredecessor is xs) ⊎
+    On xs y
 on_behind is i y [] h = absurd (cc)
 on_behind is i y (x ∷ xs) h = by (on_behind is i y xs) (is x) refl h
   where
-    by : (On (put_behind is i xs) y → ((y ≡ i) × IsBehind is xs) ⊎ On xs y) → (b : Bool) → is x ≡ b → On
-        (cond b (x ∷ i ∷ xs) (x ∷ put_behind is i xs)) y → ((y ≡ i) × IsBehind is (x ∷ xs)) ⊎ On (x ∷ xs) y
-    by more true e h = on_cases (((y ≡ i) × IsBehind is (x ∷ xs)) ⊎ On (x ∷ xs) y) x y (i ∷ xs)
+    by : (On (put_behind is i xs) y → ((y ≡ i) × HasPredecessor is xs) ⊎ On xs y) → (b : Bool) → is x ≡ b → On
+        (cond b (x ∷ i ∷ xs) (x ∷ put_behind is i xs)) y → ((y ≡ i) × HasPredecessor is (x ∷ xs)) ⊎ On (x ∷ xs) y
+    by more true e h = on_cases (((y ≡ i) × HasPredecessor is (x ∷ xs)) ⊎ On (x ∷ xs) y) x y (i ∷ xs)
         (λ same. inr (on_first x y xs same))
-        (λ later. on_cases (((y ≡ i) × IsBehind is (x ∷ xs)) ⊎ On (x ∷ xs) y) i y xs
+        (λ later. on_cases (((y ≡ i) × HasPredecessor is (x ∷ xs)) ⊎ On (x ∷ xs) y) i y xs
         (λ new. inl (sym new, record { node = x; on = on_first x x xs refl; at = e }))
         (λ old. inr (on_later x y xs old)) later) h
-    by more false e h = on_cases (((y ≡ i) × IsBehind is (x ∷ xs)) ⊎ On (x ∷ xs) y) x y (put_behind is i xs)
+    by more false e h = on_cases (((y ≡ i) × HasPredecessor is (x ∷ xs)) ⊎ On (x ∷ xs) y) x y (put_behind is i xs)
         (λ same. inr (on_first x y xs same))
         (λ later. ⊎_elim
-        (λ (b : (y ≡ i) × IsBehind is xs). inl (
+        (λ (b : (y ≡ i) × HasPredecessor is xs). inl (
           b.0,
           record {
             node = b.1.node;
@@ -97,16 +98,17 @@ on_behind is i y (x ∷ xs) h = by (on_behind is i y xs) (is x) refl h
 
 -- the same where it was put at the head, or behind the node whose link stands at the place
 on_linked_in : (sizes : Sizes) (head place i y : ℕ) (xs : List ℕ) → On (linked_in sizes head place i xs) y →
-    ((y ≡ i) × ((place ≡ head) ⊎ IsBehind (λ x. place == link_at sizes x) xs)) ⊎ On xs y
+    ((y ≡ i) × ((place ≡ head) ⊎ HasPredecessor (λ x. place == link_at sizes x) xs)) ⊎ On xs y
 on_linked_in sizes head place i y xs h = by (place == head) refl h
   where
     by : (b : Bool) → (place == head) ≡ b → On (cond b (i ∷ xs) (put_behind (λ x. place == link_at sizes x) i xs)) y →
-        ((y ≡ i) × ((place ≡ head) ⊎ IsBehind (λ x. place == link_at sizes x) xs)) ⊎ On xs y
-    by true e h = on_cases (((y ≡ i) × ((place ≡ head) ⊎ IsBehind (λ x. place == link_at sizes x) xs)) ⊎ On xs y) i y xs
+        ((y ≡ i) × ((place ≡ head) ⊎ HasPredecessor (λ x. place == link_at sizes x) xs)) ⊎ On xs y
+    by true e h = on_cases (((y ≡ i) × ((place ≡ head) ⊎ HasPredecessor (λ x. place == link_at sizes x) xs)) ⊎ On xs y)
+        i y xs
         (λ same. inl (sym same, inl (eqb-true place head e)))
         (λ later. inr later) h
     by false e h = ⊎_elim
-        (λ (b : (y ≡ i) × IsBehind (λ x. place == link_at sizes x) xs). inl (b.0, inr b.1))
+        (λ (b : (y ≡ i) × HasPredecessor (λ x. place == link_at sizes x) xs). inl (b.0, inr b.1))
         (λ (old : On xs y). inr old) (on_behind (λ x. place == link_at sizes x) i y xs h)
 
 -- the first part of a list
@@ -130,14 +132,14 @@ part_on s x y h = by (s.frozen x) refl h
     by false e h = absurd (cc)
 
 -- a node on the list of a vertex isn't fresh, and while it's linked it's an edge of that vertex
-pub record IsListed (s : State) (x y : ℕ) : Type 0 where
+pub record IsEdgeOfList (s : State) (x y : ℕ) : Type 0 where
   pub fresh : (s.node y).mode ≢ Fresh
   pub edge : (s.node y).mode ≡ Linked → (s.node y).vertex ≡ false
   pub index : (s.node y).mode ≡ Linked → (s.node y).source.index ≡ x
   pub tag : (s.node y).mode ≡ Linked → (s.node y).source.tag ≡ (s.node x).tag
 
 pub record Listed (s : State) : Type 0 where
-  pub each : (x y : ℕ) → On (s.edges x) y → IsListed s x y
+  pub each : (x y : ℕ) → On (s.edges x) y → IsEdgeOfList s x y
 
 -- a node says the same of its source
 record IsSameSource (v v' : Node) : Type 0 where
@@ -155,7 +157,7 @@ listed_same : (s s' : State) → Listed s → ((x y : ℕ) → On (s'.edges x) y
     ((x : ℕ) → (s'.node x).tag ≡ (s.node x).tag) → Listed s'
 listed_same s s' c fewer same tags = record {
   each = λ x y h.
-      let l : IsListed s x y = c.each x y (fewer x y h) in
+      let l : IsEdgeOfList s x y = c.each x y (fewer x y h) in
       ⊎_elim (λ m. absurd (l.fresh m))
       (λ (n : IsSameSource (s.node y) (s'.node y)). record {
         fresh = λ m. l.fresh (n.fresh m);
@@ -191,8 +193,8 @@ handed_source s v u y h = handed_case (λ (u' : Node). (u.mode ≡ Fresh) ⊎ Is
     { fresh = λ h. absurd (cc); linked = λ h. absurd (cc); vertex = n.vertex; source = n.source }) h)
 
 -- a node that stays the same stands on the list of the same life
-listed_at : (s s' : State) (x y : ℕ) → s'.node y ≡ s.node y → (s'.node x).tag ≡ (s.node x).tag → IsListed s x y
-    → IsListed s' x y
+listed_at : (s s' : State) (x y : ℕ) → s'.node y ≡ s.node y → (s'.node x).tag ≡ (s.node x).tag → IsEdgeOfList s x y
+    → IsEdgeOfList s' x y
 listed_at s s' x y at tag l =
     let mode : (s'.node y).mode ≡ (s.node y).mode = ap (λ (u : Node). u.mode) at in
     record {
@@ -214,7 +216,7 @@ listed_taken sizes e s c =
           = false;
     } in
     record {
-      each = λ x y. put_case (λ (xs : List ℕ). On xs y → IsListed (state_by PopFree sizes e s) x y) e.life.index []
+      each = λ x y. put_case (λ (xs : List ℕ). On xs y → IsEdgeOfList (state_by PopFree sizes e s) x y) e.life.index []
           (λ x. unlinked_from e.life.index (s.edges x)) x
           (λ _ h. absurd (cc))
           (λ ne h.
@@ -240,26 +242,28 @@ listed_linked sizes past e ok c =
     } in
     let tags : (x : ℕ) → (put e.life.index v s.node x).tag ≡ (s.node x).tag = same_tag LinkEdge tt sizes e s in
     let at : put e.life.index v s.node e.life.index ≡ v = put_same e.life.index v s.node in
-    let here : (x : ℕ) → e.source.index ≡ x → IsListed (state_by LinkEdge sizes e s) x e.life.index = λ x is. record {
+    let here : (x : ℕ) → e.source.index ≡ x → IsEdgeOfList (state_by LinkEdge sizes e s) x e.life.index =
+    λ x is. record {
       fresh = λ m. let t : Linked ≡ Fresh = sym (ap (λ (u : Node). u.mode) at) ∙ m in absurd (cc);
       edge = λ _. ap (λ (u : Node). u.vertex) at;
       index = λ _. ap (λ (u : Node). u.source.index) at ∙ is;
       tag = λ _. ap (λ (u : Node). u.source.tag) at ∙ (ok.source.life ∙
           (ap (λ (j : ℕ). (s.node j).tag) is ∙ sym (tags x)));
     } in
-    let old : (x y : ℕ) → On (s.edges x) y → IsListed (state_by LinkEdge sizes e s) x y = λ x y h.
-    let l : IsListed s x y = c.each x y h in
+    let old : (x y : ℕ) → On (s.edges x) y → IsEdgeOfList (state_by LinkEdge sizes e s) x y = λ x y h.
+    let l : IsEdgeOfList s x y = c.each x y h in
     dite (ℕ_discrete y e.life.index)
     (λ same. absurd (l.fresh (ap (λ (j : ℕ). (s.node j).mode) same ∙ ok.fresh.fresh)))
     (λ ne. listed_at s (state_by LinkEdge sizes e s) x y (put_other e.life.index v s.node y ne) (tags x) l) in
     record {
       each = λ x y h. ⊎_elim
-          (λ (new : (y ≡ e.life.index) × ((e.place ≡ second_at sizes x) ⊎ IsBehind (λ z. e.place == link_at sizes z)
+          (λ (new : (y ≡ e.life.index) × ((e.place ≡ second_at sizes x) ⊎
+          HasPredecessor (λ z. e.place == link_at sizes z)
           (s.edges x))).
-          subst (λ (j : ℕ). IsListed (state_by LinkEdge sizes e s) x j) (sym new.0) (here x (⊎_elim
+          subst (λ (j : ℕ). IsEdgeOfList (state_by LinkEdge sizes e s) x j) (sym new.0) (here x (⊎_elim
           (λ (head : e.place ≡ second_at sizes x). ⊎_elim (λ p. omega (arith, head, p.0))
           (λ p. absurd (omega (arith, head, p.0))) ok.place)
-          (λ (b : IsBehind (λ z. e.place == link_at sizes z) (s.edges x)).
+          (λ (b : HasPredecessor (λ z. e.place == link_at sizes z) (s.edges x)).
           let from = ok.linked b.node (eqb-true e.place (link_at sizes b.node) b.at) in
           ap (λ (z : Life). z.index) (sym from.from) ∙ (c.each x b.node b.on).index from.linked.linked) new.1)))
           (λ (was : On (s.edges x) y). old x y was) (on_linked_in sizes (second_at sizes x) e.place e.life.index y
@@ -275,8 +279,8 @@ listed_joined sizes past e ok c =
     let v : Node = new_edge_node (s.node e.life.index) e s.count in
     let tags : (x : ℕ) → (put e.life.index v s.node x).tag ≡ (s.node x).tag = same_tag LinkEdge tt sizes e s in
     let at : put e.life.index v s.node e.life.index ≡ v = put_same e.life.index v s.node in
-    let here : (x : ℕ) → On (s.edges x) e.old.index → IsListed j x e.life.index = λ x on.
-    let l : IsListed s x e.old.index = c.each x e.old.index on in
+    let here : (x : ℕ) → On (s.edges x) e.old.index → IsEdgeOfList j x e.life.index = λ x on.
+    let l : IsEdgeOfList s x e.old.index = c.each x e.old.index on in
     record {
       fresh = λ m. let t : Linked ≡ Fresh = sym (ap (λ (u : Node). u.mode) at) ∙ m in absurd (cc);
       edge = λ _. ap (λ (u : Node). u.vertex) at;
@@ -285,18 +289,19 @@ listed_joined sizes past e ok c =
       tag = λ _. ap (λ (u : Node). u.source.tag) at ∙ (ap (λ (z : Life). z.tag) ok.source ∙
           (l.tag ok.linked.linked ∙ sym (tags x)));
     } in
-    let old : (x y : ℕ) → On (s.edges x) y → IsListed j x y = λ x y h.
-    let l : IsListed s x y = c.each x y h in
+    let old : (x y : ℕ) → On (s.edges x) y → IsEdgeOfList j x y = λ x y h.
+    let l : IsEdgeOfList s x y = c.each x y h in
     dite (ℕ_discrete y e.life.index)
     (λ same. absurd (l.fresh (ap (λ (i : ℕ). (s.node i).mode) same ∙ ok.fresh.fresh)))
     (λ ne. listed_at s j x y (put_other e.life.index v s.node y ne) (tags x) l) in
     record {
       each = λ x y h. ⊎_elim
-          (λ (new : (y ≡ e.life.index) × ((e.place ≡ second_at sizes x) ⊎ IsBehind (λ z. e.place == link_at sizes z)
+          (λ (new : (y ≡ e.life.index) × ((e.place ≡ second_at sizes x) ⊎
+          HasPredecessor (λ z. e.place == link_at sizes z)
           (s.edges x))).
-          subst (λ (i : ℕ). IsListed j x i) (sym new.0) (⊎_elim
+          subst (λ (i : ℕ). IsEdgeOfList j x i) (sym new.0) (⊎_elim
           (λ (head : e.place ≡ second_at sizes x). absurd (omega (arith, head, ok.place)))
-          (λ (b : IsBehind (λ z. e.place == link_at sizes z) (s.edges x)).
+          (λ (b : HasPredecessor (λ z. e.place == link_at sizes z) (s.edges x)).
           let link : e.place ≡ link_at sizes b.node = eqb-true e.place (link_at sizes b.node) b.at in
           let same : b.node ≡ e.old.index = omega (arith, link, ok.place) in
           here x (subst (On (s.edges x)) same b.on)) new.1))

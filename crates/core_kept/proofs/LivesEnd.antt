@@ -45,7 +45,7 @@ pub record HasEnd (journal : List Event) (x : Life) (limit : ℕ) : Type 0 where
   pub before : end < limit
 
 -- a life is over for its node
-pub record IsGone (journal : List Event) (x : Life) (v : Node) : Type 0 where
+pub record IsLifeOver (journal : List Event) (x : Life) (v : Node) : Type 0 where
   pub life : HasEnd journal x v.ended
   pub low : x.tag ≤ v.tag
   pub fresh : v.tag ≡ x.tag → v.mode ≢ Fresh
@@ -59,21 +59,21 @@ pub record IsPresent (journal : List Event) (x : Life) (v : Node) : Type 0 where
   pub stays : unlinked journal x ≡ false
 
 abbrev pub Fate : List Event → Life → Node → Type 0
-Fate journal x v = IsGone journal x v ⊎ IsPresent journal x v
+Fate journal x v = IsLifeOver journal x v ⊎ IsPresent journal x v
 
 -- an event that passes a test
-pub record IsFound (test : Event → Bool) (journal : List Event) : Type 0 where
+pub record HasPassing (test : Event → Bool) (journal : List Event) : Type 0 where
   pub number : ℕ
   pub event : Event
   pub at : slice_get journal number ≡ Some event
   pub passes : test event ≡ true
 
-pub any_at : (test : Event → Bool) (journal : List Event) → list_any test journal ≡ true → IsFound test journal
+pub any_at : (test : Event → Bool) (journal : List Event) → list_any test journal ≡ true → HasPassing test journal
 any_at test [] h = absurd (cc)
 any_at test (e ∷ es) h = by (any_at test es) (test e) refl h
   where
-    by : (list_any test es ≡ true → IsFound test es) → (b : Bool) → test e ≡ b → (b || list_any test es) ≡ true
-        → IsFound test (e ∷ es)
+    by : (list_any test es ≡ true → HasPassing test es) → (b : Bool) → test e ≡ b → (b || list_any test es) ≡ true
+        → HasPassing test (e ∷ es)
     by more true is h = record { number = 0; event = e; at = refl; passes = is }
     by more false is h = let f = more h in record {
       number = suc f.number;
@@ -213,8 +213,9 @@ module _ (sizes : Sizes) (z : IsLayout sizes) (past : List Event) (e : Event) (k
   unlinks_linked _ is ok h = let t = sym (ap unlinks is) ∙ h in absurd (cc)
 
   -- a life that is over stays so
-  gone_step : (k : Kind) → e.kind ≡ k → AllowedAs k sizes past e → (x : Life) → IsGone past x
-      (node_in sizes past x.index) → IsGone (past ++ e ∷ []) x ((state_by k sizes e (state sizes past)).node x.index)
+  gone_step : (k : Kind) → e.kind ≡ k → AllowedAs k sizes past e → (x : Life) → IsLifeOver past x
+      (node_in sizes past x.index) → IsLifeOver (past ++ e ∷ []) x
+      ((state_by k sizes e (state sizes past)).node x.index)
   gone_step k is allowed x c =
       let v : Node = node_in sizes past x.index in
       let not : (unlinks e.kind && same_life x e.life) ≡ false = by (unlinks e.kind && same_life x e.life) refl in
@@ -487,7 +488,7 @@ fates_step sizes z past e kept c ok =
           (at_last past e k a at);
       fate = λ k a at pops. subst (λ (s : State). Fate (past ++ e ∷ []) a.life (s.node a.life.index)) (sym to) (⊎_elim
           (λ (was : slice_get past k ≡ Some a). ⊎_elim
-          (λ (gone : IsGone past a.life (node_in sizes past a.life.index)). inl
+          (λ (gone : IsLifeOver past a.life (node_in sizes past a.life.index)). inl
           (gone_step sizes z past e kept ok e.kind refl ok.as_kind a.life gone))
           (λ (here : IsPresent past a.life (node_in sizes past a.life.index)). present_step sizes z past e kept ok
           e.kind refl ok.as_kind to a.life (c.there k a was pops) here) (c.fate k a was pops))

@@ -13,21 +13,23 @@ use Rattle.core_kept.specs.Counts.{made}
 abbrev is_own : (Kind → Bool) → ℕ → Event → Bool
 is_own test caller e = test e.kind && (e.caller == caller)
 
-abbrev own : (Kind → Bool) → ℕ → List Event → Event → Bool
-own test caller past e = is_own test caller e
+abbrev own_where : (Kind → Bool) → ℕ → List Event → Event → Bool
+own_where test caller past e = is_own test caller e
 
 module _ (test : Kind → Bool) (caller : ℕ) where
-  from_is : (past xs : List Event) → passing_from (own test caller) past xs ≡ length (filter (is_own test caller) xs)
+  from_is : (past xs : List Event) → passing_from (own_where test caller) past xs
+      ≡ length (filter (is_own test caller) xs)
   from_is past [] = refl
   from_is past (x ∷ xs) = by (is_own test caller x) (from_is (past ++ x ∷ []) xs)
     where
-      by : (b : Bool) → passing_from (own test caller) (past ++ x ∷ []) xs ≡ length (filter (is_own test caller) xs)
-          → cond b 1 0 + passing_from (own test caller) (past ++ x ∷ []) xs ≡ length
+      by : (b : Bool) → passing_from (own_where test caller) (past ++ x ∷ []) xs
+          ≡ length (filter (is_own test caller) xs)
+          → cond b 1 0 + passing_from (own_where test caller) (past ++ x ∷ []) xs ≡ length
           (cond b (x ∷ filter (is_own test caller) xs) (filter (is_own test caller) xs))
       by true h = omega (arith, h)
       by false h = omega (arith, h)
 
-  made_is : (journal : List Event) → passing (own test caller) journal ≡ made test caller journal
+  made_is : (journal : List Event) → passing (own_where test caller) journal ≡ made test caller journal
   unfolding passing
   made_is journal = from_is [] journal
 
@@ -44,12 +46,12 @@ module _ (test : Kind → Bool) (caller : ℕ) where
 
   module _ (front journal : List Event) (p : IsPrefix front journal) where
     pub made_grows : made test caller front ≤ made test caller journal
-    made_grows = omega (arith, passing_grows (own test caller) front journal p, made_is front, made_is journal)
+    made_grows = omega (arith, passing_grows (own_where test caller) front journal p, made_is front, made_is journal)
 
     -- as many: none in between
     pub none_between : made test caller journal ≡ made test caller front → (n : ℕ) (e : Event) → length front ≤ n
         → slice_get journal n ≡ Some e → e.caller ≡ caller → test e.kind ≡ false
-    none_between same n e far at by = passes_by e by (passing_none (own test caller) front journal p
+    none_between same n e far at by = passes_by e by (passing_none (own_where test caller) front journal p
         (omega (arith, same, made_is front, made_is journal)) n e far at)
 
     -- one more: one in between, and no other
@@ -57,5 +59,6 @@ module _ (test : Kind → Bool) (caller : ℕ) where
         → slice_get journal m ≡ Some d → d.caller ≡ caller → test d.kind ≡ true → length front ≤ n
         → slice_get journal n ≡ Some e → e.caller ≡ caller → test e.kind ≡ true → n ≡ m
     one_between one m n d e far_m at_m by_m is_m far_n at_n by_n is_n =
-        passing_only (own test caller) front journal p (omega (arith, one, made_is front, made_is journal)) m n d e
+        passing_only (own_where test caller) front journal p (omega (arith, one, made_is front, made_is journal)) m n d
+        e
         far_m at_m (passes d by_m is_m) far_n at_n (passes e by_n is_n)

@@ -15,7 +15,7 @@ use Rattle.core_kept.specs.Nodes.{node_in}
 use Rattle.core_kept.proofs.ByKind.{KeepsByKind, put_case, put_same, handed_case, marked_state, closed_state}
 use Rattle.core_kept.proofs.ByKind.{holds_onward}
 use Rattle.core_kept.proofs.LinkWords.{taken}
-use Rattle.core_kept.proofs.PastLives.{IsWithin, same_tag}
+use Rattle.core_kept.proofs.PastLives.{BeginsNoLife, same_tag}
 use Rattle.core_kept.proofs.LinkedOnce.{fresh_before}
 
 put_stored : (s : State) (i : ℕ) (v : Node) (x : ℕ) → (v.stored ≡ false → (s.node i).stored ≡ false) →
@@ -28,7 +28,7 @@ handed_stored s v x = handed_case (λ (u : Node). u.stored ≡ false → (s.node
     (λ _ _ _ m. m)
 
 -- only the taking of a node makes it unstored
-pub stored_before : (k : Kind) → IsWithin k → (sizes : Sizes) (e : Event) (s : State) (x : ℕ) →
+pub stored_before : (k : Kind) → BeginsNoLife k → (sizes : Sizes) (e : Event) (s : State) (x : ℕ) →
     ((state_by k sizes e s).node x).stored ≡ false → (s.node x).stored ≡ false
 stored_before PopFree o sizes e s x = absurd o
 stored_before LinkVertex o sizes e s x = put_stored s e.life.index _ x (λ m. m)
@@ -52,7 +52,7 @@ stored_before _ o sizes e s x = λ m. m
 
 -- the word at a place of a node is what it was, while the node is in this life and, of its link, while that isn't
 -- stored
-record IsStill (sizes : Sizes) (x place tag word : ℕ) (s : State) (w : ℕ → ℕ) : Type 0 where
+record WordStays (sizes : Sizes) (x place tag word : ℕ) (s : State) (w : ℕ → ℕ) : Type 0 where
   pub low : tag ≤ (s.node x).tag
   pub fresh : (s.node x).tag ≡ tag → (s.node x).mode ≢ Fresh
   pub word_is : (s.node x).tag ≡ tag → (place ≡ link_at sizes x → (s.node x).stored ≡ false) → w place ≡ word
@@ -66,7 +66,7 @@ module _ (sizes : Sizes) (z : IsLayout sizes) (x place tag word : ℕ)
       ∙ is in omega (arith, old, live, marked)
 
   -- no kind writes the word
-  not_written : (past : List Event) (e : Event) (k : Kind) → IsWithin k → AllowedAs k sizes past e
+  not_written : (past : List Event) (e : Event) (k : Kind) → BeginsNoLife k → AllowedAs k sizes past e
       → word_at sizes past place ≡ word → (node_in sizes past x).mode ≢ Fresh
       → (place ≡ link_at sizes x → ((state_by k sizes e (state sizes past)).node x).stored ≡ false) → place ≢ e.place
   not_written past e PopFree o ok is fresh stored = absurd o
@@ -92,7 +92,7 @@ module _ (sizes : Sizes) (z : IsLayout sizes) (x place tag word : ℕ)
       let u = stored link in absurd (cc)
   not_written past e _ o ok is fresh stored = λ h. omega (arith, at, ok.place, ok.there, h)
 
-  still_step : KeepsByKind sizes (IsStill sizes x place tag word)
+  still_step : KeepsByKind sizes (WordStays sizes x place tag word)
   still_step past e kept c PopFree by ok w a =
       let t = taken sizes z past e kept ok in record {
         low = put_case (λ (u : Node). tag ≤ u.tag) e.life.index _ (state sizes past).node x
@@ -123,7 +123,7 @@ pub marked_link_stays : (sizes : Sizes) → IsLayout sizes → (x : ℕ) (front 
     → (node_in sizes journal x).tag ≡ (node_in sizes front x).tag → (node_in sizes journal x).stored ≡ false
     → word_at sizes journal (link_at sizes x) ≡ word_at sizes front (link_at sizes x)
 marked_link_stays sizes z x front journal p kept fresh marked tag stored =
-    let P = IsStill sizes x (link_at sizes x) (node_in sizes front x).tag (word_at sizes front (link_at sizes x)) in
+    let P = WordStays sizes x (link_at sizes x) (node_in sizes front x).tag (word_at sizes front (link_at sizes x)) in
     (holds_onward sizes P (still_step sizes z x (link_at sizes x) (node_in sizes front x).tag
     (word_at sizes front (link_at sizes x)) (inl refl) marked) front journal p kept record
     { low = omega arith; fresh = λ _. fresh; word_is = λ _ _. refl }).word_is tag (λ _. stored)
@@ -135,7 +135,8 @@ pub marked_head_stays : (sizes : Sizes) → IsLayout sizes → (x : ℕ) (front 
     → (node_in sizes journal x).tag ≡ (node_in sizes front x).tag → word_at sizes journal
     (second_at sizes x) ≡ word_at sizes front (second_at sizes x)
 marked_head_stays sizes z x front journal p kept fresh marked tag =
-    let P = IsStill sizes x (second_at sizes x) (node_in sizes front x).tag (word_at sizes front (second_at sizes x)) in
+    let P =
+    WordStays sizes x (second_at sizes x) (node_in sizes front x).tag (word_at sizes front (second_at sizes x)) in
     (holds_onward sizes P (still_step sizes z x (second_at sizes x) (node_in sizes front x).tag
     (word_at sizes front (second_at sizes x)) (inr refl) marked) front journal p kept record
     { low = omega arith; fresh = λ _. fresh; word_is = λ _ _. refl }).word_is tag (λ h. absurd (omega (arith, h)))

@@ -5,6 +5,7 @@ use Rattle.std.specs.Prelude.{Contains}
 use Rattle.std.specs.List.{list_any}
 use mathlib.Core.Logic.{dite}
 use native.Mathlib.Decide.{ℕ_discrete}
+use Rattle.graph_kinds.specs.Levels.{stands_in}
 use Rattle.graph_kinds.specs.History.{Every}
 use Rattle.packed_link.specs.Link.{nowhere}
 use Rattle.packed_link.specs.Layout.{Sizes, link_at}
@@ -18,16 +19,12 @@ use Rattle.core_chain.proofs.Marks.{next-marked}
 use Rattle.core_chain.proofs.Meets.{met_behind}
 use Rattle.core_journal.specs.State.{put_behind, linked_in, unlinked_from}
 
--- a number stands on a list or not
-abbrev pub stands : ℕ → List ℕ → Bool
-stands y xs = list_any (λ z. z == y) xs
-
 -- what is found is an element
-pub contains_stands : (y : ℕ) (xs : List ℕ) → stands y xs ≡ true → Contains xs y
+pub contains_stands : (y : ℕ) (xs : List ℕ) → stands_in xs y ≡ true → Contains xs y
 contains_stands y [] h = absurd (cc)
 contains_stands y (x ∷ xs) h = by (x == y) refl (contains_stands y xs) h
   where
-    by : (b : Bool) → (x == y) ≡ b → (stands y xs ≡ true → Contains xs y) → (b || stands y xs) ≡ true → Contains
+    by : (b : Bool) → (x == y) ≡ b → (stands_in xs y ≡ true → Contains xs y) → (b || stands_in xs y) ≡ true → Contains
         (x ∷ xs) y
     by true e more h = (0, omega arith, eqb-true x y e)
     by false e more h = let c = more h in (suc c.0, omega (arith, c.1), c.2)
@@ -226,17 +223,19 @@ meets_unlinked c d at n xs chain step met = take_out c d at n Head xs chain step
     (met_behind c Head xs chain tt met).0
 
 -- a node joins the list into which it's linked
-put_joins : (test : ℕ → Bool) (n x : ℕ) (xs : List ℕ) → x ≢ n → stands x (put_behind test n xs) ≡ stands x xs
+put_joins : (test : ℕ → Bool) (n x : ℕ) (xs : List ℕ) → x ≢ n → stands_in (put_behind test n xs) x ≡ stands_in xs x
 put_joins test n x [] ne = refl
 put_joins test n x (y ∷ ys) ne = by (test y) (put_joins test n x ys ne)
   where
-    by : (b : Bool) → stands x (put_behind test n ys) ≡ stands x ys → stands x
-        (cond b (y ∷ n ∷ ys) (y ∷ put_behind test n ys)) ≡ stands x (y ∷ ys)
-    by true h = ap (λ (b : Bool). (y == x) || (b || stands x ys)) (ne_eqb n x (λ e. ne (sym e)))
+    by : (b : Bool) → stands_in (put_behind test n ys) x ≡ stands_in ys x → stands_in
+        (cond b (y ∷ n ∷ ys) (y ∷ put_behind test n ys))
+        x ≡ stands_in (y ∷ ys) x
+    by true h = ap (λ (b : Bool). (y == x) || (b || stands_in ys x)) (ne_eqb n x (λ e. ne (sym e)))
     by false h = ap (λ (b : Bool). (y == x) || b) h
 
-put_stands : (test : ℕ → Bool) (n b : ℕ) (xs : List ℕ) → test b ≡ true → stands b xs ≡ true → stands n
-    (put_behind test n xs) ≡ true
+put_stands : (test : ℕ → Bool) (n b : ℕ) (xs : List ℕ) → test b ≡ true → stands_in xs b ≡ true → stands_in
+    (put_behind test n xs)
+    n ≡ true
 put_stands test n b [] hits h = absurd (cc)
 put_stands test n b (y ∷ ys) hits h = by (test y) (y == b) refl refl (put_stands test n b ys hits) h
   where
@@ -244,66 +243,71 @@ put_stands test n b (y ∷ ys) hits h = by (test y) (y == b) refl refl (put_stan
     or_true true = refl
     or_true false = refl
 
-    by : (t s : Bool) → test y ≡ t → (y == b) ≡ s → (stands b ys ≡ true → stands n (put_behind test n ys) ≡ true) →
-        (s || stands b ys) ≡ true → stands n (cond t (y ∷ n ∷ ys) (y ∷ put_behind test n ys)) ≡ true
-    by true s i j more h = ap (λ (a : Bool). (y == n) || (a || stands n ys)) (eq-eqb n n refl) ∙ or_true (y == n)
+    by : (t s : Bool) → test y ≡ t → (y == b) ≡ s → (stands_in ys b ≡ true → stands_in (put_behind test n ys) n ≡ true)
+        →
+        (s || stands_in ys b) ≡ true → stands_in (cond t (y ∷ n ∷ ys) (y ∷ put_behind test n ys)) n ≡ true
+    by true s i j more h = ap (λ (a : Bool). (y == n) || (a || stands_in ys n)) (eq-eqb n n refl) ∙ or_true (y == n)
     by false true i j more h = absurd (let e : test y ≡ true = ap test (eqb-true y b j) ∙ hits in cc)
     by false false i j more h = ap (λ (a : Bool). (y == n) || a) (more h) ∙ or_true (y == n)
 
 -- where another node is linked in, a node stands on the list as before
-pub linked_stands : (sizes : Sizes) (head place n x : ℕ) (xs : List ℕ) → x ≢ n → stands x
-    (linked_in sizes head place n xs) ≡ stands x xs
+pub linked_stands : (sizes : Sizes) (head place n x : ℕ) (xs : List ℕ) → x ≢ n → stands_in
+    (linked_in sizes head place n xs)
+    x ≡ stands_in xs x
 linked_stands sizes head place n x xs ne = by (place == head)
   where
-    by : (b : Bool) → stands x (cond b (n ∷ xs) (put_behind (λ z. place == link_at sizes z) n xs)) ≡ stands x xs
-    by true = ap (λ (b : Bool). b || stands x xs) (ne_eqb n x (λ e. ne (sym e)))
+    by : (b : Bool) → stands_in (cond b (n ∷ xs) (put_behind (λ z. place == link_at sizes z) n xs)) x ≡ stands_in xs x
+    by true = ap (λ (b : Bool). b || stands_in xs x) (ne_eqb n x (λ e. ne (sym e)))
     by false = put_joins (λ z. place == link_at sizes z) n x xs ne
 
 module _ (sizes : Sizes) (places : Places) (are : AreLinks sizes places) where
-  pub joins_linked : (at : Position) (n : ℕ) (xs : List ℕ) → ((x : ℕ) → at ≡ Node x → stands x xs ≡ true) → Joins
-      (λ x. stands x xs) (λ x. stands x (linked_in sizes (places.word_at Head) (places.word_at at) n xs)) n
+  pub joins_linked : (at : Position) (n : ℕ) (xs : List ℕ) → ((x : ℕ) → at ≡ Node x → stands_in xs x ≡ true) → Joins
+      (λ x. stands_in xs x) (λ x. stands_in (linked_in sizes (places.word_at Head) (places.word_at at) n xs) x) n
   joins_linked Head n xs behind = record {
-    joins = ap (λ (l : List ℕ). stands n l) (at_head sizes places are n xs) ∙ ap (λ (b : Bool). b || stands n xs)
+    joins = ap (λ (l : List ℕ). stands_in l n) (at_head sizes places are n xs) ∙ ap (λ (b : Bool). b || stands_in xs n)
         (eq-eqb n n refl);
-    others = λ x ne. ap (λ (l : List ℕ). stands x l) (at_head sizes places are n xs) ∙ ap
-        (λ (b : Bool). b || stands x xs) (ne_eqb n x (λ e. ne (sym e)));
+    others = λ x ne. ap (λ (l : List ℕ). stands_in l x) (at_head sizes places are n xs) ∙ ap
+        (λ (b : Bool). b || stands_in xs x) (ne_eqb n x (λ e. ne (sym e)));
   }
   joins_linked (Node b) n xs behind = record {
-    joins = ap (λ (l : List ℕ). stands n l) (at_node sizes places are b n xs) ∙ put_stands
+    joins = ap (λ (l : List ℕ). stands_in l n) (at_node sizes places are b n xs) ∙ put_stands
         (λ z. link_at sizes b == link_at sizes z) n b xs (eq-eqb (link_at sizes b) (link_at sizes b) refl)
         (behind b refl);
-    others = λ x ne. ap (λ (l : List ℕ). stands x l) (at_node sizes places are b n xs) ∙ put_joins
+    others = λ x ne. ap (λ (l : List ℕ). stands_in l x) (at_node sizes places are b n xs) ∙ put_joins
         (λ z. link_at sizes b == link_at sizes z) n x xs ne;
   }
 
 -- a node leaves the list without it
-pub leaves_unlinked : (n : ℕ) (xs : List ℕ) → Departs (λ x. stands x xs) (λ x. stands x (unlinked_from n xs)) n
+pub leaves_unlinked : (n : ℕ) (xs : List ℕ) → Departs (λ x. stands_in xs x) (λ x. stands_in (unlinked_from n xs) x) n
 leaves_unlinked n xs = record { departs = λ h. gone xs h; others = λ x ne. stays x ne xs }
   where
-    gone : (xs : List ℕ) → stands n (unlinked_from n xs) ≡ true → ⊥
+    gone : (xs : List ℕ) → stands_in (unlinked_from n xs) n ≡ true → ⊥
     gone [] h = absurd (cc)
     gone (y ∷ ys) h = by (y == n) refl (gone ys) h
       where
-        by : (b : Bool) → (y == n) ≡ b → (stands n (unlinked_from n ys) ≡ true → ⊥) → stands n
-            (cond (not b) (y ∷ unlinked_from n ys) (unlinked_from n ys)) ≡ true → ⊥
+        by : (b : Bool) → (y == n) ≡ b → (stands_in (unlinked_from n ys) n ≡ true → ⊥) → stands_in
+            (cond (not b) (y ∷ unlinked_from n ys) (unlinked_from n ys))
+            n ≡ true → ⊥
         by true e more h = more h
-        by false e more h = more (sym (ap (λ (b : Bool). b || stands n (unlinked_from n ys)) e) ∙ h)
+        by false e more h = more (sym (ap (λ (b : Bool). b || stands_in (unlinked_from n ys) n) e) ∙ h)
 
-    stays : (x : ℕ) → x ≢ n → (xs : List ℕ) → stands x (unlinked_from n xs) ≡ stands x xs
+    stays : (x : ℕ) → x ≢ n → (xs : List ℕ) → stands_in (unlinked_from n xs) x ≡ stands_in xs x
     stays x ne [] = refl
     stays x ne (y ∷ ys) = by (y == n) refl (stays x ne ys)
       where
-        by : (b : Bool) → (y == n) ≡ b → stands x (unlinked_from n ys) ≡ stands x ys → stands x
-            (cond (not b) (y ∷ unlinked_from n ys) (unlinked_from n ys)) ≡ stands x (y ∷ ys)
-        by true e h = h ∙ sym (ap (λ (b : Bool). b || stands x ys)
+        by : (b : Bool) → (y == n) ≡ b → stands_in (unlinked_from n ys) x ≡ stands_in ys x → stands_in
+            (cond (not b) (y ∷ unlinked_from n ys) (unlinked_from n ys))
+            x ≡ stands_in (y ∷ ys) x
+        by true e h = h ∙ sym (ap (λ (b : Bool). b || stands_in ys x)
             (ne_eqb y x (λ same. ne (sym same ∙ eqb-true y n e))))
         by false e h = ap (λ (b : Bool). (y == x) || b) h
 
 -- what stands on the list without a node is another, and stood on it before
-pub unlinked_stands : (n x : ℕ) (xs : List ℕ) → stands x (unlinked_from n xs) ≡ true → (x ≢ n) × (stands x xs ≡ true)
+pub unlinked_stands : (n x : ℕ) (xs : List ℕ) → stands_in (unlinked_from n xs) x ≡ true → (x ≢ n) ×
+    (stands_in xs x ≡ true)
 unlinked_stands n x xs h =
     let l = leaves_unlinked n xs in
-    let ne : x ≢ n = λ e. l.departs (subst (λ (y : ℕ). stands y (unlinked_from n xs) ≡ true) e h) in
+    let ne : x ≢ n = λ e. l.departs (subst (λ (y : ℕ). stands_in (unlinked_from n xs) y ≡ true) e h) in
     (ne, sym (l.others x ne) ∙ h)
 
 -- a node off the chain is none of those that are met

@@ -30,7 +30,7 @@ pub record IsSameLinked (n v : Node) : Type 0 where
   pub weight : v.weight ≡ n.weight
 
 -- a node is in this life, and linked or spent after a length of the journal
-record IsHere (n : Node) (since : ℕ) (v : Node) : Type 0 where
+record IsUsedSince (n : Node) (since : ℕ) (v : Node) : Type 0 where
   pub same : IsSameLinked n v
   pub free : v.mode ≢ Free
   pub fresh : v.mode ≢ Fresh
@@ -71,17 +71,17 @@ module _ (n : Node) (since : ℕ) where
     weight = c.weight;
   }
 
-  here_put : (s : State) (i x : ℕ) (v : Node) → IsHere n since (s.node x) →
-      (IsHere n since (s.node i) → IsHere n since v) → IsHere n since (put i v s.node x)
-  here_put s i x v c new = put_case (λ (u : Node). IsHere n since u) i v s.node x
-      (λ same. new (subst (λ (y : ℕ). IsHere n since (s.node y)) same c)) (λ _. c)
+  here_put : (s : State) (i x : ℕ) (v : Node) → IsUsedSince n since (s.node x) →
+      (IsUsedSince n since (s.node i) → IsUsedSince n since v) → IsUsedSince n since (put i v s.node x)
+  here_put s i x v c new = put_case (λ (u : Node). IsUsedSince n since u) i v s.node x
+      (λ same. new (subst (λ (y : ℕ). IsUsedSince n since (s.node y)) same c)) (λ _. c)
 
-  here_mark : (v : Node) → IsHere n since v → IsHere n since (record v { marked = true })
+  here_mark : (v : Node) → IsUsedSince n since v → IsUsedSince n since (record v { marked = true })
   here_mark v c = record { same = same_marked v c.same; free = c.free; fresh = c.fresh; spent = c.spent }
 
-  here_handed : (s : State) (v x : ℕ) → since < s.count → IsHere n since (s.node x) → IsHere n since
+  here_handed : (s : State) (v x : ℕ) → since < s.count → IsUsedSince n since (s.node x) → IsUsedSince n since
       ((handed v s).node x)
-  here_handed s v x later c = handed_case (λ (u : Node). IsHere n since u) s v x c
+  here_handed s v x later c = handed_case (λ (u : Node). IsUsedSince n since u) s v x c
       (λ m _ _. record {
         same = same_spent (s.node x) _ _ _ c.same;
         free = λ h. absurd (cc);
@@ -93,7 +93,8 @@ module _ (n : Node) (since : ℕ) where
   here_by : (k : Kind) (sizes : Sizes) → IsLayout sizes → (past : List Event) (e : Event) → IsKept sizes past
       → AllowedAs k sizes past e → (caller x : ℕ) → (pass_in sizes past caller).is_open ≡ true →
       (pass_in sizes past caller).since ≡ since → since < (state sizes past).count
-      → IsHere n since (node_in sizes past x) → IsHere n since ((state_by k sizes e (state sizes past)).node x)
+      → IsUsedSince n since (node_in sizes past x) →
+      IsUsedSince n since ((state_by k sizes e (state sizes past)).node x)
   here_by PopFree sizes z past e kept ok caller x o is low c = here_put (state sizes past) e.life.index x _ c
       (λ d. absurd (d.free (taken sizes z past e kept ok).free))
   here_by LinkVertex sizes z past e kept ok caller x o is low c = here_put (state sizes past) e.life.index x _ c
@@ -137,7 +138,8 @@ module _ (n : Node) (since : ℕ) where
   here_by ReplaceEdge sizes z past e kept ok caller x o is low c =
       let s : State = state sizes past in
       let j : State = joined_edge sizes e s in
-      let cj : IsHere n since (j.node x) = here_put s e.life.index x (new_edge_node (s.node e.life.index) e s.count) c
+      let cj : IsUsedSince n since (j.node x) = here_put s e.life.index x
+      (new_edge_node (s.node e.life.index) e s.count) c
       (λ d. absurd (d.fresh ok.fresh.fresh)) in
       here_handed (marked_state j e.old.index) (j.node e.old.index).source.index x (omega (arith, low))
       (here_put j e.old.index x (record (j.node e.old.index) { marked = true }) cj (here_mark (j.node e.old.index)))
@@ -156,18 +158,20 @@ module _ (n : Node) (since : ℕ) where
 -- while the pass that began there is open, the node is in its life
 record IsStaying (caller x : ℕ) (n : Node) (since : ℕ) (s : State) : Type 0 where
   pub low : since < s.count
-  pub here : (s.pass caller).is_open ≡ true → (s.pass caller).since ≡ since → IsHere n since (s.node x)
+  pub here : (s.pass caller).is_open ≡ true → (s.pass caller).since ≡ since → IsUsedSince n since (s.node x)
 
 staying_step : (sizes : Sizes) → IsLayout sizes → (caller x : ℕ) (n : Node) (since : ℕ) → KeepsByKind sizes
     (λ (s : State) (w : ℕ → ℕ). IsStaying caller x n since s)
 staying_step sizes z caller x n since past e kept c Announce by ok w a = record {
   low = omega (arith, c.low);
-  here = put_case (λ (q : Pass). q.is_open ≡ true → q.since ≡ since → IsHere n since (node_in sizes past x)) e.caller _
+  here = put_case (λ (q : Pass). q.is_open ≡ true → q.since ≡ since → IsUsedSince n since (node_in sizes past x))
+      e.caller _
       (state sizes past).pass caller (λ _ _ h. absurd (omega (arith, c.low, h))) (λ _. c.here);
 }
 staying_step sizes z caller x n since past e kept c Withdraw by ok w a = record {
   low = omega (arith, c.low);
-  here = put_case (λ (q : Pass). q.is_open ≡ true → q.since ≡ since → IsHere n since (node_in sizes past x)) e.caller _
+  here = put_case (λ (q : Pass). q.is_open ≡ true → q.since ≡ since → IsUsedSince n since (node_in sizes past x))
+      e.caller _
       (state sizes past).pass caller (λ _ o _. absurd (cc)) (λ _. c.here);
 }
 staying_step sizes z caller x n since past e kept c k by ok w a = record {

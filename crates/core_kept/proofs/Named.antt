@@ -362,13 +362,15 @@ named_step sizes z past e kept c ReplaceEdge is ok w a = record { each = λ x t.
 named_step sizes z past e kept c MarkEdge is ok w a = handed_named sizes (past ++ e ∷ [])
     (marked_state (state sizes past) e.life.index) (node_in sizes past e.life.index).source.index record {
       each = put_named sizes past e _ (ap (λ (k : Kind). cond (replaces k) e.old e.life) is) c
-          (λ t. cut_now past e (node_in sizes past e.life.index) ok.linked.linked ok.linked.edge ok.life (ap links_edge is)
+          (λ t. cut_now past e (node_in sizes past e.life.index) ok.linked.linked ok.linked.edge ok.life
+          (ap links_edge is)
           (ap marks_edge is) (c.each e.life.index t));
     }
 named_step sizes z past e kept c FreezeEdge is ok w a = handed_named sizes (past ++ e ∷ [])
     (marked_state (state sizes past) e.life.index) (node_in sizes past e.life.index).source.index record {
       each = put_named sizes past e _ (ap (λ (k : Kind). cond (replaces k) e.old e.life) is) c
-          (λ t. cut_now past e (node_in sizes past e.life.index) ok.linked.linked ok.linked.edge ok.life (ap links_edge is)
+          (λ t. cut_now past e (node_in sizes past e.life.index) ok.linked.linked ok.linked.edge ok.life
+          (ap links_edge is)
           (ap marks_edge is) (c.each e.life.index t));
     }
 named_step sizes z past e kept c UnlinkVertex is ok w a = record {

@@ -4,6 +4,7 @@ use Rattle.std.proofs.Common.{refl, sym, ◌∙◌, subst, arith, inl, inr, ◌+
 use Rattle.std.specs.Prelude.{take_while}
 use Rattle.std.proofs.lemmas.List.Sums.{take_while-cons}
 use Rattle.std.proofs.lemmas.Bool.{cases_lt}
+use Rattle.graph_kinds.specs.Levels.{stands_in}
 use Rattle.packed_link.specs.Layout.{Sizes, second_at}
 use Rattle.core_journal.specs.declared.event.Kind.TheVariants.{PopFree, LinkVertex, MarkVertex, UnlinkVertex, LinkEdge}
 use Rattle.core_journal.specs.declared.event.Kind.TheVariants.{MarkEdge, UnlinkEdge, FreezeHead, FreezeEdge, StoreFree}
@@ -16,7 +17,7 @@ use Rattle.core_kept.specs.Nodes.{node_in}
 use Rattle.core_kept.specs.Nodes.{is_of_bucket}
 use Rattle.core_kept.proofs.ByKind.{KeepsByKind, put_case, put_other, handed_case, marked_state, closed_state}
 use Rattle.core_kept.proofs.ByKind.{holds_all}
-use Rattle.core_kept.proofs.MetFromHead.{stands, linked_stands, unlinked_stands}
+use Rattle.core_kept.proofs.MetFromHead.{linked_stands, unlinked_stands}
 
 -- a node past the end of the table is free
 record FreeBeyond (sizes : Sizes) (s : State) : Type 0 where
@@ -95,11 +96,12 @@ IsEdgeNode v = (v.mode ≢ Fresh) × (v.vertex ≡ false)
 
 -- what stands on a list of edges is an edge, or was one before it was given back
 pub record OnLists (s : State) : Type 0 where
-  pub each : (x y : ℕ) → stands y (s.edges x) ≡ true → IsEdgeNode (s.node y)
+  pub each : (x y : ℕ) → stands_in (s.edges x) y ≡ true → IsEdgeNode (s.node y)
 
 -- one node changes, and is an edge where it was one
-put_lists : (s : State) (i : ℕ) (v : Node) → OnLists s → (IsEdgeNode (s.node i) → IsEdgeNode v) → (x y : ℕ) → stands y
-    (s.edges x) ≡ true → IsEdgeNode (put i v s.node y)
+put_lists : (s : State) (i : ℕ) (v : Node) → OnLists s → (IsEdgeNode (s.node i) → IsEdgeNode v) → (x y : ℕ) → stands_in
+    (s.edges x)
+    y ≡ true → IsEdgeNode (put i v s.node y)
 put_lists s i v c new x y h = put_case IsEdgeNode i v s.node y
     (λ same. new (subst (λ (z : ℕ). IsEdgeNode (s.node z)) same (c.each x y h))) (λ _. c.each x y h)
 
@@ -142,7 +144,7 @@ lists_step sizes past e kept c PopFree by ok w a =
       stored = false;
     } in
     record {
-      each = λ x y. put_case (λ (l : List ℕ). stands y l ≡ true → IsEdgeNode
+      each = λ x y. put_case (λ (l : List ℕ). stands_in l y ≡ true → IsEdgeNode
           (put e.life.index v (state sizes past).node y)) e.life.index []
           (λ z. unlinked_from e.life.index ((state sizes past).edges z)) x
           (λ _ h. absurd (let f : false ≡ true = h in cc))
@@ -200,27 +202,29 @@ on_lists sizes journal kept = holds_all sizes (λ (s : State) (w : ℕ → ℕ).
     (record { each = λ x y h. absurd (cc) }) journal kept
 
 -- the longest prefix whose nodes pass a test is part of the list
-part_stands : (test : ℕ → Bool) (y : ℕ) (xs : List ℕ) → stands y (take_while test xs) ≡ true → stands y xs ≡ true
+part_stands : (test : ℕ → Bool) (y : ℕ) (xs : List ℕ) → stands_in (take_while test xs) y ≡ true → stands_in xs y ≡ true
 part_stands test y [] h = absurd (cc)
 part_stands test y (x ∷ xs) h = by (part_stands test y xs) (test x)
-    (subst (λ (l : List ℕ). stands y l ≡ true) (take_while-cons test x xs) h)
+    (subst (λ (l : List ℕ). stands_in l y ≡ true) (take_while-cons test x xs) h)
   where
-    inner : (b : Bool) → (stands y (take_while test xs) ≡ true → stands y xs ≡ true) →
-        (b || stands y (take_while test xs)) ≡ true → (b || stands y xs) ≡ true
+    inner : (b : Bool) → (stands_in (take_while test xs) y ≡ true → stands_in xs y ≡ true) →
+        (b || stands_in (take_while test xs) y) ≡ true → (b || stands_in xs y) ≡ true
     inner true more h = refl
     inner false more h = more h
 
-    by : (stands y (take_while test xs) ≡ true → stands y xs ≡ true) → (b : Bool) → stands y
-        (cond b (x ∷ take_while test xs) []) ≡ true → stands y (x ∷ xs) ≡ true
+    by : (stands_in (take_while test xs) y ≡ true → stands_in xs y ≡ true) → (b : Bool) → stands_in
+        (cond b (x ∷ take_while test xs) [])
+        y ≡ true → stands_in (x ∷ xs) y ≡ true
     by more true h = inner (x == y) more h
     by more false h = absurd (cc)
 
 -- the frozen part of a list is part of it
-pub frozen_stands : (s : State) (x y : ℕ) → stands y (frozen_part s x) ≡ true → stands y (s.edges x) ≡ true
+pub frozen_stands : (s : State) (x y : ℕ) → stands_in (frozen_part s x) y ≡ true → stands_in (s.edges x) y ≡ true
 frozen_stands s x y h = by (s.frozen x) h
   where
-    by : (b : Bool) → stands y (cond b (take_while (λ z. (s.node z).marked) (s.edges x)) []) ≡ true → stands y
-        (s.edges x) ≡ true
+    by : (b : Bool) → stands_in (cond b (take_while (λ z. (s.node z).marked) (s.edges x)) []) y ≡ true → stands_in
+        (s.edges x)
+        y ≡ true
     by true h = part_stands (λ z. (s.node z).marked) y (s.edges x) h
     by false h = absurd (cc)
 

@@ -28,8 +28,8 @@ next_by _ sizes e s c = inl refl
 
 module _ (sizes : Sizes) (c n : ℕ) where
   -- the caller has no pass, or one that began at this length or later
-  abbrev IsLater : Pass → Type 0
-  IsLater p = (p.is_open ≡ false) ⊎ (n ≤ p.since)
+  abbrev BeganSince : Pass → Type 0
+  BeganSince p = (p.is_open ≡ false) ⊎ (n ≤ p.since)
 
   abbrev pass_after : List Event → Pass
   pass_after j = pass_in sizes j c
@@ -42,18 +42,18 @@ module _ (sizes : Sizes) (c n : ℕ) where
 
   -- a pass that isn't as it was is a later one
   moved_later : (past : List Event) (e : Event) → n ≤ length past → ((pass_after (past ++ e ∷ [])).is_open ≡ false) ⊎
-      ((pass_after (past ++ e ∷ [])).since ≡ length past) → IsLater (pass_after (past ++ e ∷ []))
+      ((pass_after (past ++ e ∷ [])).since ≡ length past) → BeganSince (pass_after (past ++ e ∷ []))
   moved_later past e far h = ⊎_elim (λ closed. inl closed) (λ since. inr (omega (arith, since, far))) h
 
   abbrev IsLaterAt : List Event → Type 0
-  IsLaterAt j = (n ≤ length j) × IsLater (pass_after j)
+  IsLaterAt j = (n ≤ length j) × BeganSince (pass_after j)
 
   later_step : (past : List Event) (e : Event) → IsKept sizes past → IsLaterAt past → Allowed sizes past e → IsLaterAt
       (past ++ e ∷ [])
   later_step past e kept h ok = (
     omega (arith, length-append past (e ∷ []), h.0),
     ⊎_elim
-        (λ (same : pass_after (past ++ e ∷ []) ≡ pass_after past). subst IsLater (sym same) h.1)
+        (λ (same : pass_after (past ++ e ∷ []) ≡ pass_after past). subst BeganSince (sym same) h.1)
         (λ (r : ((pass_after (past ++ e ∷ [])).is_open ≡ false) ⊎ ((pass_after (past ++ e ∷ [])).since ≡ length past)).
         moved_later past e h.0 r)
         (next_pass past e),
@@ -61,7 +61,7 @@ module _ (sizes : Sizes) (c n : ℕ) where
 
   -- the pass is the old one, or a later one
   abbrev IsOldOr : Pass → List Event → Type 0
-  IsOldOr old j = (n ≤ length j) × ((pass_after j ≡ old) ⊎ IsLater (pass_after j))
+  IsOldOr old j = (n ≤ length j) × ((pass_after j ≡ old) ⊎ BeganSince (pass_after j))
 
   old_step : (old : Pass) (past : List Event) (e : Event) → IsKept sizes past → IsOldOr old past → Allowed sizes past e
       → IsOldOr old (past ++ e ∷ [])
@@ -74,7 +74,7 @@ module _ (sizes : Sizes) (c n : ℕ) where
             ((pass_after (past ++ e ∷ [])).since ≡ length past)). inr (moved_later past e h.0 r))
             (next_pass past e),
       ))
-      (λ (later : IsLater (pass_after past)). let l = later_step past e kept (h.0, later) ok in (l.0, inr l.1))
+      (λ (later : BeganSince (pass_after past)). let l = later_step past e kept (h.0, later) ok in (l.0, inr l.1))
       h.1
 
 -- an open pass that is the same at two moments is the same at each moment between them
@@ -94,7 +94,7 @@ pass_between sizes c first middle last kept p q opened same =
     (old_step sizes c n (pass_in sizes first c)) first middle p kept_m (omega arith, inl refl) in
     ⊎_elim
     (λ (is : pass_in sizes middle c ≡ pass_in sizes first c). is)
-    (λ (later : IsLater sizes c n (pass_in sizes middle c)).
+    (λ (later : BeganSince sizes c n (pass_in sizes middle c)).
     let l = kept_onward sizes (IsLaterAt sizes c n) (later_step sizes c n) middle last q kept (m.0, later) in
     absurd (⊎_elim
     (λ (closed : (pass_in sizes last c).is_open ≡ false). true≢false

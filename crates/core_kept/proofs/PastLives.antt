@@ -79,9 +79,9 @@ pub this_life : (x y : Life) → x.index ≡ y.index → x.tag ≡ y.tag → sam
 this_life x y i t = ap (λ (b : Bool). b && eqb x.tag y.tag) (eq-eqb x.index y.index i) ∙ eq-eqb x.tag y.tag t
 
 -- the kinds that begin no life
-abbrev pub IsWithin : Kind → Type 0
-IsWithin PopFree = ⊥
-IsWithin _ = Unit {0}
+abbrev pub BeginsNoLife : Kind → Type 0
+BeginsNoLife PopFree = ⊥
+BeginsNoLife _ = Unit {0}
 
 put_tag : (s : State) (i : ℕ) (v : Node) (x : ℕ) → v.tag ≡ (s.node i).tag → (put i v s.node x).tag ≡ (s.node x).tag
 put_tag s i v x is = put_case (λ (u : Node). u.tag ≡ (s.node x).tag) i v s.node x
@@ -91,7 +91,7 @@ handed_tag : (s : State) (v x : ℕ) → ((handed v s).node x).tag ≡ (s.node x
 handed_tag s v x = handed_case (λ (u : Node). u.tag ≡ (s.node x).tag) s v x refl (λ _ _ _. refl)
 
 -- no kind but the taking of a node changes a tag
-pub same_tag : (k : Kind) → IsWithin k → (sizes : Sizes) (e : Event) (s : State) (x : ℕ) →
+pub same_tag : (k : Kind) → BeginsNoLife k → (sizes : Sizes) (e : Event) (s : State) (x : ℕ) →
     ((state_by k sizes e s).node x).tag ≡ (s.node x).tag
 same_tag PopFree o sizes e s x = absurd o
 same_tag LinkVertex o sizes e s x = put_tag s e.life.index _ x refl
@@ -353,7 +353,8 @@ counters_step sizes z past e kept c FreezeHead is ok w a = handed_counts sizes (
     (closed_state (state sizes past) e.life.index) e.life.index w
     record {
       each = λ x t. count_same sizes past e _ _ x (word_at sizes past) w (ap raises is)
-          (same_count (node_in sizes past x)) (a.else (third_at sizes x) (λ h. omega (arith, ok.place, h))) (c.each x t);
+          (same_count (node_in sizes past x)) (a.else (third_at sizes x) (λ h. omega (arith, ok.place, h)))
+          (c.each x t);
     }
 counters_step sizes z past e kept c _ is ok w a = record {
   each = λ x t. count_same sizes past e _ _ x

@@ -15,7 +15,7 @@ use Rattle.core_kept.specs.Moments.{is_spent}
 use Rattle.core_kept.specs.Nodes.{node_in}
 use Rattle.core_kept.proofs.Induction.{kept_all}
 use Rattle.core_kept.proofs.LinkWords.{taken}
-use Rattle.core_kept.proofs.LivesEnd.{IsGone, IsPresent, fates}
+use Rattle.core_kept.proofs.LivesEnd.{IsLifeOver, IsPresent, fates}
 use Rattle.core_kept.proofs.Ripe.{ordered}
 
 -- a node is taken whose earlier lives are over
@@ -27,7 +27,7 @@ over_here sizes z past e kept ok is k a at pops same =
     let free : (node_in sizes past a.life.index).mode ≡ Free = ap (λ (y : ℕ). (node_in sizes past y).mode) same ∙
     (taken sizes z past e kept allowed).free in
     ⊎_elim
-    (λ (gone : IsGone past a.life (node_in sizes past a.life.index)). record {
+    (λ (gone : IsLifeOver past a.life (node_in sizes past a.life.index)). record {
       end = gone.life.end;
       ends = gone.life.ends;
       passes = λ i o. omega (

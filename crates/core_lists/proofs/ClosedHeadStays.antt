@@ -4,6 +4,7 @@ use Rattle.std.proofs.Common.{◌∙◌, subst, arith, ⊎_elim, inl, inr}
 use Rattle.std.specs.Prelude.{take_while}
 use mathlib.Core.Logic.{dite}
 use native.Mathlib.Decide.{ℕ_discrete}
+use Rattle.graph_kinds.specs.Levels.{stands_in}
 use Rattle.packed_link.specs.Layout.{Sizes, IsLayout, second_at}
 use Rattle.core_journal.specs.declared.event.Kind.{Kind}
 use Rattle.core_journal.specs.declared.event.Kind.TheVariants.{PopFree, LinkVertex, MarkVertex, UnlinkVertex, LinkEdge}
@@ -22,7 +23,6 @@ use Rattle.core_kept.proofs.LinkWords.{taken}
 use Rattle.core_kept.proofs.LinkedOnce.{fresh_before}
 use Rattle.core_kept.proofs.PastLives.{same_tag}
 use Rattle.core_kept.proofs.NodesInPlace.{used_there}
-use Rattle.core_kept.proofs.MetFromHead.{stands}
 use Rattle.core_kept.proofs.NodesOnLists.{stands_case, stands_here, stands_later, unlinked_was, unlinked_keeps}
 use Rattle.core_kept.proofs.NodesOnLists.{linked_was, linked_keeps, part_all, yes_no}
 use Rattle.core_lists.proofs.ListHolds.{IsFinished, part_listed}
@@ -119,17 +119,17 @@ finished_stays sizes z x front journal p kept tag f =
     record { head = end.head; edges = end.each }
 
 -- whether a list is frozen to its end
-all_marked : (node : ℕ → Node) (xs : List ℕ) → ((y : ℕ) → stands y xs ≡ true → (node y).marked ≡ true) ⊎
-    (((y : ℕ) → stands y xs ≡ true → (node y).marked ≡ true) → ⊥)
+all_marked : (node : ℕ → Node) (xs : List ℕ) → ((y : ℕ) → stands_in xs y ≡ true → (node y).marked ≡ true) ⊎
+    (((y : ℕ) → stands_in xs y ≡ true → (node y).marked ≡ true) → ⊥)
 all_marked node [] = inl (λ y h. absurd (cc))
 all_marked node (x ∷ xs) = ⊎_elim
-    (λ (rest : (y : ℕ) → stands y xs ≡ true → (node y).marked ≡ true). yes_no
-    (((y : ℕ) → stands y (x ∷ xs) ≡ true → (node y).marked ≡ true) ⊎
-    (((y : ℕ) → stands y (x ∷ xs) ≡ true → (node y).marked ≡ true) → ⊥)) (node x).marked
+    (λ (rest : (y : ℕ) → stands_in xs y ≡ true → (node y).marked ≡ true). yes_no
+    (((y : ℕ) → stands_in (x ∷ xs) y ≡ true → (node y).marked ≡ true) ⊎
+    (((y : ℕ) → stands_in (x ∷ xs) y ≡ true → (node y).marked ≡ true) → ⊥)) (node x).marked
     (λ is. inl (λ y h. stands_case ((node y).marked ≡ true) x y xs h
     (λ same. subst (λ (u : ℕ). (node u).marked ≡ true) same is) (λ _ later. rest y later)))
     (λ isnt. inr (λ all. let t = all x (stands_here x x xs refl) in absurd (cc))))
-    (λ (none : ((y : ℕ) → stands y xs ≡ true → (node y).marked ≡ true) → ⊥). inr
+    (λ (none : ((y : ℕ) → stands_in xs y ≡ true → (node y).marked ≡ true) → ⊥). inr
     (λ all. none (λ y h. all y (stands_later x y xs h))))
     (all_marked node xs)
 
@@ -137,8 +137,8 @@ pub finished_or : (node : ℕ → Node) (edges : ℕ → List ℕ) (frozen : ℕ
     (IsFinished node edges frozen x → ⊥)
 finished_or node edges frozen x = yes_no (IsFinished node edges frozen x ⊎ (IsFinished node edges frozen x → ⊥))
     (frozen x)
-    (λ is. ⊎_elim (λ (all : (y : ℕ) → stands y (edges x) ≡ true → (node y).marked ≡ true). inl record
-    { head = is; each = all }) (λ (none : ((y : ℕ) → stands y (edges x) ≡ true → (node y).marked ≡ true) → ⊥). inr
+    (λ is. ⊎_elim (λ (all : (y : ℕ) → stands_in (edges x) y ≡ true → (node y).marked ≡ true). inl record
+    { head = is; each = all }) (λ (none : ((y : ℕ) → stands_in (edges x) y ≡ true → (node y).marked ≡ true) → ⊥). inr
     (λ f. none f.each)) (all_marked node (edges x)))
     (λ isnt. inr (λ f. let t = f.head in absurd (cc)))
 
@@ -287,11 +287,11 @@ closed_used sizes z journal kept = holds_all sizes (λ (s : State) (w : ℕ → 
 
 -- an edge stands on a list, and is spent while it isn't given back
 record IsPartEdge (x y : ℕ) (s : State) : Type 0 where
-  pub on : stands y (s.edges x) ≡ true
+  pub on : stands_in (s.edges x) y ≡ true
   pub spent : IsUsed (s.node y).mode → (s.node y).mode ≡ Spent
 
 -- another node changes, or the edge stays spent
-part_put : (x y i : ℕ) (s s' : State) (v : Node) → stands y (s'.edges x) ≡ true → s'.node y ≡ put i v s.node y →
+part_put : (x y i : ℕ) (s s' : State) (v : Node) → stands_in (s'.edges x) y ≡ true → s'.node y ≡ put i v s.node y →
     (y ≡ i → IsUsed v.mode → v.mode ≡ Spent) → IsPartEdge x y s → IsPartEdge x y s'
 part_put x y i s s' v on is new c = record {
   on = on;
@@ -318,7 +318,7 @@ part_step sizes z x y past e kept PopFree ok ne c =
           = false;
     } in
     part_put x y e.life.index s (state_by PopFree sizes e s) v
-    (subst (λ (l : List ℕ). stands y l ≡ true) (sym (put_other e.life.index []
+    (subst (λ (l : List ℕ). stands_in l y ≡ true) (sym (put_other e.life.index []
     (λ n. unlinked_from e.life.index (s.edges n)) x (ne refl).0))
     (unlinked_keeps e.life.index y (s.edges x) c.on (ne refl).1))
     refl (λ same. absurd ((ne refl).1 same)) c
@@ -373,8 +373,9 @@ part_step sizes z x y past e kept _ ok ne c = record { on = c.on; spent = c.spen
 
 -- an edge of a list of a vertex, or of one that is given back with it, isn't linked where the list is frozen to its end
 not_linked : (sizes : Sizes) → IsLayout sizes → (journal : List Event) → IsKept sizes journal → (x y : ℕ) → IsFinished
-    (state sizes journal).node (state sizes journal).edges (state sizes journal).frozen x → stands y
-    ((state sizes journal).edges x) ≡ true → (node_in sizes journal y).mode ≢ Linked
+    (state sizes journal).node (state sizes journal).edges (state sizes journal).frozen x → stands_in
+    ((state sizes journal).edges x)
+    y ≡ true → (node_in sizes journal y).mode ≢ Linked
 not_linked sizes z journal kept x y f h l =
     let c = listing sizes z journal kept in
     let d = c.on x y h in
@@ -388,10 +389,10 @@ used_spent Linked u n = absurd (n refl)
 used_spent Spent u n = refl
 
 -- a frozen part has a closed head
-pub part_head : (s : State) (x y : ℕ) → stands y (frozen_part s x) ≡ true → s.frozen x ≡ true
+pub part_head : (s : State) (x y : ℕ) → stands_in (frozen_part s x) y ≡ true → s.frozen x ≡ true
 part_head s x y h = by (s.frozen x) h
   where
-    by : (b : Bool) → stands y (cond b (take_while (λ v. (s.node v).marked) (s.edges x)) []) ≡ true → b ≡ true
+    by : (b : Bool) → stands_in (cond b (take_while (λ v. (s.node v).marked) (s.edges x)) []) y ≡ true → b ≡ true
     by true h = refl
     by false h = absurd (cc)
 
@@ -435,8 +436,9 @@ part_stays sizes z x y front journal p kept tx ty h u =
     } in
     let head : s.frozen x ≡ true = head_stays sizes z x front journal p kept tx (part_head (state sizes front) x y h) in
     ⊎_elim
-    (λ (f : IsFinished s.node s.edges s.frozen x). subst (λ (b : Bool). stands y
-    (cond b (take_while (λ v. (s.node v).marked) (s.edges x)) []) ≡ true) (sym head)
+    (λ (f : IsFinished s.node s.edges s.frozen x). subst
+    (λ (b : Bool). stands_in (cond b (take_while (λ v. (s.node v).marked) (s.edges x)) [])
+    y ≡ true) (sym head)
     (part_all (λ v. (s.node v).marked) y (s.edges x) f.each c.on))
     (λ (n : IsFinished s.node s.edges s.frozen x → ⊥). ⊎_elim
     (λ (f : IsFinished s.node s.edges s.frozen x). absurd (n f))
@@ -451,11 +453,11 @@ part_stays sizes z x y front journal p kept tx ty h u =
 -- each list on which an edge stands is one on which it stood, in the same life
 record IsOldList (front : State) (y : ℕ) (s : State) : Type 0 where
   pub fresh : (s.node y).mode ≢ Fresh
-  pub was : (x : ℕ) → stands y (s.edges x) ≡ true → (stands y (front.edges x) ≡ true) ×
+  pub was : (x : ℕ) → stands_in (s.edges x) y ≡ true → (stands_in (front.edges x) y ≡ true) ×
       ((s.node x).tag ≡ (front.node x).tag)
 
 old_put : (front : State) (y i : ℕ) (s s' : State) (v : Node) → s'.node y ≡ put i v s.node y → v.mode ≢ Fresh →
-    ((x : ℕ) → stands y (s'.edges x) ≡ true → stands y (s.edges x) ≡ true) →
+    ((x : ℕ) → stands_in (s'.edges x) y ≡ true → stands_in (s.edges x) y ≡ true) →
     ((x : ℕ) → (s'.node x).tag ≡ (s.node x).tag) → IsOldList front y s → IsOldList front y s'
 old_put front y i s s' v is unfresh less tags c = record {
   fresh = subst (λ (n : Node). n.mode ≢ Fresh) (sym is) (put_case (λ (n : Node). n.mode ≢ Fresh) i v s.node y
@@ -484,7 +486,7 @@ old_step sizes z front y past e kept PopFree ok ne c =
 old_step sizes z front y past e kept LinkEdge ok ne c =
     let s : State = state sizes past in
     old_put front y e.life.index s (state_by LinkEdge sizes e s) _ refl (λ m. absurd (cc))
-    (λ x h. ⊎_elim (λ (t : stands y (s.edges x) ≡ true). t) (λ (t : (y ≡ e.life.index) × _). absurd
+    (λ x h. ⊎_elim (λ (t : stands_in (s.edges x) y ≡ true). t) (λ (t : (y ≡ e.life.index) × _). absurd
     (c.fresh (ap (λ (i : ℕ). (s.node i).mode) t.0 ∙ ok.fresh.fresh)))
     (linked_was sizes (second_at sizes x) e.place e.life.index y (s.edges x) h))
     (same_tag LinkEdge tt sizes e s) c
@@ -497,7 +499,7 @@ old_step sizes z front y past e kept ReplaceEdge ok ne c =
           (λ same. subst (λ (i : ℕ). (s.node i).mode ≢ Fresh) same c.fresh) (λ _. c.fresh))
           (λ _ _ _ _ m. absurd (cc));
       was = λ x h.
-          let r = c.was x (⊎_elim (λ (t : stands y (s.edges x) ≡ true). t)
+          let r = c.was x (⊎_elim (λ (t : stands_in (s.edges x) y ≡ true). t)
           (λ (t : (y ≡ e.life.index) × _). absurd (c.fresh (ap (λ (i : ℕ). (s.node i).mode) t.0 ∙ ok.fresh.fresh)))
           (linked_was sizes (second_at sizes x) e.place e.life.index y (s.edges x) h)) in
           (r.0, same_tag ReplaceEdge tt sizes e s x ∙ r.1);

@@ -15,11 +15,12 @@ use Rattle.core_kept.specs.Edges.{IsLinkEdge, IsMarkEdge, IsUnlinkEdge}
 use Rattle.core_kept.specs.Freezing.{IsFreezeHead, IsFreezeEdge}
 use Rattle.core_lists.specs.Chains.{edge_chain, HasList}
 use Rattle.core_kept.proofs.ByKind.{after_event}
+use Rattle.core_kept.proofs.ByKind.{since_still}
 use Rattle.core_lists.proofs.VertexEffects.{next_state, ListsStay}
 use Rattle.core_lists.proofs.ListHoldsKept.{listing, has_open}
 use Rattle.core_lists.proofs.ListChains.{list_chain, IsOffLists, idle_list, untouched, off_mark, off_close, IsListSpot}
 use Rattle.core_lists.proofs.ListChains.{link_spot, link_inserts, link_others, cut_spot, cut_unlinks, cut_others}
-use Rattle.core_lists.proofs.ListChains.{mark_sets, since_still}
+use Rattle.core_lists.proofs.ListChains.{mark_sets}
 use Rattle.core_lists.proofs.FrozenPart.{IsEnd, frozen_end, frozen_to}
 
 module _ (sizes : Sizes) (z : IsLayout sizes) (past : List Event) (e : Event) (kept : IsKept sizes past) where

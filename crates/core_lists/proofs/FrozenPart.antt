@@ -5,6 +5,7 @@ use Rattle.std.proofs.Common.{⊎_elim, inl, inr}
 use Rattle.std.specs.Prelude.{take_while}
 use mathlib.Core.Logic.{dite}
 use native.Mathlib.Decide.{ℕ_discrete}
+use Rattle.graph_kinds.specs.Levels.{stands_in}
 use Rattle.packed_link.specs.Link.{nowhere, index_of, mark_of, mark_bit}
 use Rattle.packed_link.specs.Layout.{Sizes, IsLayout, link_at}
 use Rattle.core_chain.specs.Chain.{Chain, Position, Head, Node, IsOn, Precedes}
@@ -20,7 +21,6 @@ use Rattle.core_kept.specs.Freezing.{IsFrozenWord}
 use Rattle.core_lists.specs.Chains.{list_word, edge_chain, HasList, FrozenParts}
 use Rattle.core_kept.proofs.LinkWords.{link_words}
 use Rattle.core_kept.proofs.Contents.{contents}
-use Rattle.core_kept.proofs.MetFromHead.{stands}
 use Rattle.core_kept.proofs.NodesOnLists.{yes_no, stands_case, stands_here, stands_later, part_more, part_end}
 use Rattle.core_lists.proofs.ListHolds.{part_listed}
 use Rattle.core_lists.proofs.ListHoldsKept.{listing, IsOpenIn, has_open}
@@ -32,18 +32,19 @@ pub record IsEnd (sizes : Sizes) (journal : List Event) (x place : ℕ) : Type 0
   pub place_is : list_word sizes x at ≡ place
   pub on : IsOn (edge_chain sizes journal x) at
   pub head : (state sizes journal).frozen x ≡ true
-  pub part : (y : ℕ) → at ≡ Node y → stands y (frozen_part (state sizes journal) x) ≡ true
+  pub part : (y : ℕ) → at ≡ Node y → stands_in (frozen_part (state sizes journal) x) y ≡ true
 
 pub frozen_end : (sizes : Sizes) (journal : List Event) (x place : ℕ) → IsFrozenWord sizes journal x place
     → IsEnd sizes journal x place
 frozen_end sizes journal x place f = ⊎_elim
     (λ h. record { at = Head; place_is = sym h; on = tt; head = f.head; part = λ y p. absurd (cc) })
-    (λ (h : (y : ℕ) × (stands y (frozen_part (state sizes journal) x) ≡ true) × (place ≡ link_at sizes y)). record {
+    (λ (h : (y : ℕ) × (stands_in (frozen_part (state sizes journal) x) y ≡ true) × (place ≡ link_at sizes y)). record {
       at = Node h.0;
       place_is = sym h.2;
       on = part_listed (state sizes journal).node (state sizes journal).edges (state sizes journal).frozen x h.0 h.1;
       head = f.head;
-      part = λ y p. let q : h.0 ≡ y = cc in subst (λ (v : ℕ). stands v (frozen_part (state sizes journal) x) ≡ true) q
+      part = λ y p. let q : h.0 ≡ y = cc in subst (λ (v : ℕ). stands_in (frozen_part (state sizes journal) x) v ≡ true)
+          q
           h.1;
     })
     f.at
@@ -71,7 +72,8 @@ frozen_parts sizes z journal kept =
     }
 
 -- each node that rises behind a word stands behind it
-rises_behind : (c : Chain) (p : Position) (xs : List ℕ) (v : ℕ) → RisesAlong c p xs → stands v xs ≡ true → Precedes c p
+rises_behind : (c : Chain) (p : Position) (xs : List ℕ) (v : ℕ) → RisesAlong c p xs → stands_in xs v ≡ true →
+    Precedes c p
     (Node v)
 rises_behind c p [] v rising on = absurd (cc)
 rises_behind c p (x ∷ xs) v rising on =
@@ -79,25 +81,27 @@ rises_behind c p (x ∷ xs) v rising on =
     (λ _ later. before_then c p (Node x) (Node v) rising.0 (rises_behind c (Node x) xs v rising.1 later))
 
 -- what stands no further than a node of the longest part that passes a test is in it, where the nodes rise
-part_before : (c : Chain) (test : ℕ → Bool) (p : Position) (xs : List ℕ) (y v : ℕ) → RisesAlong c p xs → stands y
-    (take_while test xs) ≡ true → stands v xs ≡ true → (Precedes c (Node y) (Node v) → ⊥) → stands v
-    (take_while test xs) ≡ true
+part_before : (c : Chain) (test : ℕ → Bool) (p : Position) (xs : List ℕ) (y v : ℕ) → RisesAlong c p xs → stands_in
+    (take_while test xs)
+    y ≡ true → stands_in xs v ≡ true → (Precedes c (Node y) (Node v) → ⊥) → stands_in (take_while test xs)
+    v ≡ true
 part_before c test p [] y v rising h on not_behind = absurd (cc)
-part_before c test p (x ∷ xs) y v rising h on not_behind = yes_no (stands v (take_while test (x ∷ xs)) ≡ true) (test x)
-    (λ e. ap (λ (l : List ℕ). stands v l) (part_more test x xs e) ∙ stands_case
-    (stands v (x ∷ take_while test xs) ≡ true) x v xs on
+part_before c test p (x ∷ xs) y v rising h on not_behind =
+    yes_no (stands_in (take_while test (x ∷ xs)) v ≡ true) (test x)
+    (λ e. ap (λ (l : List ℕ). stands_in l v) (part_more test x xs e) ∙ stands_case
+    (stands_in (x ∷ take_while test xs) v ≡ true) x v xs on
     (λ same. stands_here x v (take_while test xs) same)
-    (λ _ later. stands_later x v (take_while test xs) (stands_case (stands v (take_while test xs) ≡ true) x y
-    (take_while test xs) (sym (ap (λ (l : List ℕ). stands y l) (part_more test x xs e)) ∙ h)
+    (λ _ later. stands_later x v (take_while test xs) (stands_case (stands_in (take_while test xs) v ≡ true) x y
+    (take_while test xs) (sym (ap (λ (l : List ℕ). stands_in l y) (part_more test x xs e)) ∙ h)
     (λ same. absurd (not_behind (subst (λ (u : ℕ). Precedes c (Node u) (Node v)) same
     (rises_behind c (Node x) xs v rising.1 later))))
     (λ _ more. part_before c test (Node x) xs y v rising.1 more later not_behind))))
-    (λ e. let t : false ≡ true = sym (ap (λ (l : List ℕ). stands y l) (part_end test x xs e)) ∙ h in absurd (cc))
+    (λ e. let t : false ≡ true = sym (ap (λ (l : List ℕ). stands_in l y) (part_end test x xs e)) ∙ h in absurd (cc))
 
 module _ (sizes : Sizes) (z : IsLayout sizes) (journal : List Event) (kept : IsKept sizes journal) (x : ℕ)
     (o : IsOpenIn sizes (state sizes journal) x) (head : (state sizes journal).frozen x ≡ true) where
   -- the links of the frozen part are marked
-  part_links : (v : ℕ) → stands v (frozen_part (state sizes journal) x) ≡ true → mark_of
+  part_links : (v : ℕ) → stands_in (frozen_part (state sizes journal) x) v ≡ true → mark_of
       (word_at sizes journal (link_at sizes v)) ≡ 1
   part_links v h =
       let c = listing sizes z journal kept in
@@ -106,7 +110,7 @@ module _ (sizes : Sizes) (z : IsLayout sizes) (journal : List Event) (kept : IsK
       (((link_words sizes z journal kept).each v there).spent (c.handed x v o h)).marked
 
   -- and so are all words up to one of it
-  before_marked : (at p : Position) → ((y : ℕ) → at ≡ Node y → stands y (frozen_part (state sizes journal) x) ≡ true)
+  before_marked : (at p : Position) → ((y : ℕ) → at ≡ Node y → stands_in (frozen_part (state sizes journal) x) y ≡ true)
       → IsOn (edge_chain sizes journal x) p → (Precedes (edge_chain sizes journal x) at p → ⊥) →
       (edge_chain sizes journal x).mark p ≡ 1
   before_marked at Head part on not_behind = (((contents sizes z journal kept).each x o.there).vertex o.used
@@ -115,12 +119,14 @@ module _ (sizes : Sizes) (z : IsLayout sizes) (journal : List Event) (kept : IsK
   before_marked (Node y) (Node v) part on not_behind =
       let s : State = state sizes journal in
       let test : ℕ → Bool = λ u. (s.node u).marked in
-      let h : stands y (take_while test (s.edges x)) ≡ true = subst
-      (λ (b : Bool). stands y (cond b (take_while test (s.edges x)) []) ≡ true) head (part y refl) in
+      let h : stands_in (take_while test (s.edges x)) y ≡ true = subst
+      (λ (b : Bool). stands_in (cond b (take_while test (s.edges x)) []) y ≡ true) head (part y refl) in
       let rising = (list_met sizes z journal kept x o).rising in
-      let in_part : stands v (take_while test (s.edges x)) ≡ true = part_before (edge_chain sizes journal x) test Head
+      let in_part : stands_in (take_while test (s.edges x)) v ≡ true =
+      part_before (edge_chain sizes journal x) test Head
       (s.edges x) y v rising h on not_behind in
-      part_links v (subst (λ (b : Bool). stands v (cond b (take_while test (s.edges x)) []) ≡ true) (sym head) in_part)
+      part_links v (subst (λ (b : Bool). stands_in (cond b (take_while test (s.edges x)) []) v ≡ true) (sym head)
+      in_part)
 
 -- the frozen words of a list are a frozen part of its chain
 pub frozen_to : (sizes : Sizes) → IsLayout sizes → (journal : List Event) → IsKept sizes journal → (x : ℕ)

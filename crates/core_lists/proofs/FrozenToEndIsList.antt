@@ -3,6 +3,7 @@ use Rattle.std.proofs.Common.{◌≡◌, ◌≢◌, ◌⊎◌, ◌↔◌, ℕ, �
 use Rattle.std.proofs.Common.{ap, ◌∙◌, subst, arith, ⊎_elim, inl, inr}
 use mathlib.Core.Logic.{dite}
 use native.Mathlib.Decide.{ℕ_discrete}
+use Rattle.graph_kinds.specs.Levels.{stands_in}
 use Rattle.packed_link.specs.Link.{nowhere, index_of, mark_of}
 use Rattle.packed_link.specs.Layout.{Sizes, IsLayout, second_at}
 use Rattle.packed_link.specs.declared.link.Life.{Life}
@@ -24,6 +25,7 @@ use Rattle.core_kept.specs.Nodes.{node_in, IsUsed, is_listed}
 use Rattle.core_kept.specs.Freezing.{IsFrozenWord}
 use Rattle.core_lists.specs.Chains.{list_word, edge_chain, life_in, HasList, IsEdgeOf, IsInList, KeepsList}
 use Rattle.core_kept.proofs.ByKind.{IsAfter, KeepsIn, put_case, put_same, put_other, handed_case, marked_state}
+use Rattle.core_kept.proofs.ByKind.{since_still}
 use Rattle.core_kept.proofs.ByKind.{closed_state, all_in}
 use Rattle.core_kept.proofs.LinkWords.{link_words, taken}
 use Rattle.core_kept.proofs.Contents.{contents}
@@ -34,13 +36,12 @@ use Rattle.core_kept.proofs.EdgeEnds.{new_edge}
 use Rattle.core_kept.proofs.ReplaceCases.{new_edge_node, replaced_case}
 use Rattle.core_kept.proofs.LinkedVertices.{unlinked_skip, unlinked_other, life_of}
 use Rattle.core_kept.proofs.NodesInPlace.{used_there}
-use Rattle.core_kept.proofs.MetFromHead.{stands}
 use Rattle.core_kept.proofs.NodesOnLists.{IsWordOf, unlinked_was, linked_was, linked_none, yes_no}
 use Rattle.core_lists.proofs.ListHolds.{IsFinished, open_mode}
 use Rattle.core_lists.proofs.ListHoldsKept.{listing, link_only, link_joins, replace_joins, not_closed, IsOpenIn}
 use Rattle.core_lists.proofs.ListHoldsKept.{has_open}
 use Rattle.core_lists.proofs.ListingsBehindSteps.{joins_unfinished, popped_was}
-use Rattle.core_lists.proofs.ListChains.{IsList, IsOff, IsLinkedStill, since_still, lists, list_after, untouched, stays}
+use Rattle.core_lists.proofs.ListChains.{IsList, IsOff, IsLinkedStill, lists, list_after, untouched, stays}
 use Rattle.core_lists.proofs.ListChains.{idle_stays, off_link, same_link, off_unlink, same_unlink, off_mark, off_close}
 use Rattle.core_lists.proofs.LivesOnLists.{still_life, not_cut, of_edge, StandsAll, stands_after, all_edges}
 use Rattle.core_lists.proofs.FrozenPart.{frozen_end}
@@ -54,7 +55,7 @@ record IsLinkedTo (journal : List Event) (source l : Life) : Type 0 where
 
 -- what stands on a list was linked as an edge of its vertex's life, given back or not
 record OfLists (journal : List Event) (s : State) : Type 0 where
-  pub on : (x y : ℕ) → stands y (s.edges x) ≡ true → IsLinkedTo journal (life_of x (s.node x)) (life_of y (s.node y))
+  pub on : (x y : ℕ) → stands_in (s.edges x) y ≡ true → IsLinkedTo journal (life_of x (s.node x)) (life_of y (s.node y))
 
 of_more : (past : List Event) (e : Event) (source l : Life) → IsLinkedTo past source l → IsLinkedTo
     (past ++ e ∷ []) source l
@@ -62,7 +63,7 @@ of_more past e source l h = record { link = h.link; is = link_more past (e ∷ [
 
 -- an event that changes no life and adds to no list
 of_still : (past : List Event) (e : Event) (s s' : State) → ((x : ℕ) → life_of x (s'.node x) ≡ life_of x (s.node x)) →
-    ((x y : ℕ) → stands y (s'.edges x) ≡ true → stands y (s.edges x) ≡ true) → OfLists past s → OfLists
+    ((x y : ℕ) → stands_in (s'.edges x) y ≡ true → stands_in (s.edges x) y ≡ true) → OfLists past s → OfLists
     (past ++ e ∷ []) s'
 of_still past e s s' same less c = record {
   on = λ x y h. subst (λ (l : Life). IsLinkedTo (past ++ e ∷ []) l (life_of y (s'.node y))) (sym (same x))
@@ -97,7 +98,7 @@ of_lists_step sizes z past e kept c ReplaceEdge is ok w a = record {
       subst (λ (l : Life). IsLinkedTo (past ++ e ∷ []) l (life_of y (s'.node y)))
       (sym (still_life ReplaceEdge tt sizes e s x)) (subst (IsLinkedTo (past ++ e ∷ []) (life_of x (s.node x)))
       (sym (still_life ReplaceEdge tt sizes e s y)) (⊎_elim
-      (λ (t : stands y (s.edges x) ≡ true). of_more past e _ _ (c.on x y t))
+      (λ (t : stands_in (s.edges x) y ≡ true). of_more past e _ _ (c.on x y t))
       (λ (t : (y ≡ e.life.index) × IsWordOf sizes (second_at sizes x) e.place (s.edges x)).
       let home : x ≡ e.source.index = j.only x t.1 in
       let this : life_of y (s.node y) ≡ e.life = sym (life_is e.life y (s.node y).tag (sym t.0)
@@ -122,7 +123,7 @@ of_lists_step sizes z past e kept c LinkEdge is ok w a = record {
       subst (λ (l : Life). IsLinkedTo (past ++ e ∷ []) l (life_of y (s'.node y)))
       (sym (still_life LinkEdge tt sizes e s x)) (subst (IsLinkedTo (past ++ e ∷ []) (life_of x (s.node x)))
       (sym (still_life LinkEdge tt sizes e s y)) (⊎_elim
-      (λ (t : stands y (s.edges x) ≡ true). of_more past e _ _ (c.on x y t))
+      (λ (t : stands_in (s.edges x) y ≡ true). of_more past e _ _ (c.on x y t))
       (λ (t : (y ≡ e.life.index) × _).
       let home : x ≡ e.source.index = link_only sizes z past e kept (listing sizes z past kept) ok x t.1 in
       let this : life_of y (s.node y) ≡ e.life = sym (life_is e.life y (s.node y).tag (sym t.0)
@@ -341,11 +342,12 @@ module _ (sizes : Sizes) (z : IsLayout sizes) (past : List Event) (e : Event) (k
     (b : IsUnbroken sizes past (state sizes past) x) (f : IsFinished (state sizes past).node (state sizes past).edges
     (state sizes past).frozen x) where
   -- its edges are in their lives
-  held_on : (y : ℕ) → stands y ((state sizes past).edges x) ≡ true → IsHeldIn (state sizes past) (life_in sizes past y)
+  held_on : (y : ℕ) → stands_in ((state sizes past).edges x) y ≡ true →
+      IsHeldIn (state sizes past) (life_in sizes past y)
   held_on y h = let d = edge_on sizes z past kept x y h in b.each (life_in sizes past y) d.link d.is d.from d.stays
 
-  closed_unfree : (node_in sizes past e.life.index).mode ≡ Free → stands e.life.index
-      ((state sizes past).edges x) ≡ true → ⊥
+  closed_unfree : (node_in sizes past e.life.index).mode ≡ Free → stands_in ((state sizes past).edges x)
+      e.life.index ≡ true → ⊥
   closed_unfree m h = subst IsUsed m (held_on e.life.index h).used
 
   -- the source of an edge that is linked, marked or unlinked has a list that isn't frozen to its end
@@ -355,12 +357,12 @@ module _ (sizes : Sizes) (z : IsLayout sizes) (past : List Event) (e : Event) (k
       (subst (IsFinished (state sizes past).node (state sizes past).edges (state sizes past).frozen) same f)
 
   -- no edge of its list is fresh
-  unfresh : (y : ℕ) → stands y ((state sizes past).edges x) ≡ true → y ≡ e.life.index →
+  unfresh : (y : ℕ) → stands_in ((state sizes past).edges x) y ≡ true → y ≡ e.life.index →
       (node_in sizes past e.life.index).mode ≢ Fresh
   unfresh y on same m = ((listing sizes z past kept).on x y on).unfresh
       (ap (λ (i : ℕ). (node_in sizes past i).mode) same ∙ m)
 
-  closed_after : (k : Kind) → (k ≡ StoreFree → stands e.life.index ((state sizes past).edges x) ≡ true → ⊥)
+  closed_after : (k : Kind) → (k ≡ StoreFree → stands_in ((state sizes past).edges x) e.life.index ≡ true → ⊥)
       → AllowedAs k sizes past e → (w : ℕ → ℕ) → IsAfter sizes past e w → IsList sizes (state sizes past)
       (word_at sizes past) x → IsList sizes (state_by k sizes e (state sizes past)) w x
   closed_after LinkEdge u ok w a old =
@@ -459,7 +461,7 @@ closed_case sizes z past e kept k is ok w a c x b q =
     (finished_or s.node s.edges s.frozen x)
   where
     apart : IsUnbroken sizes past (state sizes past) x → (j : Kind) → j ≡ PopFree → AllowedAs j sizes past e →
-        (x ≢ e.life.index) × (stands e.life.index ((state sizes past).edges x) ≡ true → ⊥)
+        (x ≢ e.life.index) × (stands_in ((state sizes past).edges x) e.life.index ≡ true → ⊥)
     apart old PopFree pops ok =
         let free = (taken sizes z past e kept ok).free in (
           (λ same. subst IsUsed (ap (λ (i : ℕ). (node_in sizes past i).mode) same ∙ free) q.0),
@@ -468,7 +470,7 @@ closed_case sizes z past e kept k is ok w a c x b q =
         )
     apart old _ pops ok = absurd (cc)
 
-    not_stored : k ≡ StoreFree → stands e.life.index ((state sizes past).edges x) ≡ true → ⊥
+    not_stored : k ≡ StoreFree → stands_in ((state sizes past).edges x) e.life.index ≡ true → ⊥
     not_stored stores h =
         let s : State = state sizes past in
         let d = edge_on sizes z past kept x e.life.index h in

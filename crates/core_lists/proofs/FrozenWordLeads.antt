@@ -2,6 +2,7 @@
 -- list ends.
 use Rattle.std.proofs.Common.{◌≡◌, ◌≢◌, ℕ, List, [], ◌∷◌, Bool, true, false, cond, refl, sym, ap, ◌∙◌, subst}
 use Rattle.std.specs.Prelude.{take_while}
+use Rattle.graph_kinds.specs.Levels.{stands_in}
 use Rattle.packed_link.specs.Link.{nowhere, index_of}
 use Rattle.packed_link.specs.Layout.{Sizes, IsLayout}
 use Rattle.core_chain.specs.Chain.{Chain, Position, Head, Node}
@@ -13,47 +14,48 @@ use Rattle.core_kept.specs.Kept.{IsKept}
 use Rattle.core_kept.specs.Nodes.{node_in, IsFrozenToEnd, is_frozen}
 use Rattle.core_kept.specs.Freezing.{IsFrozenWord}
 use Rattle.core_lists.specs.Chains.{list_word, edge_chain, KeepsList}
-use Rattle.core_kept.proofs.MetFromHead.{stands}
 use Rattle.core_kept.proofs.NodesOnLists.{yes_no, stands_case, stands_here, stands_later, part_more, part_end}
 use Rattle.core_lists.proofs.FrozenPart.{frozen_end}
 use Rattle.core_lists.proofs.FrozenToEndIsList.{kept_met}
 
 module _ (c : Chain) (test : ℕ → Bool) where
   first_in : (p : Position) (xs : List ℕ) (y : ℕ) → MeetsFrom c p xs → c.next p ≡ y → y ≢ nowhere → test y ≡ true
-      → stands y (take_while test xs) ≡ true
+      → stands_in (take_while test xs) y ≡ true
   first_in p [] y m n some t = absurd (some (sym n ∙ m))
   first_in p (x ∷ xs) y m n some t =
       let same : x ≡ y = sym m.0 ∙ n in
       let yes : test x ≡ true = ap test same ∙ t in
-      ap (λ (l : List ℕ). stands y l) (part_more test x xs yes) ∙ stands_here x y (take_while test xs) same
+      ap (λ (l : List ℕ). stands_in l y) (part_more test x xs yes) ∙ stands_here x y (take_while test xs) same
 
-  later_in : (p : Position) (xs : List ℕ) (z y : ℕ) → MeetsFrom c p xs → stands z (take_while test xs) ≡ true → c.next
-      (Node z) ≡ y → y ≢ nowhere → test y ≡ true → stands y (take_while test xs) ≡ true
+  later_in : (p : Position) (xs : List ℕ) (z y : ℕ) → MeetsFrom c p xs → stands_in (take_while test xs) z ≡ true →
+      c.next
+      (Node z) ≡ y → y ≢ nowhere → test y ≡ true → stands_in (take_while test xs) y ≡ true
   later_in p [] z y m h n some t = absurd (cc)
-  later_in p (x ∷ xs) z y m h n some t = yes_no (stands y (take_while test (x ∷ xs)) ≡ true) (test x)
-      (λ e. ap (λ (l : List ℕ). stands y l) (part_more test x xs e) ∙ stands_later x y (take_while test xs)
-      (stands_case (stands y (take_while test xs) ≡ true) x z (take_while test xs)
-      (sym (ap (λ (l : List ℕ). stands z l) (part_more test x xs e)) ∙ h)
+  later_in p (x ∷ xs) z y m h n some t = yes_no (stands_in (take_while test (x ∷ xs)) y ≡ true) (test x)
+      (λ e. ap (λ (l : List ℕ). stands_in l y) (part_more test x xs e) ∙ stands_later x y (take_while test xs)
+      (stands_case (stands_in (take_while test xs) y ≡ true) x z (take_while test xs)
+      (sym (ap (λ (l : List ℕ). stands_in l z) (part_more test x xs e)) ∙ h)
       (λ same. first_in (Node x) xs y m.2 (ap (λ (u : ℕ). c.next (Node u)) same ∙ n) some t)
       (λ _ later. later_in (Node x) xs z y m.2 later n some t)))
-      (λ e. let f : false ≡ true = sym (ap (λ (l : List ℕ). stands z l) (part_end test x xs e)) ∙ h in absurd (cc))
+      (λ e. let f : false ≡ true = sym (ap (λ (l : List ℕ). stands_in l z) (part_end test x xs e)) ∙ h in absurd (cc))
 
-  first_ends : (p : Position) (xs : List ℕ) (v : ℕ) → MeetsFrom c p xs → c.next p ≡ nowhere → stands v xs ≡ true
+  first_ends : (p : Position) (xs : List ℕ) (v : ℕ) → MeetsFrom c p xs → c.next p ≡ nowhere → stands_in xs v ≡ true
       → test v ≡ true
   first_ends p [] v m n h = absurd (cc)
   first_ends p (x ∷ xs) v m n h = absurd (m.1 (sym m.0 ∙ n))
 
-  later_ends : (p : Position) (xs : List ℕ) (z v : ℕ) → MeetsFrom c p xs → stands z (take_while test xs) ≡ true → c.next
-      (Node z) ≡ nowhere → stands v xs ≡ true → test v ≡ true
+  later_ends : (p : Position) (xs : List ℕ) (z v : ℕ) → MeetsFrom c p xs → stands_in (take_while test xs) z ≡ true →
+      c.next
+      (Node z) ≡ nowhere → stands_in xs v ≡ true → test v ≡ true
   later_ends p [] z v m h n on = absurd (cc)
   later_ends p (x ∷ xs) z v m h n on = yes_no (test v ≡ true) (test x)
       (λ e. stands_case (test v ≡ true) x v xs on
       (λ same. ap test (sym same) ∙ e)
       (λ _ behind. stands_case (test v ≡ true) x z (take_while test xs)
-      (sym (ap (λ (l : List ℕ). stands z l) (part_more test x xs e)) ∙ h)
+      (sym (ap (λ (l : List ℕ). stands_in l z) (part_more test x xs e)) ∙ h)
       (λ same. first_ends (Node x) xs v m.2 (ap (λ (u : ℕ). c.next (Node u)) same ∙ n) behind)
       (λ _ later. later_ends (Node x) xs z v m.2 later n behind)))
-      (λ e. let f : false ≡ true = sym (ap (λ (l : List ℕ). stands z l) (part_end test x xs e)) ∙ h in absurd (cc))
+      (λ e. let f : false ≡ true = sym (ap (λ (l : List ℕ). stands_in l z) (part_end test x xs e)) ∙ h in absurd (cc))
 
 module _ (sizes : Sizes) (z : IsLayout sizes) (journal : List Event) (kept : IsKept sizes journal) (x place : ℕ)
     (k : KeepsList sizes journal x) (f : IsFrozenWord sizes journal x place) where
@@ -63,11 +65,11 @@ module _ (sizes : Sizes) (z : IsLayout sizes) (journal : List Event) (kept : IsK
   abbrev list : List ℕ
   list = (state sizes journal).edges x
 
-  in_list : (y : ℕ) → is_frozen (state sizes journal) x y ≡ true → stands y (take_while test list) ≡ true
-  in_list y h = subst (λ (b : Bool). stands y (cond b (take_while test list) []) ≡ true) f.head h
+  in_list : (y : ℕ) → is_frozen (state sizes journal) x y ≡ true → stands_in (take_while test list) y ≡ true
+  in_list y h = subst (λ (b : Bool). stands_in (cond b (take_while test list) []) y ≡ true) f.head h
 
-  in_part : (y : ℕ) → stands y (take_while test list) ≡ true → is_frozen (state sizes journal) x y ≡ true
-  in_part y h = subst (λ (b : Bool). stands y (cond b (take_while test list) []) ≡ true) (sym f.head) h
+  in_part : (y : ℕ) → stands_in (take_while test list) y ≡ true → is_frozen (state sizes journal) x y ≡ true
+  in_part y h = subst (λ (b : Bool). stands_in (cond b (take_while test list) []) y ≡ true) (sym f.head) h
 
   next_at : (at : Position) → list_word sizes x at ≡ place → ((v : ℕ) → at ≡ Node v → is_frozen
       (state sizes journal) x v ≡ true) → (y : ℕ) → index_of (word_at sizes journal place) ≡ y → y ≢ nowhere
@@ -85,7 +87,7 @@ module _ (sizes : Sizes) (z : IsLayout sizes) (journal : List Event) (kept : IsK
 
   ends_at : (at : Position) → list_word sizes x at ≡ place → ((v : ℕ) → at ≡ Node v → is_frozen
       (state sizes journal) x v ≡ true) → index_of (word_at sizes journal place) ≡ nowhere → (v : ℕ)
-      → stands v list ≡ true → test v ≡ true
+      → stands_in list v ≡ true → test v ≡ true
   ends_at Head is part none v on = first_ends (edge_chain sizes journal x) test Head list v
       (kept_met sizes z journal kept x k).met (ap (λ (i : ℕ). index_of (word_at sizes journal i)) is ∙ none) on
   ends_at (Node u) is part none v on = later_ends (edge_chain sizes journal x) test Head list u v

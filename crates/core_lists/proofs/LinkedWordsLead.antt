@@ -7,6 +7,7 @@ use Rattle.std.specs.Prelude.{take_while}
 use Rattle.std.proofs.lemmas.List.Sums.{take_while-cons}
 use mathlib.Core.Logic.{dite}
 use native.Mathlib.Decide.{ℕ_discrete}
+use Rattle.graph_kinds.specs.Levels.{stands_in}
 use Rattle.packed_link.specs.Link.{index_of, mark_of, nowhere}
 use Rattle.packed_link.specs.Layout.{Sizes, IsLayout, bucket_at, key_at, link_at, second_at}
 use Rattle.packed_link.specs.declared.link.Life.{Life}
@@ -27,7 +28,6 @@ use Rattle.core_lists.proofs.ListChains.{lists}
 use Rattle.core_kept.proofs.LinkWords.{mark_isnt}
 use Rattle.core_kept.proofs.NodesOnLists.{stands_case, stands_here, stands_later, yes_no}
 use Rattle.core_lists.proofs.ListHoldsKept.{listing, sources, has_open}
-use Rattle.core_kept.proofs.MetFromHead.{stands}
 use Rattle.core_kept.proofs.NodesInPlace.{used_there}
 
 -- the word of a bucket, or the link of a linked vertex of it, leads to linked vertices
@@ -50,20 +50,21 @@ node_of (Node x) = x
 -- along a chain, a word behind which a node of the longest prefix that passes a test stands is the first, or of that
 -- prefix
 before_part : (c : Chain) → IsChain c → (test : ℕ → Bool) (p : ℕ) → IsOn c (Node p) → (q : Position) (xs : List ℕ)
-    → IsOn c q → MeetsFrom c q xs → Precedes c q (Node p) → c.next (Node p) ≢ nowhere → stands (c.next (Node p))
-    (take_while test xs) ≡ true → stands p (take_while test xs) ≡ true
+    → IsOn c q → MeetsFrom c q xs → Precedes c q (Node p) → c.next (Node p) ≢ nowhere → stands_in (take_while test xs)
+    (c.next (Node p)) ≡ true → stands_in (take_while test xs) p ≡ true
 before_part c is test p on q [] here met before some h = absurd (cc)
 before_part c is test p on q (a ∷ rest) here met before some h =
     let leads : c.next q ≡ a = met.0 in
     let there = is.leads q here (λ none. met.1 (sym leads ∙ none)) in
     let on_a : IsOn c (Node a) = subst (λ (y : ℕ). IsOn c (Node y)) leads there.0 in
-    let next : Precedes c (Node a) (Node p) → stands (c.next (Node p)) (take_while test rest) ≡ true → stands p
-    (take_while test rest) ≡ true = λ low. before_part c is test p on (Node a) rest on_a met.2 low some in
-    yes_no (stands p (take_while test (a ∷ rest)) ≡ true) (test a)
-    (λ t. ap (λ (l : List ℕ). stands p l) (take_while-cons test a rest ∙ ap
+    let next : Precedes c (Node a) (Node p) → stands_in (take_while test rest) (c.next (Node p)) ≡ true → stands_in
+    (take_while test rest)
+    p ≡ true = λ low. before_part c is test p on (Node a) rest on_a met.2 low some in
+    yes_no (stands_in (take_while test (a ∷ rest)) p ≡ true) (test a)
+    (λ t. ap (λ (l : List ℕ). stands_in l p) (take_while-cons test a rest ∙ ap
     (λ (b : Bool). cond b (a ∷ take_while test rest) []) t)
-    ∙ stands_case (stands p (a ∷ take_while test rest) ≡ true) a (c.next (Node p)) (take_while test rest)
-    (sym (ap (λ (l : List ℕ). stands (c.next (Node p)) l)
+    ∙ stands_case (stands_in (a ∷ take_while test rest) p ≡ true) a (c.next (Node p)) (take_while test rest)
+    (sym (ap (λ (l : List ℕ). stands_in l (c.next (Node p)))
     (take_while-cons test a rest ∙ ap (λ (b : Bool). cond b (a ∷ take_while test rest) []) t)) ∙ h)
     (λ same. let one : Node p ≡ q = one_leads c (Node p) q is on here some (sym same ∙ sym leads) in absurd
     (before_same c q (Node p) before (sym one)))
@@ -74,8 +75,8 @@ before_part c is test p on q (a ∷ rest) here met before some h =
     (λ low. next low later)
     (λ high. absurd (is.gap q (Node p) here on before (subst (λ (y : ℕ). Precedes c (Node p) (Node y))
     (sym leads) high)))))))
-    (λ f. let none : stands (c.next (Node p)) [] ≡ true = sym
-    (ap (λ (l : List ℕ). stands (c.next (Node p)) l) (take_while-cons test a rest ∙ ap
+    (λ f. let none : stands_in [] (c.next (Node p)) ≡ true = sym
+    (ap (λ (l : List ℕ). stands_in l (c.next (Node p))) (take_while-cons test a rest ∙ ap
     (λ (b : Bool). cond b (a ∷ take_while test rest) []) f)) ∙ h in absurd (cc))
 
 -- the unmarked second word of a vertex, or the unmarked link of an edge of it, leads to linked edges
@@ -114,8 +115,8 @@ module _ (sizes : Sizes) (z : IsLayout sizes) (journal : List Event) (kept : IsK
   leads_from_open x y v f next there =
       let has = head_list x v f in
       edge_of x.index y has (on_list x.index y Head has tt next there)
-      (ap (λ (b : Bool). stands y (cond b (take_while (λ i. (node_in sizes journal i).marked)
-      ((state sizes journal).edges x.index)) [])) f)
+      (ap (λ (b : Bool). stands_in (cond b (take_while (λ i. (node_in sizes journal i).marked)
+      ((state sizes journal).edges x.index)) []) y) f)
 
   pub leads_from_head : (x : Life) (y : ℕ) → IsVertex sizes journal x → mark_of
       (word_at sizes journal (second_at sizes x.index)) ≡ 0 → index_of
@@ -146,10 +147,11 @@ module _ (sizes : Sizes) (z : IsLayout sizes) (journal : List Event) (kept : IsK
           (state sizes journal) x p ≡ true
       frozen_before x p on chain met some h = by ((state sizes journal).frozen x) h
         where
-          by : (b : Bool) → stands ((edge_chain sizes journal x).next (Node p))
-              (cond b (take_while (λ i. (node_in sizes journal i).marked) ((state sizes journal).edges x)) []) ≡ true
-              → stands p (cond b (take_while (λ i. (node_in sizes journal i).marked) ((state sizes journal).edges x))
-              []) ≡ true
+          by : (b : Bool) → stands_in (cond b (take_while (λ i. (node_in sizes journal i).marked)
+              ((state sizes journal).edges x)) [])
+              ((edge_chain sizes journal x).next (Node p)) ≡ true
+              → stands_in (cond b (take_while (λ i. (node_in sizes journal i).marked) ((state sizes journal).edges x))
+              []) p ≡ true
           by true t = before_part (edge_chain sizes journal x) chain (λ i. (node_in sizes journal i).marked) p on Head
               ((state sizes journal).edges x) tt met (inl (omega arith)) some t
           by false t = absurd (cc)

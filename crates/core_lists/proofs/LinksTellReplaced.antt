@@ -220,15 +220,16 @@ module _ (sizes : Sizes) (z : IsLayout sizes) (journal : List Event) (kept : IsK
   -- what its link says to the journal
   module _ (x : Life) (there : x.index < sizes.nodes) (tag : x.tag ≡ (node_in sizes journal x.index).tag)
       (r : IsInReach sizes journal x.index) (d : LeadsToItsKey sizes journal x.index) where
-    abbrev Told : Type 0
-    Told = IsReplacedBy journal x (life_in sizes journal (index_of (word_at sizes journal (link_at sizes x.index))))
+    abbrev IsTheReplaced : Type 0
+    IsTheReplaced = IsReplacedBy journal x
+        (life_in sizes journal (index_of (word_at sizes journal (link_at sizes x.index))))
 
     -- not by an event that only marks it
     not_marked : (k : ℕ) (e : Event) (at : slice_get journal k ≡ Some e) → x ≡ e.life → e.life.tag ≡
         (node_in sizes (take k journal) e.life.index).tag → e.life.index < sizes.nodes → IsLinkedEdge sizes
         (take k journal) e.life.index → e.place ≡ link_at sizes e.life.index
         → mark_of (word_at sizes (take k journal) e.place) ≡ 0 → e.word ≡ with_mark
-        (word_at sizes (take k journal) e.place) → Told
+        (word_at sizes (take k journal) e.place) → IsTheReplaced
     not_marked k e at same life inside v place live word = absurd
         (marked_rises sizes z journal kept k e at e.life.index inside v place live word
         (sym (subst (λ (l : Life). l.tag ≡ (node_in sizes journal l.index).tag) same tag) ∙ life)
@@ -236,7 +237,7 @@ module _ (sizes : Sizes) (z : IsLayout sizes) (journal : List Event) (kept : IsK
         (subst (λ (l : Life). LeadsToItsKey sizes journal l.index) same d))
 
     told_by : (k : ℕ) (e : Event) → slice_get journal k ≡ Some e → (j : Kind) → e.kind ≡ j → cuts_edge j ≡ true
-        → x ≡ cond (replaces j) e.old e.life → AllowedAs j sizes (take k journal) e → Told
+        → x ≡ cond (replaces j) e.old e.life → AllowedAs j sizes (take k journal) e → IsTheReplaced
     told_by k e at MarkEdge is cuts same ok = not_marked k e at same ok.life ok.there ok.linked ok.place ok.unmarked
         ok.word
     told_by k e at FreezeEdge is cuts same ok = not_marked k e at same ok.life ok.there ok.linked ok.place ok.unmarked
@@ -253,7 +254,7 @@ module _ (sizes : Sizes) (z : IsLayout sizes) (journal : List Event) (kept : IsK
         record { number = k; event = e; at = at; kind = is; of_old = sym same; of_new = (old_leads x e.life tag r b).1 }
     told_by k e at _ is cuts same ok = absurd (cc)
 
-    pub told : (node_in sizes journal x.index).vertex ≡ false → Told
+    pub told : (node_in sizes journal x.index).vertex ≡ false → IsTheReplaced
     told edge =
         let used = reach_used sizes z journal kept x.index r in
         let mark = (used_link sizes z journal kept x.index there used).1 in

@@ -1,6 +1,6 @@
 -- The list of each vertex after each kept journal as a chain, and what each kind of event does to it.
+use Rattle.graph_kinds.specs.Levels.{stands_in}
 use Rattle.core_kept.proofs.Contents.{contents}
-use Rattle.core_journal.proofs.States.{counted_by}
 use Rattle.std.proofs.Common.{◌≡◌, ◌≢◌, ℕ, ◌<◌, true, false, List, [], refl, sym, ap, ◌∙◌, subst, arith, ⊎_elim, inl}
 use Rattle.std.proofs.Common.{inr, ◌≤◌, ◌+◌}
 use mathlib.Core.Logic.{dite}
@@ -26,7 +26,7 @@ use Rattle.core_journal.specs.declared.event.Kind.TheVariants.{UnlinkVertex, Lin
 use Rattle.core_journal.specs.declared.event.Kind.TheVariants.{ReplaceEdge, FreezeHead, FreezeEdge, StoreFree, PushFree}
 use Rattle.core_journal.specs.declared.event.Event.{Event}
 use Rattle.core_journal.specs.Machine.{word_at}
-use Rattle.core_journal.specs.State.{Free, Fresh, Linked, Spent, State, put, handed, linked_in, unlinked_from, state_by}
+use Rattle.core_journal.specs.State.{Free, Fresh, Linked, Spent, State, put, linked_in, unlinked_from, state_by}
 use Rattle.core_journal.specs.State.{state, joined_edge}
 use Rattle.core_journal.specs.State.{Node as Nodes}
 use Rattle.core_kept.specs.Kept.{AllowedAs, IsKept}
@@ -34,10 +34,11 @@ use Rattle.core_kept.specs.Nodes.{node_in, IsUsed, is_listed}
 use Rattle.core_kept.specs.Edges.{IsLinkEdge, IsUnlinkEdge, IsReplaceEdge}
 use Rattle.core_kept.specs.Vertices.{IsLinkVertex}
 use Rattle.core_lists.specs.Chains.{list_word, list_places, edge_chain, EdgeLists}
-use Rattle.core_kept.proofs.ByKind.{IsAfter, KeepsByKind, put_other, put_case, handed_case, marked_state, closed_state}
+use Rattle.core_kept.proofs.ByKind.{IsAfter, KeepsByKind, put_other, put_case, marked_state, IsNoJoin}
+use Rattle.core_kept.proofs.ByKind.{since_still, sinces, put_since, handed_since}
 use Rattle.core_kept.proofs.ByKind.{holds_all, writes_at, put_same}
 use Rattle.core_kept.proofs.LinkWords.{taken}
-use Rattle.core_kept.proofs.MetFromHead.{AreLinks, stands, meets_inserted, meets_unlinked, meets_marked}
+use Rattle.core_kept.proofs.MetFromHead.{AreLinks, meets_inserted, meets_unlinked, meets_marked}
 use Rattle.core_kept.proofs.MetFromHead.{meets_untouched, joins_linked, leaves_unlinked, meets_replaced}
 use Rattle.core_kept.proofs.NodesOnLists.{linked_none, unlinked_none, yes_no}
 use Rattle.core_lists.proofs.ListHolds.{ListingOf, open_mode}
@@ -94,12 +95,12 @@ marks sizes s s' w w' x at same step b = record {
 -- the place of an event is no word and no key of a list
 pub record IsOff (sizes : Sizes) (past : List Event) (e : Event) (x : ℕ) : Type 0 where
   pub head : e.place ≢ second_at sizes x
-  pub links : (y : ℕ) → stands y ((state sizes past).edges x) ≡ true → e.place ≢ link_at sizes y
-  pub keys : (y : ℕ) → stands y ((state sizes past).edges x) ≡ true → e.place ≢ key_at sizes y
+  pub links : (y : ℕ) → stands_in ((state sizes past).edges x) y ≡ true → e.place ≢ link_at sizes y
+  pub keys : (y : ℕ) → stands_in ((state sizes past).edges x) y ≡ true → e.place ≢ key_at sizes y
 
 -- the edges of a list stay linked by the same events
 abbrev pub IsLinkedStill : Sizes → List Event → State → ℕ → Type 0
-IsLinkedStill sizes past s' x = (y : ℕ) → stands y ((state sizes past).edges x) ≡ true → (s'.node y).since ≡
+IsLinkedStill sizes past s' x = (y : ℕ) → stands_in ((state sizes past).edges x) y ≡ true → (s'.node y).since ≡
     (node_in sizes past y).since
 
 -- an event that writes no word of a list leaves it as it is, where the list stays
@@ -108,7 +109,7 @@ pub untouched : (sizes : Sizes) (past : List Event) (e : Event) (w : ℕ → ℕ
     (state sizes past).edges x → Untouched (edge_chain sizes past x) (list_chain sizes s' w x)
 untouched sizes past e w s' x a off still same = record {
   since = λ y on. still y on;
-  nodes = λ y. ap (λ (l : List ℕ). stands y l) same;
+  nodes = λ y. ap (λ (l : List ℕ). stands_in l y) same;
   key = λ y on. a.else (key_at sizes y) (λ h. off.keys y on (sym h));
   next = λ p on. ap index_of (word p on);
   mark = λ p on. ap mark_of (word p on);
@@ -118,87 +119,6 @@ untouched sizes past e w s' x a off still same = record {
         (list_word sizes x p)
     word Head on = a.else (second_at sizes x) (λ h. off.head (sym h))
     word (Node y) on = a.else (link_at sizes y) (λ h. off.links y on (sym h))
-
--- the kinds that link no edge
-abbrev pub IsNoJoin : Kind → Type 0
-IsNoJoin LinkEdge = ⊥
-IsNoJoin ReplaceEdge = ⊥
-IsNoJoin _ = Unit {0}
-
-put_since : (s : State) (i : ℕ) (v : Nodes) → v.since ≡ (s.node i).since → (y : ℕ) → (put i v s.node y).since ≡
-    (s.node y).since
-put_since s i v h y = put_case (λ (n : Nodes). n.since ≡ (s.node y).since) i v s.node y
-    (λ same. h ∙ ap (λ (j : ℕ). (s.node j).since) (sym same)) (λ _. refl)
-
-handed_since : (x : ℕ) (s : State) (y : ℕ) → ((handed x s).node y).since ≡ (s.node y).since
-handed_since x s y = handed_case (λ (n : Nodes). n.since ≡ (s.node y).since) s x y refl (λ _ _ _. refl)
-
--- such an event leaves by which event a node was linked
-pub since_still : (k : Kind) → IsNoJoin k → (sizes : Sizes) (e : Event) (s : State) (y : ℕ) →
-    ((state_by k sizes e s).node y).since ≡ (s.node y).since
-since_still LinkEdge n sizes e s y = absurd n
-since_still ReplaceEdge n sizes e s y = absurd n
-since_still PopFree n sizes e s y = put_since s e.life.index _ refl y
-since_still LinkVertex n sizes e s y = put_since s e.life.index _ refl y
-since_still MarkVertex n sizes e s y = put_since s e.life.index _ refl y
-since_still UnlinkVertex n sizes e s y = put_since s e.life.index _ refl y
-since_still UnlinkEdge n sizes e s y = put_since s e.life.index _ refl y
-since_still StoreFree n sizes e s y = put_since s e.life.index _ refl y
-since_still PushFree n sizes e s y = put_since s e.life.index _ refl y
-since_still MarkEdge n sizes e s y = handed_since (s.node e.life.index).source.index (marked_state s e.life.index) y
-    ∙ put_since s e.life.index (record (s.node e.life.index) { marked = true }) refl y
-since_still FreezeEdge n sizes e s y = handed_since (s.node e.life.index).source.index (marked_state s e.life.index) y
-    ∙ put_since s e.life.index (record (s.node e.life.index) { marked = true }) refl y
-since_still FreezeHead n sizes e s y = handed_since e.life.index (closed_state s e.life.index) y
-since_still _ n sizes e s y = refl
-
--- each node was linked by an event before
-pub record Sinces (s : State) : Type 0 where
-  pub each : (x : ℕ) → (s.node x).since ≤ s.count
-
-sinces_step : (sizes : Sizes) → KeepsByKind sizes (λ (s : State) (w : ℕ → ℕ). Sinces s)
-sinces_step sizes past e kept c LinkEdge by ok w a = record {
-  each = λ x. put_case
-      (λ (v : Nodes). v.since ≤ (state sizes past).count + 1) e.life.index
-      (record (node_in sizes past e.life.index) {
-        mode = Linked;
-        vertex = false;
-        key = e.key;
-        source = e.source;
-        target =
-            e.target;
-        weight = e.weight;
-        since = (state sizes past).count + 1;
-      }) (state sizes past).node x (λ _. omega arith)
-      (λ _. omega (arith, c.each x));
-}
-sinces_step sizes past e kept c ReplaceEdge by ok w a = record {
-  each = λ x.
-      let s : State = state sizes past in
-      let j : State = joined_edge sizes e s in
-      let h = handed_since (j.node e.old.index).source.index (marked_state j e.old.index) x in
-      let p = put_since j e.old.index (record (j.node e.old.index) { marked = true }) refl x in
-      let q = put_case (λ (v : Nodes). v.since ≤ s.count + 1) e.life.index
-      (record (s.node e.life.index) {
-        mode = Linked;
-        vertex = false;
-        key = e.key;
-        source = e.source;
-        target =
-            e.target;
-        weight = e.weight;
-        since = s.count + 1;
-      }) s.node x (λ _. omega arith)
-      (λ _. omega (arith, c.each x)) in omega (arith, h, p, q);
-}
-sinces_step sizes past e kept c k by ok w a = record {
-  each = λ x. omega
-      (arith, since_still k tt sizes e (state sizes past) x, counted_by k sizes e (state sizes past), c.each x);
-}
-
-sinces : (sizes : Sizes) (journal : List Event) → IsKept sizes journal → Sinces (state sizes journal)
-sinces sizes journal kept = holds_all sizes (λ (s : State) (w : ℕ → ℕ). Sinces s) (sinces_step sizes)
-    (record { each = λ x. omega arith }) journal kept
 
 -- the kinds that change no list of edges
 abbrev pub IsOffLists : Kind → Type 0
@@ -212,7 +132,7 @@ IsOffLists _ = Unit {0}
 
 module _ (sizes : Sizes) (z : IsLayout sizes) (past : List Event) (e : Event) (kept : IsKept sizes past) (x : ℕ)
     (used : IsUsed (node_in sizes past x).mode)
-    (unfree : (node_in sizes past e.life.index).mode ≡ Free → stands e.life.index ((state sizes past).edges x) ≡ true
+    (unfree : (node_in sizes past e.life.index).mode ≡ Free → stands_in ((state sizes past).edges x) e.life.index ≡ true
     → ⊥) where
   here : ListingOf sizes (state sizes past)
   here = listing sizes z past kept
@@ -223,7 +143,8 @@ module _ (sizes : Sizes) (z : IsLayout sizes) (past : List Event) (e : Event) (k
   idle_joins _ n = tt
 
   -- such a kind writes no word of a list
-  off_idle : (k : Kind) → (k ≡ StoreFree → stands e.life.index ((state sizes past).edges x) ≡ true → ⊥) → IsOffLists k
+  off_idle : (k : Kind) → (k ≡ StoreFree → stands_in ((state sizes past).edges x) e.life.index ≡ true → ⊥) →
+      IsOffLists k
       → AllowedAs k sizes past e → IsOff sizes past e x
   off_idle LinkEdge u n ok = absurd n
   off_idle MarkEdge u n ok = absurd n
@@ -272,7 +193,7 @@ module _ (sizes : Sizes) (z : IsLayout sizes) (past : List Event) (e : Event) (k
   off_idle StoreFree u n ok = record {
     head = λ h. omega (arith, ok.place, h);
     links = λ y t h. let same : y ≡ e.life.index = omega (arith, ok.place, h) in u refl
-        (subst (λ (i : ℕ). stands i ((state sizes past).edges x) ≡ true) same t);
+        (subst (λ (i : ℕ). stands_in ((state sizes past).edges x) i ≡ true) same t);
     keys = λ y _ h. omega (arith, ok.place, h);
   }
   off_idle _ u n ok = record {
@@ -296,18 +217,18 @@ module _ (sizes : Sizes) (z : IsLayout sizes) (past : List Event) (e : Event) (k
       put_other e.life.index [] (λ y. unlinked_from e.life.index ((state sizes past).edges y)) x
       (λ same. subst IsUsed (ap (λ (i : ℕ). (node_in sizes past i).mode) same ∙ free) used)
       ∙ unlinked_none e.life.index ((state sizes past).edges x)
-      (yes_no (stands e.life.index ((state sizes past).edges x) ≡ false)
-      (stands e.life.index ((state sizes past).edges x)) (λ t. absurd (unfree free t)) (λ f. f))
+      (yes_no (stands_in ((state sizes past).edges x) e.life.index ≡ false)
+      (stands_in ((state sizes past).edges x) e.life.index) (λ t. absurd (unfree free t)) (λ f. f))
   same_idle _ n ok = refl
 
   -- so it leaves the list untouched
-  pub idle_any : (k : Kind) → (k ≡ StoreFree → stands e.life.index ((state sizes past).edges x) ≡ true → ⊥)
+  pub idle_any : (k : Kind) → (k ≡ StoreFree → stands_in ((state sizes past).edges x) e.life.index ≡ true → ⊥)
       → IsOffLists k → AllowedAs k sizes past e → (w : ℕ → ℕ) → IsAfter sizes past e w → Untouched
       (edge_chain sizes past x) (list_chain sizes (state_by k sizes e (state sizes past)) w x)
   idle_any k u n ok w a = untouched sizes past e w (state_by k sizes e (state sizes past)) x a (off_idle k u n ok)
       (λ y on. since_still k (idle_joins k n) sizes e (state sizes past) y) (same_idle k n ok)
 
-  pub idle_stays : (k : Kind) → (k ≡ StoreFree → stands e.life.index ((state sizes past).edges x) ≡ true → ⊥)
+  pub idle_stays : (k : Kind) → (k ≡ StoreFree → stands_in ((state sizes past).edges x) e.life.index ≡ true → ⊥)
       → IsOffLists k → AllowedAs k sizes past e → (w : ℕ → ℕ) → IsAfter sizes past e w → IsList sizes (state sizes past)
       (word_at sizes past) x → IsList sizes (state_by k sizes e (state sizes past)) w x
   idle_stays k u n ok w a b = stays sizes (state sizes past) (state_by k sizes e (state sizes past))
@@ -315,12 +236,13 @@ module _ (sizes : Sizes) (z : IsLayout sizes) (past : List Event) (e : Event) (k
 
 module _ (sizes : Sizes) (z : IsLayout sizes) (past : List Event) (e : Event) (kept : IsKept sizes past) (x : ℕ)
     (o : IsOpenIn sizes (state sizes past) x) where
-  open_unstored : (k : Kind) → AllowedAs k sizes past e → k ≡ StoreFree → stands e.life.index
-      ((state sizes past).edges x) ≡ true → ⊥
+  open_unstored : (k : Kind) → AllowedAs k sizes past e → k ≡ StoreFree → stands_in ((state sizes past).edges x)
+      e.life.index ≡ true → ⊥
   open_unstored StoreFree ok is t = let f = ok.list x o.there t in o.unfinished record { head = f.head; each = f.edges }
   open_unstored _ ok is t = absurd (cc)
 
-  open_unfree : (node_in sizes past e.life.index).mode ≡ Free → stands e.life.index ((state sizes past).edges x) ≡ true
+  open_unfree : (node_in sizes past e.life.index).mode ≡ Free → stands_in ((state sizes past).edges x) e.life.index
+      ≡ true
       → ⊥
   open_unfree free t = ⊎_elim (λ (m : (node_in sizes past e.life.index).mode ≡ Linked). absurd (cc))
       (λ (m : (node_in sizes past e.life.index).mode ≡ Spent). absurd (cc))
@@ -338,7 +260,7 @@ module _ (sizes : Sizes) (z : IsLayout sizes) (past : List Event) (e : Event) (k
 
 module _ (sizes : Sizes) (z : IsLayout sizes) (past : List Event) (e : Event) (kept : IsKept sizes past) (x : ℕ) where
   -- an edge on the list is one of its vertex
-  of_source : (y : ℕ) → stands y ((state sizes past).edges x) ≡ true → (node_in sizes past y).source.index ≡ x
+  of_source : (y : ℕ) → stands_in ((state sizes past).edges x) y ≡ true → (node_in sizes past y).source.index ≡ x
   of_source y t = ((listing sizes z past kept).on x y t).index
 
   -- what is linked to another list
@@ -365,8 +287,8 @@ module _ (sizes : Sizes) (z : IsLayout sizes) (past : List Event) (e : Event) (k
   pub same_unlink : x ≢ (node_in sizes past e.life.index).source.index → unlinked_from e.life.index
       ((state sizes past).edges x) ≡ (state sizes past).edges x
   same_unlink ne = unlinked_none e.life.index ((state sizes past).edges x)
-      (yes_no (stands e.life.index ((state sizes past).edges x) ≡ false)
-      (stands e.life.index ((state sizes past).edges x)) (λ t. absurd (ne (sym (of_source e.life.index t))))
+      (yes_no (stands_in ((state sizes past).edges x) e.life.index ≡ false)
+      (stands_in ((state sizes past).edges x) e.life.index) (λ t. absurd (ne (sym (of_source e.life.index t))))
       (λ f. f))
 
   -- what is marked on another list
@@ -393,7 +315,7 @@ pub record IsListSpot (sizes : Sizes) (past : List Event) (e : Event) (x : ℕ) 
   pub at : Position
   pub place : list_word sizes x at ≡ e.place
   pub on : IsOn (edge_chain sizes past x) at
-  pub behind : (y : ℕ) → at ≡ Node y → stands y ((state sizes past).edges x) ≡ true
+  pub behind : (y : ℕ) → at ≡ Node y → stands_in ((state sizes past).edges x) y ≡ true
 
 -- an edge is linked: it's inserted into the list of its source
 module _ (sizes : Sizes) (z : IsLayout sizes) (past : List Event) (e : Event) (kept : IsKept sizes past)
@@ -405,11 +327,11 @@ module _ (sizes : Sizes) (z : IsLayout sizes) (past : List Event) (e : Event) (k
   link_state = state_by LinkEdge sizes e (state sizes past)
 
   -- a linked edge of a source is on its list
-  link_behind : (y : ℕ) → y < sizes.nodes → e.place ≡ link_at sizes y → stands y
-      ((state sizes past).edges link_home) ≡ true
+  link_behind : (y : ℕ) → y < sizes.nodes → e.place ≡ link_at sizes y → stands_in ((state sizes past).edges link_home)
+      y ≡ true
   link_behind y t h =
       let f = ok.linked y h in
-      subst (λ (l : Life). stands y ((state sizes past).edges l.index) ≡ true) f.from
+      subst (λ (l : Life). stands_in ((state sizes past).edges l.index) y ≡ true) f.from
       ((listing sizes z past kept).source y t f.linked.linked f.linked.edge).on
 
   pub link_spot : IsListSpot sizes past e link_home
@@ -422,7 +344,7 @@ module _ (sizes : Sizes) (z : IsLayout sizes) (past : List Event) (e : Event) (k
         place = sym h.0;
         on = t;
         behind = λ y p. let q : ok.before ≡ y = cc in subst
-            (λ (v : ℕ). stands v ((state sizes past).edges link_home) ≡ true) q t;
+            (λ (v : ℕ). stands_in ((state sizes past).edges link_home) v ≡ true) q t;
       })
       ok.place
 
@@ -472,7 +394,8 @@ module _ (sizes : Sizes) (z : IsLayout sizes) (past : List Event) (e : Event) (k
   link_nodes : (s : IsListSpot sizes past e link_home) → Joins (is_listed (state sizes past) link_home)
       (is_listed link_state link_home) e.life.index
   link_nodes s = subst (λ (p : ℕ). Joins (is_listed (state sizes past) link_home)
-      (λ y. stands y (linked_in sizes (second_at sizes link_home) p e.life.index ((state sizes past).edges link_home)))
+      (λ y. stands_in (linked_in sizes (second_at sizes link_home) p e.life.index ((state sizes past).edges link_home))
+      y)
       e.life.index) s.place
       (joins_linked sizes (list_places sizes link_home) (list_links sizes link_home) s.at e.life.index
       ((state sizes past).edges link_home) (λ y at. s.behind y at))
@@ -522,10 +445,10 @@ module _ (sizes : Sizes) (z : IsLayout sizes) (past : List Event) (e : Event) (k
     abbrev new_state : State
     new_state = state_by ReplaceEdge sizes e (state sizes past)
 
-    new_on : stands e.old.index ((state sizes past).edges new_home) ≡ true
+    new_on : stands_in ((state sizes past).edges new_home) e.old.index ≡ true
     new_on =
         let d = (listing sizes z past kept).source e.old.index ok.old_there ok.linked.linked ok.linked.edge in
-        subst (λ (l : Life). stands e.old.index ((state sizes past).edges l.index) ≡ true) (sym ok.source) d.on
+        subst (λ (l : Life). stands_in ((state sizes past).edges l.index) e.old.index ≡ true) (sym ok.source) d.on
 
     new_can : CanReplace (edge_chain sizes past new_home) e.old.index e.life.index
     new_can =
@@ -545,11 +468,12 @@ module _ (sizes : Sizes) (z : IsLayout sizes) (past : List Event) (e : Event) (k
 
     new_nodes : Joins (is_listed (state sizes past) new_home) (is_listed new_state new_home) e.life.index
     new_nodes = subst (λ (p : ℕ). Joins (is_listed (state sizes past) new_home)
-        (λ y. stands y (linked_in sizes (second_at sizes new_home) p e.life.index ((state sizes past).edges new_home)))
+        (λ y. stands_in (linked_in sizes (second_at sizes new_home) p e.life.index ((state sizes past).edges new_home))
+        y)
         e.life.index) (sym ok.place)
         (joins_linked sizes (list_places sizes new_home) (list_links sizes new_home) (Node e.old.index) e.life.index
         ((state sizes past).edges new_home) (λ y at. let q : e.old.index ≡ y = cc in subst
-        (λ (v : ℕ). stands v ((state sizes past).edges new_home) ≡ true) q new_on))
+        (λ (v : ℕ). stands_in ((state sizes past).edges new_home) v ≡ true) q new_on))
 
     -- every other node stays linked by the same event
     new_else : (y : ℕ) → y ≢ e.life.index → (new_state.node y).since ≡ (node_in sizes past y).since
@@ -644,11 +568,11 @@ module _ (sizes : Sizes) (z : IsLayout sizes) (past : List Event) (e : Event) (k
   abbrev cut_state : State
   cut_state = state_by UnlinkEdge sizes e (state sizes past)
 
-  cut_behind : (y : ℕ) → y < sizes.nodes → e.place ≡ link_at sizes y → stands y
-      ((state sizes past).edges cut_home) ≡ true
+  cut_behind : (y : ℕ) → y < sizes.nodes → e.place ≡ link_at sizes y → stands_in ((state sizes past).edges cut_home)
+      y ≡ true
   cut_behind y t h =
       let f = ok.before_linked y h in
-      subst (λ (l : Life). stands y ((state sizes past).edges l.index) ≡ true) f.from
+      subst (λ (l : Life). stands_in ((state sizes past).edges l.index) y ≡ true) f.from
       ((listing sizes z past kept).source y t f.linked.linked f.linked.edge).on
 
   pub cut_spot : IsListSpot sizes past e cut_home
@@ -661,7 +585,7 @@ module _ (sizes : Sizes) (z : IsLayout sizes) (past : List Event) (e : Event) (k
         place = sym h.0;
         on = t;
         behind = λ y p. let q : ok.before ≡ y = cc in subst
-            (λ (v : ℕ). stands v ((state sizes past).edges cut_home) ≡ true) q t;
+            (λ (v : ℕ). stands_in ((state sizes past).edges cut_home) v ≡ true) q t;
       })
       ok.place
 
@@ -723,7 +647,7 @@ module _ (sizes : Sizes) (past : List Event) (e : Event) (s' : State)
       (is_listed s' home) (λ y. (node_in sizes past y).since) (λ y. (s'.node y).since) (λ y on. still y) at
       (alone sizes home at)
       (writes_at sizes past e w _ _ a place near (word ∙ ap (λ (i : ℕ). with_mark (word_at sizes past i)) (sym place)))
-      (λ y. ap (λ (l : List ℕ). stands y l) (same home))
+      (λ y. ap (λ (l : List ℕ). stands_in l y) (same home))
 
   mark_list : (x : ℕ) → (x ≢ home → IsOff sizes past e x) → IsList sizes (state sizes past) (word_at sizes past) x
       → IsList sizes s' w x
@@ -752,7 +676,7 @@ new_list sizes z past e kept ok w a =
         once = λ j k d low high. absurd (omega arith);
         exactly = λ y. (
           (λ on. absurd (let f : false ≡ true = subst
-              (λ (l : List ℕ). stands y l ≡ true) empty on in cc)),
+              (λ (l : List ℕ). stands_in l y ≡ true) empty on in cc)),
           (λ c. absurd (omega (arith, c.1))),
         );
       };

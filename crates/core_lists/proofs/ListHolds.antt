@@ -6,12 +6,12 @@ use Rattle.std.proofs.Common.{inr, ⊎_elim}
 use Rattle.std.specs.Prelude.{take_while, ◌&&◌}
 use mathlib.Core.Logic.{dite}
 use native.Mathlib.Decide.{ℕ_discrete}
+use Rattle.graph_kinds.specs.Levels.{stands_in}
 use Rattle.packed_link.specs.Layout.{Sizes}
 use Rattle.packed_link.specs.declared.link.Life.{Life}
 use Rattle.core_journal.specs.State.{Mode, Fresh, Linked, Spent, Node, State, is_linked, put, handed, frozen_part}
 use Rattle.core_kept.specs.Nodes.{IsUsed}
 use Rattle.core_kept.proofs.ByKind.{put_case}
-use Rattle.core_kept.proofs.MetFromHead.{stands}
 use Rattle.core_kept.proofs.NodesOnLists.{part_was, part_all, part_grows, part_same, yes_no}
 
 -- the frozen part of the list of a vertex
@@ -29,7 +29,7 @@ pub record IsEdgeOn (sizes : Sizes) (node : ℕ → Node) (x y : ℕ) : Type 0 w
 -- a list is frozen to its end
 pub record IsFinished (node : ℕ → Node) (edges : ℕ → List ℕ) (frozen : ℕ → Bool) (x : ℕ) : Type 0 where
   pub head : frozen x ≡ true
-  pub each : (y : ℕ) → stands y (edges x) ≡ true → (node y).marked ≡ true
+  pub each : (y : ℕ) → stands_in (edges x) y ≡ true → (node y).marked ≡ true
 
 -- a vertex is linked or spent, and its list isn't frozen to its end
 pub record IsOpenList (sizes : Sizes) (node : ℕ → Node) (edges : ℕ → List ℕ) (frozen : ℕ → Bool) (x : ℕ) : Type 0 where
@@ -42,18 +42,19 @@ pub record IsOpenList (sizes : Sizes) (node : ℕ → Node) (edges : ℕ → Lis
 pub record IsOnSource (sizes : Sizes) (node : ℕ → Node) (edges : ℕ → List ℕ) (frozen : ℕ → Bool) (y : ℕ) : Type 0 where
   pub list : IsOpenList sizes node edges frozen (node y).source.index
   pub life : (node y).source.tag ≡ (node (node y).source.index).tag
-  pub on : stands y (edges (node y).source.index) ≡ true
+  pub on : stands_in (edges (node y).source.index) y ≡ true
 
 -- what the lists hold
 pub record Listing (sizes : Sizes) (node : ℕ → Node) (edges : ℕ → List ℕ) (frozen : ℕ → Bool) : Type 0 where
-  pub on : (x y : ℕ) → stands y (edges x) ≡ true → IsEdgeOn sizes node x y
+  pub on : (x y : ℕ) → stands_in (edges x) y ≡ true → IsEdgeOn sizes node x y
   pub empty : (x : ℕ) → (node x).mode ≡ Fresh → edges x ≡ []
-  pub handed : (x y : ℕ) → IsOpenList sizes node edges frozen x → stands y (part_of node edges frozen x) ≡ true →
+  pub handed : (x y : ℕ) → IsOpenList sizes node edges frozen x → stands_in (part_of node edges frozen x) y ≡ true →
       (node y).mode ≡ Spent
-  pub linked : (x y : ℕ) → IsOpenList sizes node edges frozen x → stands y (edges x) ≡ true → stands y
-      (part_of node edges frozen x) ≡ false → (node y).mode ≡ Linked
+  pub linked : (x y : ℕ) → IsOpenList sizes node edges frozen x → stands_in (edges x) y ≡ true → stands_in
+      (part_of node edges frozen x)
+      y ≡ false → (node y).mode ≡ Linked
   pub unstored : (x : ℕ) → IsOpenList sizes node edges frozen x → (node x).stored ≡ false
-  pub held : (x y : ℕ) → IsOpenList sizes node edges frozen x → stands y (edges x) ≡ true → (node y).stored ≡ false
+  pub held : (x y : ℕ) → IsOpenList sizes node edges frozen x → stands_in (edges x) y ≡ true → (node y).stored ≡ false
   pub source : (y : ℕ) → y < sizes.nodes → (node y).mode ≡ Linked → (node y).vertex ≡ false
       → IsOnSource sizes node edges frozen y
 
@@ -61,30 +62,32 @@ abbrev pub ListingOf : Sizes → State → Type 0
 ListingOf sizes s = Listing sizes s.node s.edges s.frozen
 
 -- the frozen part is a part of the list
-pub part_listed : (node : ℕ → Node) (edges : ℕ → List ℕ) (frozen : ℕ → Bool) (x y : ℕ) → stands y
-    (part_of node edges frozen x) ≡ true → stands y (edges x) ≡ true
+pub part_listed : (node : ℕ → Node) (edges : ℕ → List ℕ) (frozen : ℕ → Bool) (x y : ℕ) → stands_in
+    (part_of node edges frozen x)
+    y ≡ true → stands_in (edges x) y ≡ true
 part_listed node edges frozen x y h = by (frozen x) h
   where
-    by : (b : Bool) → stands y (cond b (take_while (λ y. (node y).marked) (edges x)) []) ≡ true → stands y
-        (edges x) ≡ true
+    by : (b : Bool) → stands_in (cond b (take_while (λ y. (node y).marked) (edges x)) []) y ≡ true → stands_in (edges x)
+        y ≡ true
     by true h = (part_was (λ y. (node y).marked) y (edges x) h).0
     by false h = absurd (cc)
 
 -- what is on a list that isn't frozen to its end is linked or spent
 pub open_mode : (sizes : Sizes) (node : ℕ → Node) (edges : ℕ → List ℕ) (frozen : ℕ → Bool) (x y : ℕ)
-    → Listing sizes node edges frozen → IsOpenList sizes node edges frozen x → stands y (edges x) ≡ true →
+    → Listing sizes node edges frozen → IsOpenList sizes node edges frozen x → stands_in (edges x) y ≡ true →
     ((node y).mode ≡ Linked) ⊎ ((node y).mode ≡ Spent)
 open_mode sizes node edges frozen x y c o h = yes_no (((node y).mode ≡ Linked) ⊎ ((node y).mode ≡ Spent))
-    (stands y (part_of node edges frozen x)) (λ t. inr (c.handed x y o t)) (λ f. inl (c.linked x y o h f))
+    (stands_in (part_of node edges frozen x) y) (λ t. inr (c.handed x y o t)) (λ f. inl (c.linked x y o h f))
 
 -- a change of one node that keeps the lists
-pub record IsMoved (sizes : Sizes) (node : ℕ → Node) (edges : ℕ → List ℕ) (frozen : ℕ → Bool) (i : ℕ)
+pub record KeepsLists (sizes : Sizes) (node : ℕ → Node) (edges : ℕ → List ℕ) (frozen : ℕ → Bool) (i : ℕ)
     (v : Node) : Type 0 where
   pub tag : v.tag ≡ (node i).tag
   pub fresh : v.mode ≡ Fresh → (node i).mode ≡ Fresh
-  pub edge : (x : ℕ) → stands i (edges x) ≡ true → (v.vertex ≡ false) × (v.source ≡ (node i).source) ×
+  pub edge : (x : ℕ) → stands_in (edges x) i ≡ true → (v.vertex ≡ false) × (v.source ≡ (node i).source) ×
       (v.marked ≡ (node i).marked)
-  pub member : (x : ℕ) → IsOpenList sizes node edges frozen x → stands i (edges x) ≡ true → (v.mode ≡ (node i).mode) ×
+  pub member : (x : ℕ) → IsOpenList sizes node edges frozen x → stands_in (edges x) i ≡ true →
+      (v.mode ≡ (node i).mode) ×
       (v.stored ≡ (node i).stored)
   pub used : IsUsed v.mode → v.vertex ≡ true → (IsUsed (node i).mode × ((node i).vertex ≡ true)) ⊎
       ((node i).mode ≡ Fresh)
@@ -94,26 +97,26 @@ pub record IsMoved (sizes : Sizes) (node : ℕ → Node) (edges : ℕ → List �
   pub still : IsOpenList sizes node edges frozen i → IsUsed v.mode × (v.vertex ≡ true)
 
 module _ (sizes : Sizes) (node : ℕ → Node) (edges : ℕ → List ℕ) (frozen : ℕ → Bool)
-    (c : Listing sizes node edges frozen) (i : ℕ) (v : Node) (m : IsMoved sizes node edges frozen i v) where
+    (c : Listing sizes node edges frozen) (i : ℕ) (v : Node) (m : KeepsLists sizes node edges frozen i v) where
   moved_tag : (x : ℕ) → (put i v node x).tag ≡ (node x).tag
   moved_tag x = put_case (λ (u : Node). u.tag ≡ (node x).tag) i v node x
       (λ same. m.tag ∙ ap (λ (y : ℕ). (node y).tag) (sym same)) (λ _. refl)
 
-  moved_mark : (x y : ℕ) → stands y (edges x) ≡ true → (put i v node y).marked ≡ (node y).marked
+  moved_mark : (x y : ℕ) → stands_in (edges x) y ≡ true → (put i v node y).marked ≡ (node y).marked
   moved_mark x y h = put_case (λ (u : Node). u.marked ≡ (node y).marked) i v node y
-      (λ same. (m.edge x (subst (λ (z : ℕ). stands z (edges x) ≡ true) same h)).2 ∙ ap (λ (z : ℕ). (node z).marked)
+      (λ same. (m.edge x (subst (λ (z : ℕ). stands_in (edges x) z ≡ true) same h)).2 ∙ ap (λ (z : ℕ). (node z).marked)
       (sym same)) (λ _. refl)
 
-  moved_on : (x y : ℕ) → stands y (edges x) ≡ true → IsEdgeOn sizes (put i v node) x y
+  moved_on : (x y : ℕ) → stands_in (edges x) y ≡ true → IsEdgeOn sizes (put i v node) x y
   moved_on x y h =
       let d = c.on x y h in
       let s : (put i v node y).source ≡ (node y).source = put_case (λ (u : Node). u.source ≡ (node y).source) i v node y
-      (λ same. (m.edge x (subst (λ (z : ℕ). stands z (edges x) ≡ true) same h)).1 ∙ ap (λ (z : ℕ). (node z).source)
+      (λ same. (m.edge x (subst (λ (z : ℕ). stands_in (edges x) z ≡ true) same h)).1 ∙ ap (λ (z : ℕ). (node z).source)
       (sym same)) (λ _. refl) in
       record {
         there = d.there;
         edge = put_case (λ (u : Node). u.vertex ≡ false) i v node y
-            (λ same. (m.edge x (subst (λ (z : ℕ). stands z (edges x) ≡ true) same h)).0) (λ _. d.edge);
+            (λ same. (m.edge x (subst (λ (z : ℕ). stands_in (edges x) z ≡ true) same h)).0) (λ _. d.edge);
         unfresh = put_case (λ (u : Node). u.mode ≢ Fresh) i v node y
             (λ same f. d.unfresh (ap (λ (z : ℕ). (node z).mode) same ∙ m.fresh f)) (λ _. d.unfresh);
         index = ap (λ (l : Life). l.index) s ∙ d.index;
@@ -162,11 +165,12 @@ module _ (sizes : Sizes) (node : ℕ → Node) (edges : ℕ → List ℕ) (froze
   moved_part x = ap (λ (l : List ℕ). cond (frozen x) l []) (part_same (λ y. (put i v node y).marked)
       (λ y. (node y).marked) (edges x) (λ y h. moved_mark x y h))
 
-  no_member : (x y : ℕ) → (node x).mode ≡ Fresh → stands y (edges x) ≡ true → ⊥
-  no_member x y f h = let t : stands y [] ≡ true = subst (λ (l : List ℕ). stands y l ≡ true) (c.empty x f) h in absurd
+  no_member : (x y : ℕ) → (node x).mode ≡ Fresh → stands_in (edges x) y ≡ true → ⊥
+  no_member x y f h = let t : stands_in [] y ≡ true = subst (λ (l : List ℕ). stands_in l y ≡ true) (c.empty x f) h in
+      absurd
       (cc)
 
-  moved_member : (x y : ℕ) → IsOpenList sizes (put i v node) edges frozen x → stands y (edges x) ≡ true
+  moved_member : (x y : ℕ) → IsOpenList sizes (put i v node) edges frozen x → stands_in (edges x) y ≡ true
       → IsOpenList sizes node edges frozen x × ((put i v node y).mode ≡ (node y).mode) ×
       ((put i v node y).stored ≡ (node y).stored)
   moved_member x y o h = ⊎_elim (λ (old : IsOpenList sizes node edges frozen x). (old, (both old).0, (both old).1))
@@ -175,7 +179,7 @@ module _ (sizes : Sizes) (node : ℕ → Node) (edges : ℕ → List ℕ) (froze
       both : IsOpenList sizes node edges frozen x → ((put i v node y).mode ≡ (node y).mode) ×
           ((put i v node y).stored ≡ (node y).stored)
       both old = put_case (λ (u : Node). (u.mode ≡ (node y).mode) × (u.stored ≡ (node y).stored)) i v node y
-          (λ same. let q = m.member x old (subst (λ (z : ℕ). stands z (edges x) ≡ true) same h) in
+          (λ same. let q = m.member x old (subst (λ (z : ℕ). stands_in (edges x) z ≡ true) same h) in
           (q.0 ∙ ap (λ (z : ℕ). (node z).mode) (sym same), q.1 ∙ ap (λ (z : ℕ). (node z).stored) (sym same)))
           (λ _. (refl, refl))
 
@@ -200,7 +204,7 @@ module _ (sizes : Sizes) (node : ℕ → Node) (edges : ℕ → List ℕ) (froze
                 (moved_still (node y).source.index d.list);
             life = ap (λ (z : Life). z.tag) s ∙ (d.life ∙ (sym (moved_tag (node y).source.index) ∙ ap
                 (λ (z : ℕ). (put i v node z).tag) (sym p)));
-            on = subst (λ (z : ℕ). stands y (edges z) ≡ true) (sym p) d.on;
+            on = subst (λ (z : ℕ). stands_in (edges z) y ≡ true) (sym p) d.on;
           }
 
   -- the lists hold what they held
@@ -210,11 +214,11 @@ module _ (sizes : Sizes) (node : ℕ → Node) (edges : ℕ → List ℕ) (froze
     empty = λ x. put_case (λ (u : Node). u.mode ≡ Fresh → edges x ≡ []) i v node x
         (λ same f. c.empty x (ap (λ (y : ℕ). (node y).mode) same ∙ m.fresh f)) (λ _. c.empty x);
     handed = λ x y o h.
-        let p : stands y (part_of node edges frozen x) ≡ true = subst (λ (l : List ℕ). stands y l ≡ true)
+        let p : stands_in (part_of node edges frozen x) y ≡ true = subst (λ (l : List ℕ). stands_in l y ≡ true)
         (moved_part x) h in
         let q = moved_member x y o (part_listed node edges frozen x y p) in q.1 ∙ c.handed x y q.0 p;
     linked = λ x y o h f. let q = moved_member x y o h in q.1 ∙ c.linked x y q.0 h
-        (subst (λ (l : List ℕ). stands y l ≡ false) (moved_part x) f);
+        (subst (λ (l : List ℕ). stands_in l y ≡ false) (moved_part x) f);
     unstored = λ x o. put_case (λ (u : Node). IsUsed u.mode → u.vertex ≡ true → u.stored ≡ false) i v node x
         (λ same u t. m.unstored u t (λ f. o.unfinished (moved_finish x
         (subst (IsFinished node edges frozen) (sym same) f))))
@@ -238,7 +242,7 @@ pub record IsGrown (node node' : ℕ → Node) (edges : ℕ → List ℕ) (froze
   pub stored : (y : ℕ) → (node' y).stored ≡ (node y).stored
   pub marked : (y : ℕ) → (node y).marked ≡ true → (node' y).marked ≡ true
   pub head : (x : ℕ) → frozen x ≡ true → frozen' x ≡ true
-  pub marked_else : (x y : ℕ) → x ≢ v → stands y (edges x) ≡ true → (node' y).marked ≡ (node y).marked
+  pub marked_else : (x y : ℕ) → x ≢ v → stands_in (edges x) y ≡ true → (node' y).marked ≡ (node y).marked
   pub head_else : (x : ℕ) → x ≢ v → frozen' x ≡ frozen x
 
 -- a node that's handed over or not keeps all but its mode
@@ -255,11 +259,11 @@ record IsHanded (u u' : Node) : Type 0 where
 
 -- by cases on whether a node is handed over
 pub handed_split : (P : Node → Type 0) (s : State) (x y : ℕ) →
-    ((stands y (frozen_part s x) ≡ true → (s.node y).mode ≢ Linked) → P (s.node y))
-    → (stands y (frozen_part s x) ≡ true → (s.node y).mode ≡ Linked → P
+    ((stands_in (frozen_part s x) y ≡ true → (s.node y).mode ≢ Linked) → P (s.node y))
+    → (stands_in (frozen_part s x) y ≡ true → (s.node y).mode ≡ Linked → P
     (record (s.node y) { mode = Spent; who = (s.node x).who; ended = s.count; epoch = s.epoch })) → P
     ((handed x s).node y)
-handed_split P s x y same given = by (stands y (frozen_part s x)) refl
+handed_split P s x y same given = by (stands_in (frozen_part s x) y) refl
   where
     linked : (m : Mode) → is_linked m ≡ true → m ≡ Linked
     linked Linked h = refl
@@ -269,12 +273,12 @@ handed_split P s x y same given = by (stands y (frozen_part s x)) refl
     unlinked Linked h = absurd (cc)
     unlinked _ h = λ e. absurd (cc)
 
-    inner : (b : Bool) → is_linked (s.node y).mode ≡ b → stands y (frozen_part s x) ≡ true → P
+    inner : (b : Bool) → is_linked (s.node y).mode ≡ b → stands_in (frozen_part s x) y ≡ true → P
         (cond b (record (s.node y) { mode = Spent; who = (s.node x).who; ended = s.count; epoch = s.epoch }) (s.node y))
     inner true e h = given h (linked (s.node y).mode e)
     inner false e h = same (λ _. unlinked (s.node y).mode e)
 
-    by : (b : Bool) → stands y (frozen_part s x) ≡ b → P (cond (b && is_linked (s.node y).mode)
+    by : (b : Bool) → stands_in (frozen_part s x) y ≡ b → P (cond (b && is_linked (s.node y).mode)
         (record (s.node y) { mode = Spent; who = (s.node x).who; ended = s.count; epoch = s.epoch }) (s.node y))
     by true e = inner (is_linked (s.node y).mode) refl e
     by false e = same (λ h. absurd (cc))
@@ -352,60 +356,66 @@ module _ (sizes : Sizes) (node : ℕ → Node) (frozen : ℕ → Bool) (s : Stat
       ∙ ap (λ (l : List ℕ). cond (frozen x) l []) (part_same (λ y. (s.node y).marked) (λ y. (node y).marked) (s.edges x)
       (λ y h. g.marked_else x y ne h))
 
-  part_more : (x y : ℕ) → stands y (part_of node s.edges frozen x) ≡ true → stands y (frozen_part s x) ≡ true
+  part_more : (x y : ℕ) → stands_in (part_of node s.edges frozen x) y ≡ true → stands_in (frozen_part s x) y ≡ true
   part_more x y h = by (frozen x) (s.frozen x) refl refl h
     where
-      by : (b b' : Bool) → frozen x ≡ b → s.frozen x ≡ b' → stands y
-          (cond b (take_while (λ y. (node y).marked) (s.edges x)) []) ≡ true → stands y
-          (cond b' (take_while (λ y. (s.node y).marked) (s.edges x)) []) ≡ true
+      by : (b b' : Bool) → frozen x ≡ b → s.frozen x ≡ b' → stands_in
+          (cond b (take_while (λ y. (node y).marked) (s.edges x)) [])
+          y ≡ true → stands_in (cond b' (take_while (λ y. (s.node y).marked) (s.edges x)) [])
+          y ≡ true
       by true true e e' h = part_grows (λ y. (node y).marked) (λ y. (s.node y).marked) y (s.edges x)
           (λ z _ t. g.marked z t) h
       by true false e e' h = let t = g.head x e in absurd (cc)
       by false b' e e' h = absurd (cc)
 
   -- a node of another list isn't handed over
-  not_here : (x y : ℕ) → x ≢ v → stands y (s.edges x) ≡ true → stands y (frozen_part s v) ≡ true → ⊥
+  not_here : (x y : ℕ) → x ≢ v → stands_in (s.edges x) y ≡ true → stands_in (frozen_part s v) y ≡ true → ⊥
   not_here x y ne h at = let a = (c.on x y h).index in let b =
       (c.on v y (part_listed s.node s.edges s.frozen v y at)).index in ne (sym a ∙ b)
 
-  then_handed : (x y : ℕ) → IsOpenList sizes then s.edges s.frozen x → stands y (part_of then s.edges s.frozen x) ≡ true
+  then_handed : (x y : ℕ) → IsOpenList sizes then s.edges s.frozen x → stands_in (part_of then s.edges s.frozen x) y
+      ≡ true
       → (then y).mode ≡ Spent
   then_handed x y o h =
-      let p : stands y (frozen_part s x) ≡ true = subst (λ (l : List ℕ). stands y l ≡ true) (then_part x) h in
-      let l : stands y (s.edges x) ≡ true = part_listed s.node s.edges s.frozen x y p in
+      let p : stands_in (frozen_part s x) y ≡ true = subst (λ (l : List ℕ). stands_in l y ≡ true) (then_part x) h in
+      let l : stands_in (s.edges x) y ≡ true = part_listed s.node s.edges s.frozen x y p in
       let m = open_mode sizes node s.edges frozen x y c (then_open x o) l in
       handed_split (λ (u : Node). u.mode ≡ Spent) s v y
       (λ ne. ⊎_elim (λ (linked : (node y).mode ≡ Linked). dite (ℕ_discrete x v)
-      (λ same. absurd (ne (subst (λ (z : ℕ). stands y (frozen_part s z) ≡ true) same p) (g.mode y ∙ linked)))
-      (λ other. let t = c.handed x y (then_open x o) (subst (λ (l : List ℕ). stands y l ≡ true) (part_else x other) p)
+      (λ same. absurd (ne (subst (λ (z : ℕ). stands_in (frozen_part s z) y ≡ true) same p) (g.mode y ∙ linked)))
+      (λ other. let t = c.handed x y (then_open x o)
+      (subst (λ (l : List ℕ). stands_in l y ≡ true) (part_else x other) p)
       in absurd (cc)))
       (λ (spent : (node y).mode ≡ Spent). g.mode y ∙ spent) m)
       (λ _ _. refl)
 
-  then_linked : (x y : ℕ) → IsOpenList sizes then s.edges s.frozen x → stands y (s.edges x) ≡ true → stands y
-      (part_of then s.edges s.frozen x) ≡ false → (then y).mode ≡ Linked
+  then_linked : (x y : ℕ) → IsOpenList sizes then s.edges s.frozen x → stands_in (s.edges x) y ≡ true → stands_in
+      (part_of then s.edges s.frozen x)
+      y ≡ false → (then y).mode ≡ Linked
   then_linked x y o h f =
-      let p : stands y (frozen_part s x) ≡ false = subst (λ (l : List ℕ). stands y l ≡ false) (then_part x) f in
-      let before : stands y (part_of node s.edges frozen x) ≡ false = yes_no
-      (stands y (part_of node s.edges frozen x) ≡ false) (stands y (part_of node s.edges frozen x))
+      let p : stands_in (frozen_part s x) y ≡ false = subst (λ (l : List ℕ). stands_in l y ≡ false) (then_part x) f in
+      let before : stands_in (part_of node s.edges frozen x) y ≡ false = yes_no
+      (stands_in (part_of node s.edges frozen x) y ≡ false) (stands_in (part_of node s.edges frozen x) y)
       (λ t. let u = part_more x y t in absurd (cc)) (λ e. e) in
       let m : (node y).mode ≡ Linked = c.linked x y (then_open x o) h before in
       handed_split (λ (u : Node). u.mode ≡ Linked) s v y (λ _. g.mode y ∙ m)
-      (λ at _. dite (ℕ_discrete x v) (λ same. let u : stands y (frozen_part s x) ≡ true = subst
-      (λ (z : ℕ). stands y (frozen_part s z) ≡ true) (sym same) at in absurd (cc))
+      (λ at _. dite (ℕ_discrete x v) (λ same. let u : stands_in (frozen_part s x) y ≡ true = subst
+      (λ (z : ℕ). stands_in (frozen_part s z) y ≡ true) (sym same) at in absurd (cc))
       (λ other. absurd (not_here x y other h at)))
 
   -- a linked edge isn't on a list that is frozen to its end now
-  then_unfinished : (x y : ℕ) → IsOpenList sizes node s.edges frozen x → stands y (s.edges x) ≡ true →
+  then_unfinished : (x y : ℕ) → IsOpenList sizes node s.edges frozen x → stands_in (s.edges x) y ≡ true →
       (then y).mode ≡ Linked → IsFinished then s.edges s.frozen x → ⊥
   then_unfinished x y o h l f = dite (ℕ_discrete x v)
       (λ same.
-      let all : stands y (take_while (λ z. (s.node z).marked) (s.edges x)) ≡ true = part_all (λ z. (s.node z).marked) y
+      let all : stands_in (take_while (λ z. (s.node z).marked) (s.edges x)) y ≡ true =
+      part_all (λ z. (s.node z).marked) y
       (s.edges x) (λ z t. sym (then_is z).marked ∙ f.each z t) h in
-      let p : stands y (frozen_part s x) ≡ true = subst (λ (b : Bool). stands y
-      (cond b (take_while (λ z. (s.node z).marked) (s.edges x)) []) ≡ true) (sym f.head) all in
+      let p : stands_in (frozen_part s x) y ≡ true =
+      subst (λ (b : Bool). stands_in (cond b (take_while (λ z. (s.node z).marked) (s.edges x)) [])
+      y ≡ true) (sym f.head) all in
       handed_split (λ (u : Node). u.mode ≡ Linked → ⊥) s v y (λ ne m. ne
-      (subst (λ (z : ℕ). stands y (frozen_part s z) ≡ true) same p) m) (λ _ _ m. absurd (cc)) l)
+      (subst (λ (z : ℕ). stands_in (frozen_part s z) y ≡ true) same p) m) (λ _ _ m. absurd (cc)) l)
       (λ other. o.unfinished (record {
         head = sym (g.head_else x other) ∙ f.head;
         each = λ z t. sym
@@ -428,7 +438,7 @@ module _ (sizes : Sizes) (node : ℕ → Node) (frozen : ℕ → Bool) (s : Stat
         list = subst (IsOpenList sizes then s.edges s.frozen) (sym p) o;
         life = ap (λ (z : Life). z.tag) (then_source y) ∙ (d.life ∙
             (sym (then_tag (node y).source.index) ∙ ap (λ (z : ℕ). (then z).tag) (sym p)));
-        on = subst (λ (z : ℕ). stands y (s.edges z) ≡ true) (sym p) d.on;
+        on = subst (λ (z : ℕ). stands_in (s.edges z) y ≡ true) (sym p) d.on;
       }
 
   -- the lists hold what they held

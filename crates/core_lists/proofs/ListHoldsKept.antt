@@ -3,6 +3,7 @@ use Rattle.std.proofs.Common.{◌≡◌, ◌≢◌, ◌⊎◌, ℕ, ◌+◌, ◌
 use Rattle.std.proofs.Common.{arith, ⊎_elim}
 use mathlib.Core.Logic.{dite}
 use native.Mathlib.Decide.{ℕ_discrete}
+use Rattle.graph_kinds.specs.Levels.{stands_in}
 use Rattle.packed_link.specs.Link.{mark_of}
 use Rattle.packed_link.specs.Layout.{Sizes, IsLayout, link_at, second_at}
 use Rattle.packed_link.specs.declared.link.Life.{Life}
@@ -22,9 +23,8 @@ use Rattle.core_lists.specs.Chains.{HasList, Sources}
 use Rattle.core_kept.proofs.ByKind.{KeepsByKind, put_case, put_other, marked_state, closed_state, holds_all}
 use Rattle.core_kept.proofs.LinkWords.{link_words, taken, mark_is, mark_isnt}
 use Rattle.core_kept.proofs.Contents.{contents}
-use Rattle.core_kept.proofs.MetFromHead.{stands}
 use Rattle.core_kept.proofs.NodesOnLists.{IsWordOf}
-use Rattle.core_lists.proofs.ListHolds.{IsFinished, IsOpenList, ListingOf, IsMoved, moved_open, moved_back}
+use Rattle.core_lists.proofs.ListHolds.{IsFinished, IsOpenList, ListingOf, KeepsLists, moved_open, moved_back}
 use Rattle.core_lists.proofs.ListHolds.{moved_finish, moved, IsGrown, then_finished, then_open, handed_over}
 use Rattle.core_lists.proofs.ListingsBehindSteps.{popped_finished, popped_open, popped_listing, cut_finished, cut_open}
 use Rattle.core_lists.proofs.ListingsBehindSteps.{cut_listing, IsJoining, joins, joins_open, joins_finished}
@@ -63,10 +63,10 @@ close_grows s i = record {
 module _ (sizes : Sizes) (z : IsLayout sizes) (past : List Event) (e : Event) (kept : IsKept sizes past)
     (c : ListingOf sizes (state sizes past)) where
   -- a vertex isn't on a list
-  vertex_off : (x i : ℕ) → (node_in sizes past i).vertex ≡ true → stands i ((state sizes past).edges x) ≡ true → ⊥
+  vertex_off : (x i : ℕ) → (node_in sizes past i).vertex ≡ true → stands_in ((state sizes past).edges x) i ≡ true → ⊥
   vertex_off x i v h = let t = (c.on x i h).edge in absurd (cc)
 
-  fresh_off : (x i : ℕ) → (node_in sizes past i).mode ≡ Fresh → stands i ((state sizes past).edges x) ≡ true → ⊥
+  fresh_off : (x i : ℕ) → (node_in sizes past i).mode ≡ Fresh → stands_in ((state sizes past).edges x) i ≡ true → ⊥
   fresh_off x i f h = (c.on x i h).unfresh f
 
   -- the source of the edges that are linked there
@@ -74,7 +74,7 @@ module _ (sizes : Sizes) (z : IsLayout sizes) (past : List Event) (e : Event) (k
       ((state sizes past).edges x) → x ≡ e.source.index
   link_only ok x at = ⊎_elim
       (λ (h : e.place ≡ second_at sizes x). omega (arith, h, ok.place))
-      (λ (h : (y : ℕ) × (stands y ((state sizes past).edges x) ≡ true) × (e.place ≡ link_at sizes y)). sym
+      (λ (h : (y : ℕ) × (stands_in ((state sizes past).edges x) y ≡ true) × (e.place ≡ link_at sizes y)). sym
       (c.on x h.0 h.1).index ∙ ap (λ (l : Life). l.index) (ok.linked h.0 h.2).from) at
 
   -- the word at which an edge is linked is one of the list of its source
@@ -86,7 +86,7 @@ module _ (sizes : Sizes) (z : IsLayout sizes) (past : List Event) (e : Event) (k
       let f = ok.linked ok.before h.0 in
       inr (
         ok.before,
-        subst (λ (l : Life). stands ok.before ((state sizes past).edges l.index) ≡ true) f.from
+        subst (λ (l : Life). stands_in ((state sizes past).edges l.index) ok.before ≡ true) f.from
             (c.source ok.before h.1 f.linked.linked f.linked.edge).on,
         h.0,
       ))
@@ -141,12 +141,12 @@ module _ (sizes : Sizes) (z : IsLayout sizes) (past : List Event) (e : Event) (k
         life = subst (λ (l : Life). l.tag ≡ (node_in sizes past l.index).tag) (sym ok.source) d.life;
         word = inr (
           e.old.index,
-          subst (λ (x : ℕ). stands e.old.index ((state sizes past).edges x) ≡ true) home d.on,
+          subst (λ (x : ℕ). stands_in ((state sizes past).edges x) e.old.index ≡ true) home d.on,
           ok.place,
         );
         only = λ x at. ⊎_elim
             (λ (h : e.place ≡ second_at sizes x). omega (arith, h, ok.place))
-            (λ (h : (y : ℕ) × (stands y ((state sizes past).edges x) ≡ true) × (e.place ≡ link_at sizes y)).
+            (λ (h : (y : ℕ) × (stands_in ((state sizes past).edges x) y ≡ true) × (e.place ≡ link_at sizes y)).
             let same : h.0 ≡ e.old.index = omega (arith, h.2, ok.place) in
             sym (c.on x h.0 h.1).index ∙ (ap (λ (y : ℕ). (node_in sizes past y).source.index) same ∙ home)) at;
         head = λ h. absurd (omega (arith, h, ok.place));
@@ -192,7 +192,7 @@ module _ (sizes : Sizes) (z : IsLayout sizes) (past : List Event) (e : Event) (k
   cut_marked ok = is_marked e.life.index ok.there ok.linked.linked ok.dead
 
   -- the changes of one node that keep the lists
-  pub link_moves : IsLinkVertex sizes past e → IsMoved sizes (state sizes past).node (state sizes past).edges
+  pub link_moves : IsLinkVertex sizes past e → KeepsLists sizes (state sizes past).node (state sizes past).edges
       (state sizes past).frozen e.life.index (record (node_in sizes past e.life.index)
       { mode = Linked; vertex = true; key = e.key })
   link_moves ok = record {
@@ -206,7 +206,7 @@ module _ (sizes : Sizes) (z : IsLayout sizes) (past : List Event) (e : Event) (k
     still = λ o. absurd (subst IsUsed ok.fresh.fresh o.used);
   }
 
-  pub mark_moves : IsMarkVertex sizes past e → IsMoved sizes (state sizes past).node (state sizes past).edges
+  pub mark_moves : IsMarkVertex sizes past e → KeepsLists sizes (state sizes past).node (state sizes past).edges
       (state sizes past).frozen e.life.index (record (node_in sizes past e.life.index) { marked = true })
   mark_moves ok = record {
     tag = refl;
@@ -219,7 +219,7 @@ module _ (sizes : Sizes) (z : IsLayout sizes) (past : List Event) (e : Event) (k
     still = λ o. (o.used, o.vertex);
   }
 
-  pub unlink_moves : IsUnlinkVertex sizes past e → IsMoved sizes (state sizes past).node (state sizes past).edges
+  pub unlink_moves : IsUnlinkVertex sizes past e → KeepsLists sizes (state sizes past).node (state sizes past).edges
       (state sizes past).frozen e.life.index (record (node_in sizes past e.life.index)
       { mode = Spent; who = e.caller; ended = (state sizes past).count + 1; epoch = (state sizes past).epoch })
   unlink_moves ok = record {
@@ -239,7 +239,7 @@ module _ (sizes : Sizes) (z : IsLayout sizes) (past : List Event) (e : Event) (k
     still = λ o. (tt, o.vertex);
   }
 
-  pub store_moves : IsStoreFree sizes past e → IsMoved sizes (state sizes past).node (state sizes past).edges
+  pub store_moves : IsStoreFree sizes past e → KeepsLists sizes (state sizes past).node (state sizes past).edges
       (state sizes past).frozen e.life.index (record (node_in sizes past e.life.index) { stored = true })
   store_moves ok = record {
     tag = refl;
@@ -252,7 +252,7 @@ module _ (sizes : Sizes) (z : IsLayout sizes) (past : List Event) (e : Event) (k
     still = λ o. (o.used, o.vertex);
   }
 
-  pub push_moves : IsPushFree sizes past e → IsMoved sizes (state sizes past).node (state sizes past).edges
+  pub push_moves : IsPushFree sizes past e → KeepsLists sizes (state sizes past).node (state sizes past).edges
       (state sizes past).frozen e.life.index (record (node_in sizes past e.life.index) { mode = Free })
   push_moves ok = record {
     tag = refl;

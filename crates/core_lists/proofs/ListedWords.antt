@@ -1,5 +1,6 @@
 -- The key word of an edge that stands on a list, and that the edges of a linked vertex are linked.
 use Rattle.std.proofs.Common.{◌≡◌, ℕ, ◌<◌, Bool, true, false, cond, List, [], Some, sym, ap, ◌∙◌, subst}
+use Rattle.graph_kinds.specs.Levels.{stands_in}
 use Rattle.packed_link.specs.Layout.{Sizes, IsLayout, key_at}
 use Rattle.core_journal.specs.declared.event.Event.{Event}
 use Rattle.core_journal.specs.Life.{link_of}
@@ -9,7 +10,6 @@ use Rattle.std.specs.Prelude.{take_while}
 use Rattle.core_kept.specs.Kept.{IsKept}
 use Rattle.core_kept.specs.Nodes.{node_in, IsUsed, is_listed, is_frozen}
 use Rattle.core_lists.specs.Chains.{HasList, KeepsList, life_in}
-use Rattle.core_kept.proofs.MetFromHead.{stands}
 use Rattle.core_kept.proofs.Named.{named}
 use Rattle.core_kept.proofs.OwnMet.{key_word_is}
 use Rattle.core_lists.proofs.FrozenPart.{frozen_parts}
@@ -30,7 +30,7 @@ module _ (sizes : Sizes) (z : IsLayout sizes) (journal : List Event) (kept : IsK
 
   -- a list that is open at its head has no frozen part
   no_part : (s : State) (x y : ℕ) → s.frozen x ≡ false → is_frozen s x y ≡ false
-  no_part s x y h = ap (λ (b : Bool). stands y (cond b (take_while (λ (z : ℕ). (s.node z).marked) (s.edges x)) [])) h
+  no_part s x y h = ap (λ (b : Bool). stands_in (cond b (take_while (λ (z : ℕ). (s.node z).marked) (s.edges x)) []) y) h
 
   -- an edge on the list of a linked vertex is linked
   pub listed_linked : (x y : ℕ) → x < sizes.nodes → (node_in sizes journal x).mode ≡ Linked →

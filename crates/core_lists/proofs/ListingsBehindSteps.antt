@@ -5,12 +5,12 @@ use Rattle.std.proofs.Common.{inr, ⊎_elim}
 use Rattle.std.specs.Prelude.{take_while}
 use mathlib.Core.Logic.{dite}
 use native.Mathlib.Decide.{ℕ_discrete}
+use Rattle.graph_kinds.specs.Levels.{stands_in}
 use Rattle.packed_link.specs.Layout.{Sizes, link_at, second_at}
 use Rattle.core_journal.specs.State.{Free, Fresh, Linked, Spent, Node, put, linked_in, unlinked_from}
 use Rattle.core_kept.specs.Nodes.{IsUsed}
 use Rattle.core_kept.proofs.ByKind.{put_case, put_same, put_other}
 use Rattle.core_kept.proofs.LinkWords.{taken}
-use Rattle.core_kept.proofs.MetFromHead.{stands}
 use Rattle.core_kept.proofs.NodesOnLists.{unlinked_was, unlinked_keeps, unlinked_none, IsWordOf, linked_was}
 use Rattle.core_kept.proofs.NodesOnLists.{linked_keeps, linked_joins, linked_none, part_unlinked, part_linked}
 use Rattle.core_kept.proofs.NodesOnLists.{part_same, yes_no}
@@ -24,11 +24,12 @@ module _ (sizes : Sizes) (node : ℕ → Node) (edges : ℕ → List ℕ) (froze
   abbrev popped : ℕ → List ℕ
   popped x = put i [] (λ y. unlinked_from i (edges y)) x
 
-  abbrev opened : ℕ → Bool
-  opened x = put i false frozen x
+  abbrev reopened : ℕ → Bool
+  reopened x = put i false frozen x
 
-  pub popped_was : (x y : ℕ) → stands y (popped x) ≡ true → (x ≢ i) × (stands y (edges x) ≡ true) × (y ≢ i)
-  popped_was x y h = put_case (λ (l : List ℕ). stands y l ≡ true → (x ≢ i) × (stands y (edges x) ≡ true) × (y ≢ i)) i []
+  pub popped_was : (x y : ℕ) → stands_in (popped x) y ≡ true → (x ≢ i) × (stands_in (edges x) y ≡ true) × (y ≢ i)
+  popped_was x y h = put_case (λ (l : List ℕ). stands_in l y ≡ true → (x ≢ i) × (stands_in (edges x) y ≡ true) ×
+      (y ≢ i)) i []
       (λ y. unlinked_from i (edges y)) x
       (λ _ t. absurd (cc)) (λ ne t. let r = unlinked_was i y (edges x) t in (ne, r.0, r.1)) h
 
@@ -43,8 +44,8 @@ module _ (sizes : Sizes) (node : ℕ → Node) (edges : ℕ → List ℕ) (froze
       (ap (λ (n : Node). n.mode) (put_same i v node) ∙ fresh)) u
 
   -- a list that isn't frozen to its end doesn't have the node
-  pub popped_not : (x : ℕ) → IsOpenList sizes node edges frozen x → stands i (edges x) ≡ false
-  popped_not x o = yes_no (stands i (edges x) ≡ false) (stands i (edges x))
+  pub popped_not : (x : ℕ) → IsOpenList sizes node edges frozen x → stands_in (edges x) i ≡ false
+  popped_not x o = yes_no (stands_in (edges x) i ≡ false) (stands_in (edges x) i)
       (λ t. ⊎_elim (λ (l : (node i).mode ≡ Linked). absurd (cc)) (λ (l : (node i).mode ≡ Spent). absurd (cc))
       (open_mode sizes node edges frozen x i c o t)) (λ f. f)
 
@@ -52,13 +53,13 @@ module _ (sizes : Sizes) (node : ℕ → Node) (edges : ℕ → List ℕ) (froze
   popped_list x o = put_other i [] (λ y. unlinked_from i (edges y)) x (not_free x o.used) ∙ unlinked_none i (edges x)
       (popped_not x o)
 
-  pub popped_finished : (x : ℕ) → x ≢ i → IsFinished node edges frozen x → IsFinished (put i v node) popped opened x
+  pub popped_finished : (x : ℕ) → x ≢ i → IsFinished node edges frozen x → IsFinished (put i v node) popped reopened x
   popped_finished x ne f = record {
     head = put_other i false frozen x ne ∙ f.head;
     each = λ y h. let r = popped_was x y h in ap (λ (n : Node). n.marked) (popped_node y r.2) ∙ f.each y r.1;
   }
 
-  pub popped_open : (x : ℕ) → IsOpenList sizes (put i v node) popped opened x → IsOpenList sizes node edges frozen x
+  pub popped_open : (x : ℕ) → IsOpenList sizes (put i v node) popped reopened x → IsOpenList sizes node edges frozen x
   popped_open x o =
       let ne = not_fresh x o.used in
       record {
@@ -70,7 +71,7 @@ module _ (sizes : Sizes) (node : ℕ → Node) (edges : ℕ → List ℕ) (froze
             (popped_finished x ne f);
       }
 
-  popped_still : (x : ℕ) → IsOpenList sizes node edges frozen x → IsOpenList sizes (put i v node) popped opened x
+  popped_still : (x : ℕ) → IsOpenList sizes node edges frozen x → IsOpenList sizes (put i v node) popped reopened x
   popped_still x o =
       let ne = not_free x o.used in
       record {
@@ -80,43 +81,43 @@ module _ (sizes : Sizes) (node : ℕ → Node) (edges : ℕ → List ℕ) (froze
         unfinished = λ f. o.unfinished (record {
           head = sym (put_other i false frozen x ne) ∙ f.head;
           each = λ y h.
-              let other : y ≢ i = λ same. let t : stands i (edges x) ≡ true = subst
-              (λ (z : ℕ). stands z (edges x) ≡ true) same h in let n = popped_not x o in absurd (cc) in
+              let other : y ≢ i = λ same. let t : stands_in (edges x) i ≡ true = subst
+              (λ (z : ℕ). stands_in (edges x) z ≡ true) same h in let n = popped_not x o in absurd (cc) in
               ap (λ (n : Node). n.marked) (sym (popped_node y other)) ∙ f.each y
-              (subst (λ (l : List ℕ). stands y l ≡ true) (sym (popped_list x o)) h);
+              (subst (λ (l : List ℕ). stands_in l y ≡ true) (sym (popped_list x o)) h);
         });
       }
 
   popped_part : (x : ℕ) → IsOpenList sizes node edges frozen x → part_of
-      (put i v node) popped opened x ≡ part_of node edges frozen x
+      (put i v node) popped reopened x ≡ part_of node edges frozen x
   popped_part x o =
       ap (λ (b : Bool). cond b (take_while (λ y. (put i v node y).marked) (popped x)) [])
       (put_other i false frozen x (not_free x o.used))
       ∙ (ap (λ (l : List ℕ). cond (frozen x) (take_while (λ y. (put i v node y).marked) l) []) (popped_list x o)
       ∙ ap (λ (l : List ℕ). cond (frozen x) l []) (part_same (λ y. (put i v node y).marked) (λ y. (node y).marked)
       (edges x)
-      (λ y h. ap (λ (n : Node). n.marked) (popped_node y (λ same. let t : stands i (edges x) ≡ true = subst
-      (λ (z : ℕ). stands z (edges x) ≡ true) same h in let n = popped_not x o in absurd (cc))))))
+      (λ y h. ap (λ (n : Node). n.marked) (popped_node y (λ same. let t : stands_in (edges x) i ≡ true = subst
+      (λ (z : ℕ). stands_in (edges x) z ≡ true) same h in let n = popped_not x o in absurd (cc))))))
 
   popped_source : (y : ℕ) → y < sizes.nodes → (put i v node y).mode ≡ Linked → (put i v node y).vertex ≡ false
-      → IsOnSource sizes (put i v node) popped opened y
+      → IsOnSource sizes (put i v node) popped reopened y
   popped_source y t l e =
       let ne : y ≢ i = not_fresh y (subst IsUsed (sym l) tt) in
       let same : put i v node y ≡ node y = popped_node y ne in
       let d = c.source y t (ap (λ (n : Node). n.mode) (sym same) ∙ l) (ap (λ (n : Node). n.vertex) (sym same) ∙ e) in
       let apart : (node y).source.index ≢ i = not_free (node y).source.index d.list.used in
-      subst (λ (n : Node). IsOpenList sizes (put i v node) popped opened n.source.index ×
-      (n.source.tag ≡ (put i v node n.source.index).tag) × (stands y (popped n.source.index) ≡ true)
-      → IsOnSource sizes (put i v node) popped opened y) same
+      subst (λ (n : Node). IsOpenList sizes (put i v node) popped reopened n.source.index ×
+      (n.source.tag ≡ (put i v node n.source.index).tag) × (stands_in (popped n.source.index) y ≡ true)
+      → IsOnSource sizes (put i v node) popped reopened y) same
       (λ q. record { list = q.0; life = q.1; on = q.2 }) (
         popped_still (node y).source.index d.list,
         d.life ∙ ap (λ (n : Node). n.tag)
             (sym (popped_node (node y).source.index apart)),
-        subst (λ (l : List ℕ). stands y l ≡ true)
+        subst (λ (l : List ℕ). stands_in l y ≡ true)
             (sym (popped_list (node y).source.index d.list)) d.on,
       )
 
-  pub popped_listing : Listing sizes (put i v node) popped opened
+  pub popped_listing : Listing sizes (put i v node) popped reopened
   popped_listing = record {
     on = λ x y h.
         let r = popped_was x y h in
@@ -133,15 +134,15 @@ module _ (sizes : Sizes) (node : ℕ → Node) (edges : ℕ → List ℕ) (froze
         (λ ne f. ap (unlinked_from i) (c.empty x (ap (λ (n : Node). n.mode) (sym (popped_node x ne)) ∙ f)));
     handed = λ x y o h.
         let b = popped_open x o in
-        let p : stands y (part_of node edges frozen x) ≡ true = subst (λ (l : List ℕ). stands y l ≡ true)
+        let p : stands_in (part_of node edges frozen x) y ≡ true = subst (λ (l : List ℕ). stands_in l y ≡ true)
         (popped_part x b) h in
-        let r = popped_was x y (part_listed (put i v node) popped opened x y h) in
+        let r = popped_was x y (part_listed (put i v node) popped reopened x y h) in
         ap (λ (n : Node). n.mode) (popped_node y r.2) ∙ c.handed x y b p;
     linked = λ x y o h f.
         let b = popped_open x o in
         let r = popped_was x y h in
         ap (λ (n : Node). n.mode) (popped_node y r.2) ∙ c.linked x y b r.1
-        (subst (λ (l : List ℕ). stands y l ≡ false) (popped_part x b) f);
+        (subst (λ (l : List ℕ). stands_in l y ≡ false) (popped_part x b) f);
     unstored = λ x o. ap (λ (n : Node). n.stored) (popped_node x (not_fresh x o.used)) ∙ c.unstored x (popped_open x o);
     held = λ x y o h. let r = popped_was x y h in ap (λ (n : Node). n.stored) (popped_node y r.2) ∙ c.held x y
         (popped_open x o) r.1;
@@ -211,12 +212,12 @@ module _ (sizes : Sizes) (node : ℕ → Node) (edges : ℕ → List ℕ) (froze
   cut_part x o = ap (λ (l : List ℕ). cond (frozen x) l []) (part_same (λ y. (put i v node y).marked)
       (λ y. (node y).marked) (cut x) (λ y _. cut_mark y)) ∙ by (frozen x) (c.handed x i o)
     where
-      by : (b : Bool) → (stands i (cond b (take_while (λ y. (node y).marked) (edges x)) []) ≡ true →
+      by : (b : Bool) → (stands_in (cond b (take_while (λ y. (node y).marked) (edges x)) []) i ≡ true →
           (node i).mode ≡ Spent) → cond b (take_while (λ y. (node y).marked) (cut x)) [] ≡ cond b
           (take_while (λ y. (node y).marked) (edges x)) []
       by true h = part_unlinked (λ y. (node y).marked) i (edges x) marked
-          (yes_no (stands i (take_while (λ y. (node y).marked) (edges x)) ≡ false)
-          (stands i (take_while (λ y. (node y).marked) (edges x))) (λ t. let s = h t in absurd (cc)) (λ f. f))
+          (yes_no (stands_in (take_while (λ y. (node y).marked) (edges x)) i ≡ false)
+          (stands_in (take_while (λ y. (node y).marked) (edges x)) i) (λ t. let s = h t in absurd (cc)) (λ f. f))
       by false h = refl
 
   cut_source : (y : ℕ) → y < sizes.nodes → (put i v node y).mode ≡ Linked → (put i v node y).vertex ≡ false
@@ -227,7 +228,7 @@ module _ (sizes : Sizes) (node : ℕ → Node) (edges : ℕ → List ℕ) (froze
       let same : put i v node y ≡ node y = cut_node y ne in
       let d = c.source y t (ap (λ (n : Node). n.mode) (sym same) ∙ l) (ap (λ (n : Node). n.vertex) (sym same) ∙ e) in
       subst (λ (n : Node). IsOpenList sizes (put i v node) cut frozen n.source.index ×
-      (n.source.tag ≡ (put i v node n.source.index).tag) × (stands y (cut n.source.index) ≡ true) → IsOnSource sizes
+      (n.source.tag ≡ (put i v node n.source.index).tag) × (stands_in (cut n.source.index) y ≡ true) → IsOnSource sizes
       (put i v node) cut frozen y) same
       (λ q. record { list = q.0; life = q.1; on = q.2 }) (
         cut_still (node y).source.index d.list,
@@ -251,13 +252,13 @@ module _ (sizes : Sizes) (node : ℕ → Node) (edges : ℕ → List ℕ) (froze
     empty = λ x. put_case (λ (u : Node). u.mode ≡ Fresh → cut x ≡ []) i v node x (λ _ f. absurd (cc))
         (λ _ f. ap (unlinked_from i) (c.empty x f));
     handed = λ x y o h.
-        let p : stands y (part_of node edges frozen x) ≡ true = subst (λ (l : List ℕ). stands y l ≡ true)
+        let p : stands_in (part_of node edges frozen x) y ≡ true = subst (λ (l : List ℕ). stands_in l y ≡ true)
         (cut_part x (cut_open x o)) h in
         put_case (λ (u : Node). u.mode ≡ Spent) i v node y (λ _. spent) (λ _. c.handed x y (cut_open x o) p);
     linked = λ x y o h f.
         let r = unlinked_was i y (edges x) h in
         ap (λ (n : Node). n.mode) (cut_node y r.1) ∙ c.linked x y (cut_open x o) r.0
-        (subst (λ (l : List ℕ). stands y l ≡ false) (cut_part x (cut_open x o)) f);
+        (subst (λ (l : List ℕ). stands_in l y ≡ false) (cut_part x (cut_open x o)) f);
     unstored = λ x o. ap (λ (n : Node). n.stored) (cut_node x (now_vertex x o.vertex)) ∙ c.unstored x (cut_open x o);
     held = λ x y o h. let r = unlinked_was i y (edges x) h in ap (λ (n : Node). n.stored) (cut_node y r.1) ∙ c.held x y
         (cut_open x o) r.0;
@@ -275,8 +276,8 @@ module _ (sizes : Sizes) (node : ℕ → Node) (edges : ℕ → List ℕ) (froze
     (only : (x : ℕ) → IsWordOf sizes (second_at sizes x) place (edges x) → x ≡ v.source.index)
     (head : place ≡ second_at sizes v.source.index → frozen v.source.index ≡ false)
     (unmarked : (z : ℕ) → place ≡ link_at sizes z → (node z).marked ≡ false) where
-  abbrev joined : ℕ → List ℕ
-  joined x = linked_in sizes (second_at sizes x) place i (edges x)
+  abbrev joined_list : ℕ → List ℕ
+  joined_list x = linked_in sizes (second_at sizes x) place i (edges x)
 
   join_node : (y : ℕ) → y ≢ i → put i v node y ≡ node y
   join_node y ne = put_other i v node y ne
@@ -289,7 +290,7 @@ module _ (sizes : Sizes) (node : ℕ → Node) (edges : ℕ → List ℕ) (froze
   join_mark x = put_case (λ (u : Node). u.marked ≡ (node x).marked) i v node x
       (λ same. mark ∙ ap (λ (y : ℕ). (node y).marked) (sym same)) (λ _. refl)
 
-  not_new : (x y : ℕ) → stands y (edges x) ≡ true → y ≢ i
+  not_new : (x y : ℕ) → stands_in (edges x) y ≡ true → y ≢ i
   not_new x y h same = (c.on x y h).unfresh (ap (λ (z : ℕ). (node z).mode) same ∙ fresh)
 
   is_used : (x : ℕ) → IsUsed (node x).mode → x ≢ i
@@ -299,12 +300,12 @@ module _ (sizes : Sizes) (node : ℕ → Node) (edges : ℕ → List ℕ) (froze
   now_vertex' x t same = let u : (put i v node x).vertex ≡ false = ap (λ (y : ℕ). (put i v node y).vertex) same ∙
       (ap (λ (n : Node). n.vertex) (put_same i v node) ∙ edge) in absurd (cc)
 
-  pub joined_else : (x : ℕ) → x ≢ v.source.index → joined x ≡ edges x
+  pub joined_else : (x : ℕ) → x ≢ v.source.index → joined_list x ≡ edges x
   joined_else x ne = linked_none sizes (second_at sizes x) place i (edges x) (λ at. ne (only x at))
 
-  pub joined_was : (x y : ℕ) → stands y (joined x) ≡ true → ((stands y (edges x) ≡ true) × (y ≢ i)) ⊎
+  pub joined_was : (x y : ℕ) → stands_in (joined_list x) y ≡ true → ((stands_in (edges x) y ≡ true) × (y ≢ i)) ⊎
       ((y ≡ i) × (x ≡ v.source.index))
-  joined_was x y h = ⊎_elim (λ (t : stands y (edges x) ≡ true). inl (t, not_new x y t))
+  joined_was x y h = ⊎_elim (λ (t : stands_in (edges x) y ≡ true). inl (t, not_new x y t))
       (λ (t : (y ≡ i) × IsWordOf sizes (second_at sizes x) place (edges x)). inr (t.0, only x t.1))
       (linked_was sizes (second_at sizes x) place i y (edges x) h)
 
@@ -312,25 +313,25 @@ module _ (sizes : Sizes) (node : ℕ → Node) (edges : ℕ → List ℕ) (froze
   pub source_unfinished : IsFinished node edges frozen v.source.index → ⊥
   source_unfinished f = ⊎_elim
       (λ (at : place ≡ second_at sizes v.source.index). let t = head at in let u = f.head in absurd (cc))
-      (λ (at : (z : ℕ) × (stands z (edges v.source.index) ≡ true) × (place ≡ link_at sizes z)). let t = unmarked at.0
+      (λ (at : (z : ℕ) × (stands_in (edges v.source.index) z ≡ true) × (place ≡ link_at sizes z)). let t = unmarked at.0
       at.2 in let u = f.each at.0 at.1 in absurd (cc)) word
 
-  pub join_finished : (x : ℕ) → IsFinished node edges frozen x → IsFinished (put i v node) joined frozen x
+  pub join_finished : (x : ℕ) → IsFinished node edges frozen x → IsFinished (put i v node) joined_list frozen x
   join_finished x f = record {
     head = f.head;
-    each = λ y h. join_mark y ∙ ⊎_elim (λ (t : (stands y (edges x) ≡ true) × (y ≢ i)). f.each y t.0)
+    each = λ y h. join_mark y ∙ ⊎_elim (λ (t : (stands_in (edges x) y ≡ true) × (y ≢ i)). f.each y t.0)
         (λ (t : (y ≡ i) × (x ≡ v.source.index)). absurd (source_unfinished
         (subst (IsFinished node edges frozen) t.1 f))) (joined_was x y h);
   }
 
-  finished_join : (x : ℕ) → IsFinished (put i v node) joined frozen x → IsFinished node edges frozen x
+  finished_join : (x : ℕ) → IsFinished (put i v node) joined_list frozen x → IsFinished node edges frozen x
   finished_join x f = record {
     head = f.head;
     each = λ y h. sym (join_mark y) ∙ f.each y
         (linked_keeps sizes (second_at sizes x) place i y (edges x) h);
   }
 
-  pub join_open : (x : ℕ) → IsOpenList sizes (put i v node) joined frozen x → IsOpenList sizes node edges frozen x
+  pub join_open : (x : ℕ) → IsOpenList sizes (put i v node) joined_list frozen x → IsOpenList sizes node edges frozen x
   join_open x o =
       let same = join_node x (now_vertex' x o.vertex) in
       record {
@@ -341,7 +342,7 @@ module _ (sizes : Sizes) (node : ℕ → Node) (edges : ℕ → List ℕ) (froze
         unfinished = λ f. o.unfinished (join_finished x f);
       }
 
-  join_still : (x : ℕ) → IsOpenList sizes node edges frozen x → IsOpenList sizes (put i v node) joined frozen x
+  join_still : (x : ℕ) → IsOpenList sizes node edges frozen x → IsOpenList sizes (put i v node) joined_list frozen x
   join_still x o =
       let same = join_node x (is_used x o.used) in
       record {
@@ -352,21 +353,22 @@ module _ (sizes : Sizes) (node : ℕ → Node) (edges : ℕ → List ℕ) (froze
         unfinished = λ f. o.unfinished (finished_join x f);
       }
 
-  join_part : (x : ℕ) → part_of (put i v node) joined frozen x ≡ part_of node edges frozen x
+  join_part : (x : ℕ) → part_of (put i v node) joined_list frozen x ≡ part_of node edges frozen x
   join_part x = ap (λ (l : List ℕ). cond (frozen x) l []) (part_same (λ y. (put i v node y).marked)
-      (λ y. (node y).marked) (joined x) (λ y _. join_mark y))
+      (λ y. (node y).marked) (joined_list x) (λ y _. join_mark y))
       ∙ dite (ℕ_discrete x v.source.index)
       (λ same. by (frozen x) (λ at. ap frozen same ∙ head (at ∙ ap (second_at sizes) same)))
       (λ ne. ap (λ (l : List ℕ). cond (frozen x) (take_while (λ y. (node y).marked) l) []) (joined_else x ne))
     where
       by : (b : Bool) → (place ≡ second_at sizes x → b ≡ false) → cond b
-          (take_while (λ y. (node y).marked) (joined x)) [] ≡ cond b (take_while (λ y. (node y).marked) (edges x)) []
+          (take_while (λ y. (node y).marked) (joined_list x)) [] ≡ cond b (take_while (λ y. (node y).marked) (edges x))
+          []
       by true h = part_linked (λ y. (node y).marked) sizes (second_at sizes x) place i (edges x)
           (λ at. let t = h at in absurd (cc)) (λ z _ at. unmarked z at)
       by false h = refl
 
   join_source : (y : ℕ) → y < sizes.nodes → (put i v node y).mode ≡ Linked → (put i v node y).vertex ≡ false
-      → IsOnSource sizes (put i v node) joined frozen y
+      → IsOnSource sizes (put i v node) joined_list frozen y
   join_source y t l e = dite (ℕ_discrete y i)
       (λ same. build v (ap (put i v node) same ∙ put_same i v node) (
         join_still v.source.index (record {
@@ -376,7 +378,7 @@ module _ (sizes : Sizes) (node : ℕ → Node) (edges : ℕ → List ℕ) (froze
           unfinished = source_unfinished;
         }),
         life ∙ sym (join_tag v.source.index),
-        subst (λ (z : ℕ). stands z (joined v.source.index) ≡ true) (sym same)
+        subst (λ (z : ℕ). stands_in (joined_list v.source.index) z ≡ true) (sym same)
             (linked_joins sizes (second_at sizes v.source.index) place i (edges v.source.index) word),
       ))
       (λ ne.
@@ -390,17 +392,17 @@ module _ (sizes : Sizes) (node : ℕ → Node) (edges : ℕ → List ℕ) (froze
             (edges (node y).source.index) d.on,
       ))
     where
-      build : (n : Node) → put i v node y ≡ n → IsOpenList sizes (put i v node) joined frozen n.source.index ×
-          (n.source.tag ≡ (put i v node n.source.index).tag) × (stands y (joined n.source.index) ≡ true)
-          → IsOnSource sizes (put i v node) joined frozen y
-      build n same q = subst (λ (n : Node). IsOpenList sizes (put i v node) joined frozen n.source.index ×
-          (n.source.tag ≡ (put i v node n.source.index).tag) × (stands y (joined n.source.index) ≡ true)
-          → IsOnSource sizes (put i v node) joined frozen y) same
+      build : (n : Node) → put i v node y ≡ n → IsOpenList sizes (put i v node) joined_list frozen n.source.index ×
+          (n.source.tag ≡ (put i v node n.source.index).tag) × (stands_in (joined_list n.source.index) y ≡ true)
+          → IsOnSource sizes (put i v node) joined_list frozen y
+      build n same q = subst (λ (n : Node). IsOpenList sizes (put i v node) joined_list frozen n.source.index ×
+          (n.source.tag ≡ (put i v node n.source.index).tag) × (stands_in (joined_list n.source.index) y ≡ true)
+          → IsOnSource sizes (put i v node) joined_list frozen y) same
           (λ q. record { list = q.0; life = q.1; on = q.2 }) q
 
-  join_on : (x y : ℕ) → stands y (joined x) ≡ true → IsEdgeOn sizes (put i v node) x y
+  join_on : (x y : ℕ) → stands_in (joined_list x) y ≡ true → IsEdgeOn sizes (put i v node) x y
   join_on x y h = ⊎_elim
-      (λ (t : (stands y (edges x) ≡ true) × (y ≢ i)).
+      (λ (t : (stands_in (edges x) y ≡ true) × (y ≢ i)).
       let d = c.on x y t.0 in
       let same : put i v node y ≡ node y = join_node y t.1 in record {
         there = d.there;
@@ -420,25 +422,25 @@ module _ (sizes : Sizes) (node : ℕ → Node) (edges : ℕ → List ℕ) (froze
       })
       (joined_was x y h)
 
-  pub join_listing : Listing sizes (put i v node) joined frozen
+  pub join_listing : Listing sizes (put i v node) joined_list frozen
   join_listing = record {
     on = join_on;
-    empty = λ x. put_case (λ (u : Node). u.mode ≡ Fresh → joined x ≡ []) i v node x (λ _ f. absurd (cc))
+    empty = λ x. put_case (λ (u : Node). u.mode ≡ Fresh → joined_list x ≡ []) i v node x (λ _ f. absurd (cc))
         (λ _ f. joined_else x (λ same. subst IsUsed (ap (λ (z : ℕ). (node z).mode) (sym same) ∙ f) used) ∙ c.empty x f);
     handed = λ x y o h.
-        let p : stands y (part_of node edges frozen x) ≡ true = subst (λ (l : List ℕ). stands y l ≡ true)
+        let p : stands_in (part_of node edges frozen x) y ≡ true = subst (λ (l : List ℕ). stands_in l y ≡ true)
         (join_part x) h in
         ap (λ (n : Node). n.mode) (join_node y (not_new x y (part_listed node edges frozen x y p))) ∙ c.handed x y
         (join_open x o) p;
     linked = λ x y o h f. ⊎_elim
-        (λ (t : (stands y (edges x) ≡ true) × (y ≢ i)). ap (λ (n : Node). n.mode) (join_node y t.1) ∙ c.linked x y
-        (join_open x o) t.0 (subst (λ (l : List ℕ). stands y l ≡ false) (join_part x) f))
+        (λ (t : (stands_in (edges x) y ≡ true) × (y ≢ i)). ap (λ (n : Node). n.mode) (join_node y t.1) ∙ c.linked x y
+        (join_open x o) t.0 (subst (λ (l : List ℕ). stands_in l y ≡ false) (join_part x) f))
         (λ (t : (y ≡ i) × (x ≡ v.source.index)). ap (λ (z : ℕ). (put i v node z).mode) t.0 ∙
         (ap (λ (n : Node). n.mode) (put_same i v node) ∙ linked))
         (joined_was x y h);
     unstored = λ x o. ap (λ (n : Node). n.stored) (join_node x (now_vertex' x o.vertex)) ∙ c.unstored x (join_open x o);
     held = λ x y o h. ⊎_elim
-        (λ (t : (stands y (edges x) ≡ true) × (y ≢ i)). ap (λ (n : Node). n.stored) (join_node y t.1) ∙ c.held x y
+        (λ (t : (stands_in (edges x) y ≡ true) × (y ≢ i)). ap (λ (n : Node). n.stored) (join_node y t.1) ∙ c.held x y
         (join_open x o) t.0)
         (λ (t : (y ≡ i) × (x ≡ v.source.index)). ap (λ (z : ℕ). (put i v node z).stored) t.0 ∙
         (ap (λ (n : Node). n.stored) (put_same i v node) ∙ stored))

@@ -1,6 +1,7 @@
 -- The lives on the list of a vertex are those that were linked as edges of its life and not unlinked.
 use Rattle.std.proofs.Common.{◌≡◌, ◌≢◌, ℕ, ◌<◌, ◌⊎◌, Bool, true, false, List, [], ◌∷◌, ◌++◌, Some, None, refl, sym, ap}
 use Rattle.std.proofs.Common.{◌∙◌, subst, arith, ⊎_elim, inl, inr}
+use Rattle.graph_kinds.specs.Levels.{stands_in}
 use Rattle.packed_link.specs.Layout.{Sizes, IsLayout, link_at, second_at}
 use Rattle.packed_link.specs.Link.{mark_of, mark_bit}
 use Rattle.packed_link.specs.declared.link.Life.{Life}
@@ -21,14 +22,13 @@ use Rattle.core_lists.specs.Chains.{edge_chain, life_in, HasList, IsEdgeOf, IsIn
 use Rattle.core_kept.proofs.ByKind.{KeepsIn, put_other, all_in}
 use Rattle.core_kept.proofs.LinkWords.{taken, used_link}
 use Rattle.core_kept.proofs.Contents.{contents}
-use Rattle.core_kept.proofs.PastLives.{IsWithin, same_tag, other_index, this_life}
+use Rattle.core_kept.proofs.PastLives.{BeginsNoLife, same_tag, other_index, this_life}
 use Rattle.core_kept.proofs.Named.{life_is, named, link_first}
 use Rattle.core_kept.proofs.EdgeEnds.{new_vertex, new_edge, new_replacing}
 use Rattle.core_kept.proofs.LinkedVertices.{unlinked_skip, unlinked_other, IsStanding, life_of, standing, linked_stays}
 use Rattle.core_kept.proofs.LinkedVertices.{not_this}
 use Rattle.core_kept.proofs.LinkedEdges.{live_edges}
 use Rattle.core_kept.proofs.NodesInPlace.{used_there}
-use Rattle.core_kept.proofs.MetFromHead.{stands}
 use Rattle.core_kept.proofs.NodesOnLists.{yes_no, unlinked_was, unlinked_keeps, linked_was, linked_keeps, linked_joins}
 use Rattle.core_lists.proofs.ListHolds.{open_mode}
 use Rattle.core_lists.proofs.ListHoldsKept.{listing, link_joins, replace_joins, IsOpenIn, open_before, open_linked}
@@ -38,10 +38,10 @@ use Rattle.core_lists.proofs.ListChains.{lists}
 
 -- no life on a list was unlinked
 pub record NotCut (journal : List Event) (s : State) : Type 0 where
-  pub on : (x y : ℕ) → stands y (s.edges x) ≡ true → unlinked journal (life_of y (s.node y)) ≡ false
+  pub on : (x y : ℕ) → stands_in (s.edges x) y ≡ true → unlinked journal (life_of y (s.node y)) ≡ false
 
 -- no kind but the taking of a node changes the life of a node
-pub still_life : (k : Kind) → IsWithin k → (sizes : Sizes) (e : Event) (s : State) (y : ℕ) → life_of y
+pub still_life : (k : Kind) → BeginsNoLife k → (sizes : Sizes) (e : Event) (s : State) (y : ℕ) → life_of y
     ((state_by k sizes e s).node y) ≡ life_of y (s.node y)
 still_life k o sizes e s y = let f : ℕ → Life = λ n. record { index = y; tag = n } in ap f (same_tag k o sizes e s y)
 
@@ -67,7 +67,7 @@ not_cut_step sizes z past e kept c ReplaceEdge is ok w a = record {
       let s : State = state sizes past in
       ap (unlinked (past ++ e ∷ [])) (still_life ReplaceEdge tt sizes e s y) ∙
       (unlinked_skip past e (ap unlinks is) (life_of y (s.node y)) ∙ ⊎_elim
-      (λ (t : stands y (s.edges x) ≡ true). c.on x y t)
+      (λ (t : stands_in (s.edges x) y ≡ true). c.on x y t)
       (λ (t : (y ≡ e.life.index) × _). (standing sizes z past kept).each y
       (subst (λ (i : ℕ). IsStanding (s.node i).mode) (sym t.0) (subst IsStanding (sym ok.fresh.fresh) tt)))
       (linked_was sizes (second_at sizes x) e.place e.life.index y (s.edges x) h));
@@ -77,7 +77,7 @@ not_cut_step sizes z past e kept c LinkEdge is ok w a = record {
       let s : State = state sizes past in
       ap (unlinked (past ++ e ∷ [])) (still_life LinkEdge tt sizes e s y) ∙
       (unlinked_skip past e (ap unlinks is) (life_of y (s.node y)) ∙ ⊎_elim
-      (λ (t : stands y (s.edges x) ≡ true). c.on x y t)
+      (λ (t : stands_in (s.edges x) y ≡ true). c.on x y t)
       (λ (t : (y ≡ e.life.index) × _). (standing sizes z past kept).each y
       (subst (λ (i : ℕ). IsStanding (s.node i).mode) (sym t.0) (subst IsStanding (sym ok.fresh.fresh) tt)))
       (linked_was sizes (second_at sizes x) e.place e.life.index y (s.edges x) h));
@@ -110,7 +110,7 @@ not_cut sizes z journal kept = all_in sizes (λ (j : List Event) (s : State) (w 
 -- a life stands on the list of a vertex
 pub record IsStandingOn (s : State) (x : ℕ) (l : Life) : Type 0 where
   pub life : l.tag ≡ (s.node l.index).tag
-  pub on : stands l.index (s.edges x) ≡ true
+  pub on : stands_in (s.edges x) l.index ≡ true
 
 -- all lives that were linked as edges of a vertex's life and not unlinked stand on its list
 abbrev pub StandsAll : List Event → State → ℕ → Type 0
@@ -127,7 +127,7 @@ stands_still : (s s' : State) (x : ℕ) (l : Life) → (s'.node l.index).tag ≡
 stands_still s s' x l tag same h = record {
   life = h.life ∙ sym tag;
   on = subst
-      (λ (xs : List ℕ). stands l.index xs ≡ true) (sym same) h.on;
+      (λ (xs : List ℕ). stands_in xs l.index ≡ true) (sym same) h.on;
 }
 
 some_is : {A : Type 0} (a b : A) → Some a ≡ Some b → a ≡ b
@@ -155,8 +155,8 @@ module _ (sizes : Sizes) (z : IsLayout sizes) (past : List Event) (e : Event) (k
           record {
             life = ap (λ (y : Life). y.tag) one ∙ (ok.life ∙ (sym (same_tag LinkEdge tt sizes e s e.life.index) ∙ ap
                 (λ (y : Life). (s'.node y.index).tag) (sym one)));
-            on = subst (λ (i : ℕ). stands i (s'.edges x) ≡ true) (ap (λ (y : Life). y.index) (sym one))
-                (subst (λ (y : ℕ). stands e.life.index (s'.edges y) ≡ true) home
+            on = subst (λ (i : ℕ). stands_in (s'.edges x) i ≡ true) (ap (λ (y : Life). y.index) (sym one))
+                (subst (λ (y : ℕ). stands_in (s'.edges y) e.life.index ≡ true) home
                 (linked_joins sizes (second_at sizes e.source.index) e.place e.life.index (s.edges e.source.index)
                 (link_joins sizes z past e kept (listing sizes z past kept) ok).word));
           }
@@ -189,8 +189,8 @@ module _ (sizes : Sizes) (z : IsLayout sizes) (past : List Event) (e : Event) (k
           record {
             life = ap (λ (y : Life). y.tag) one ∙ (ok.life ∙ (sym (same_tag ReplaceEdge tt sizes e s e.life.index) ∙ ap
                 (λ (y : Life). (s'.node y.index).tag) (sym one)));
-            on = subst (λ (i : ℕ). stands i (s'.edges x) ≡ true) (ap (λ (y : Life). y.index) (sym one))
-                (subst (λ (y : ℕ). stands e.life.index (s'.edges y) ≡ true) home
+            on = subst (λ (i : ℕ). stands_in (s'.edges x) i ≡ true) (ap (λ (y : Life). y.index) (sym one))
+                (subst (λ (y : ℕ). stands_in (s'.edges y) e.life.index ≡ true) home
                 (linked_joins sizes (second_at sizes e.source.index) e.place e.life.index (s.edges e.source.index)
                 (replace_joins sizes z past e kept (listing sizes z past kept) ok).word));
           }
@@ -222,7 +222,7 @@ module _ (sizes : Sizes) (z : IsLayout sizes) (past : List Event) (e : Event) (k
 
   -- a node that is taken is neither the vertex nor one of its edges
   pop_stands : e.kind ≡ PopFree → AllowedAs PopFree sizes past e → x ≢ e.life.index →
-      (stands e.life.index ((state sizes past).edges x) ≡ true → ⊥) → StandsAll (past ++ e ∷ [])
+      (stands_in ((state sizes past).edges x) e.life.index ≡ true → ⊥) → StandsAll (past ++ e ∷ [])
       (state_by PopFree sizes e (state sizes past)) x
   pop_stands is ok not_x off l link h from stays =
       let s : State = state sizes past in
@@ -236,10 +236,11 @@ module _ (sizes : Sizes) (z : IsLayout sizes) (past : List Event) (e : Event) (k
       let old = c l link (sym (link_skip past e (ap links_edge is) l) ∙ h)
       (from ∙ ap (λ (n : Node). life_of x n) (put_other e.life.index v s.node x not_x))
       (sym (unlinked_skip past e (ap unlinks is) l) ∙ stays) in
-      let apart : l.index ≢ e.life.index = λ same. off (subst (λ (i : ℕ). stands i (s.edges x) ≡ true) same old.on) in
+      let apart : l.index ≢ e.life.index = λ same. off (subst (λ (i : ℕ). stands_in (s.edges x) i ≡ true) same old.on)
+      in
       record {
         life = old.life ∙ ap (λ (n : Node). n.tag) (sym (put_other e.life.index v s.node l.index apart));
-        on = subst (λ (xs : List ℕ). stands l.index xs ≡ true)
+        on = subst (λ (xs : List ℕ). stands_in xs l.index ≡ true)
             (sym (put_other e.life.index [] (λ y. unlinked_from e.life.index (s.edges y)) x not_x))
             (unlinked_keeps e.life.index l.index (s.edges x) old.on apart);
       }
@@ -255,7 +256,7 @@ module _ (sizes : Sizes) (z : IsLayout sizes) (past : List Event) (e : Event) (k
 
   -- by the kind
   pub stands_after : (k : Kind) → e.kind ≡ k → AllowedAs k sizes past e →
-      (k ≡ PopFree → (x ≢ e.life.index) × (stands e.life.index ((state sizes past).edges x) ≡ true → ⊥)) → StandsAll
+      (k ≡ PopFree → (x ≢ e.life.index) × (stands_in ((state sizes past).edges x) e.life.index ≡ true → ⊥)) → StandsAll
       (past ++ e ∷ []) (state_by k sizes e (state sizes past)) x
   stands_after PopFree is ok apart l link h from stays = pop_stands is ok (apart refl).0
       (apart refl).1 l link h from stays

@@ -32,7 +32,7 @@ use Rattle.core_kept.proofs.Induction.{allowed_at, kept_front}
 use Rattle.core_kept.proofs.ByKind.{IsAfter, KeepsByKind, put_case, holds_onward}
 use Rattle.core_kept.proofs.LinkWords.{link_words, taken}
 use Rattle.core_kept.proofs.LinkedOnce.{fresh_before}
-use Rattle.core_kept.proofs.PastLives.{IsWithin, same_tag, counters}
+use Rattle.core_kept.proofs.PastLives.{BeginsNoLife, same_tag, counters}
 use Rattle.core_kept.proofs.Named.{life_is, named}
 use Rattle.core_kept.proofs.EdgeEnds.{ends_linked, frozen_edge, not_none}
 use Rattle.core_kept.proofs.NodesInPlace.{used_there}
@@ -249,7 +249,7 @@ record IsNoLess (sizes : Sizes) (x tag word : ℕ) (s : State) (w : ℕ → ℕ)
 
 module _ (sizes : Sizes) (z : IsLayout sizes) (x tag word : ℕ) where
   -- a kind writes no less
-  third_word : (past : List Event) (e : Event) (k : Kind) → IsWithin k → AllowedAs k sizes past e →
+  third_word : (past : List Event) (e : Event) (k : Kind) → BeginsNoLife k → AllowedAs k sizes past e →
       (node_in sizes past x).mode ≢ Fresh → (w : ℕ → ℕ) → IsAfter sizes past e w → word_at sizes past
       (third_at sizes x) ≤ w (third_at sizes x)
   third_word past e PopFree o ok fresh w a = absurd o
@@ -318,7 +318,8 @@ pub met_lower : (sizes : Sizes) → IsLayout sizes → (journal : List Event) �
     → IsLinkedLower sizes journal (length journal) link × ((node_in sizes journal link.source.index).stored ≡ false)
 met_lower sizes z journal kept caller x link is vertex m r =
     let whole : take (length journal) journal ≡ journal = take-length journal in
-    let was : link_of (take (length journal) journal) x ≡ Some link = ap (λ (l : List Event). link_of l x) whole ∙ is in (
+    let was : link_of (take (length journal) journal) x ≡ Some link =
+    ap (λ (l : List Event). link_of l x) whole ∙ is in (
       lower_at sizes z journal kept (length journal) caller x link was
           (subst (λ (l : List Event). IsRaisedFor sizes l caller x link.source) (sym whole) r)
           (subst (λ (l : List Event). IsVertex sizes l link.source) (sym whole) vertex),

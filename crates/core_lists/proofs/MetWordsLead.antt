@@ -210,51 +210,51 @@ record MetLinks (sizes : Sizes) (journal : List Event) : Type 0 where
 
 module _ (sizes : Sizes) (z : IsLayout sizes) (past : List Event) (e : Event) (kept : IsKept sizes past)
     (ok : Allowed sizes past e) (c : MetLinks sizes past) where
-  abbrev after : List Event
-  after = past ++ e ∷ []
+  abbrev grown : List Event
+  grown = past ++ e ∷ []
 
-  kept_after : IsKept sizes after
+  kept_after : IsKept sizes grown
   kept_after = kept_snoc sizes past e kept ok
 
-  met_link : (i x : ℕ) → x < sizes.nodes → HasMet sizes after i x → (node_in sizes after x).mode ≡ Spent → LeadsTo
-      (word_at sizes after (link_at sizes x)) (IsMetBehind sizes after i x)
+  met_link : (i x : ℕ) → x < sizes.nodes → HasMet sizes grown i x → (node_in sizes grown x).mode ≡ Spent → LeadsTo
+      (word_at sizes grown (link_at sizes x)) (IsMetBehind sizes grown i x)
   met_link i x within m spent = by (met_before sizes z past e kept ok i x m spent) (turn sizes z past e kept ok x)
     where
-      by : IsMetBefore sizes past after i x → ModeStep sizes past e (word_at sizes after) x (node_in sizes after x)
-          → LeadsTo (word_at sizes after (link_at sizes x)) (IsMetBehind sizes after i x)
+      by : IsMetBefore sizes past grown i x → ModeStep sizes past e (word_at sizes grown) x (node_in sizes grown x)
+          → LeadsTo (word_at sizes grown (link_at sizes x)) (IsMetBehind sizes grown i x)
       by b (stays h _ t _) =
           let was : (node_in sizes past x).mode ≡ Spent = sym h ∙ spent in
-          let same = marked_link_stays sizes z x past after (prefix_snoc past e) kept_after (λ f. absurd (cc))
+          let same = marked_link_stays sizes z x past grown (prefix_snoc past e) kept_after (λ f. absurd (cc))
           (((link_words sizes z past kept).each x within).spent was).marked t
-          (met_unstored sizes z after kept_after i x within m spent) in
-          leads_same (word_at sizes past (link_at sizes x)) (word_at sizes after (link_at sizes x))
-          (IsMetBehind sizes past i x) (IsMetBehind sizes after i x) (ap index_of same)
-          (λ y d. behind_stays sizes z past after kept_after i x b.same b.met within y d) (c.link i x within b.met was)
+          (met_unstored sizes z grown kept_after i x within m spent) in
+          leads_same (word_at sizes past (link_at sizes x)) (word_at sizes grown (link_at sizes x))
+          (IsMetBehind sizes past i x) (IsMetBehind sizes grown i x) (ap index_of same)
+          (λ y d. behind_stays sizes z past grown kept_after i x b.same b.met within y d) (c.link i x within b.met was)
       by b (spends h _ _ same) = leads_same (word_at sizes past (link_at sizes x))
-          (word_at sizes after (link_at sizes x)) (IsLinkedBehind sizes past x) (IsMetBehind sizes after i x) same
-          (λ y d. behind_stays sizes z past after kept_after i x b.same b.met within y
+          (word_at sizes grown (link_at sizes x)) (IsLinkedBehind sizes past x) (IsMetBehind sizes grown i x) same
+          (λ y d. behind_stays sizes z past grown kept_after i x b.same b.met within y
           (met_behind sizes past i b.met.pass x y d)) (linked_leads sizes z past kept x within h)
-      by b (swaps is r same h _ _ here) = inr (subst (IsMetBehind sizes after i x)
+      by b (swaps is r same h _ _ here) = inr (subst (IsMetBehind sizes grown i x)
           (sym (ap index_of here ∙ leads_new sizes z past e kept r))
           (let y : ℕ = e.life.index in
           let new = new_after sizes z past e kept r is in
-          let linked : (node_in sizes after y).mode ≡ Linked = ap (λ (v : Node). v.mode) new in
-          let edge : (node_in sizes after y).vertex ≡ false = ap (λ (v : Node). v.vertex) new in
-          let s = still_met sizes z past after kept_after i x b.same b.met in
+          let linked : (node_in sizes grown y).mode ≡ Linked = ap (λ (v : Node). v.mode) new in
+          let edge : (node_in sizes grown y).vertex ≡ false = ap (λ (v : Node). v.vertex) new in
+          let s = still_met sizes z past grown kept_after i x b.same b.met in
           let was : (node_in sizes past x).vertex ≡ false = ap (λ (j : ℕ). (node_in sizes past j).vertex) same
           ∙ r.linked.edge in
-          let no_vertex : (node_in sizes after x).vertex ≡ true → ⊥ = λ t. let f = s.1.vertex ∙ was in absurd (cc) in
-          let key_x = key_stays sizes z past after kept_after i x b.same b.met within ∙
+          let no_vertex : (node_in sizes grown x).vertex ≡ true → ⊥ = λ t. let f = s.1.vertex ∙ was in absurd (cc) in
+          let key_x = key_stays sizes z past grown kept_after i x b.same b.met within ∙
           (((contents sizes z past kept).each x within).edge (subst IsUsed (sym h) tt) was).key_word in
-          let key_y = (((contents sizes z after kept_after).each y r.there).edge
+          let key_y = (((contents sizes z grown kept_after).each y r.there).edge
           (subst IsUsed (sym linked) tt) edge).key_word ∙
           (ap (λ (v : Node). v.key) new ∙ (r.key ∙ ap (λ (j : ℕ). (node_in sizes past j).key) (sym same))) in
           record {
             there = r.there;
-            met = linked_met sizes after i m.pass y linked;
+            met = linked_met sizes grown i m.pass y linked;
             kind = edge ∙ sym (s.1.vertex ∙ was);
             rising = omega (arith, key_x, key_y);
-            strictly = λ c. absurd (⊎_elim no_vertex (λ (live : mark_of (word_at sizes after (link_at sizes x)) ≡ 0).
+            strictly = λ c. absurd (⊎_elim no_vertex (λ (live : mark_of (word_at sizes grown (link_at sizes x)) ≡ 0).
                 let one = ap mark_of here ∙ marks_old sizes z past e kept r in omega (arith, live, one)) c);
             bucket = λ t. absurd (no_vertex t);
             source = λ _. ap (λ (v : Node). v.source) new ∙ (r.source ∙
@@ -264,34 +264,34 @@ module _ (sizes : Sizes) (z : IsLayout sizes) (past : List Event) (e : Event) (k
       by b (takes _ h) = absurd (cc)
       by b (frees _ h) = absurd (cc)
 
-  met_list : (i x : ℕ) → x < sizes.nodes → HasMet sizes after i x → (node_in sizes after x).mode ≡ Spent →
-      (node_in sizes after x).vertex ≡ true → LeadsTo (word_at sizes after (second_at sizes x))
-      (IsMetIn sizes after i x)
-  met_list i x within m spent vertex = yes_no (LeadsTo (word_at sizes after (second_at sizes x))
-      (IsMetIn sizes after i x)) ((state sizes after).frozen x)
+  met_list : (i x : ℕ) → x < sizes.nodes → HasMet sizes grown i x → (node_in sizes grown x).mode ≡ Spent →
+      (node_in sizes grown x).vertex ≡ true → LeadsTo (word_at sizes grown (second_at sizes x))
+      (IsMetIn sizes grown i x)
+  met_list i x within m spent vertex = yes_no (LeadsTo (word_at sizes grown (second_at sizes x))
+      (IsMetIn sizes grown i x)) ((state sizes grown).frozen x)
       (λ h. by h (met_before sizes z past e kept ok i x m spent) (turn sizes z past e kept ok x))
-      (λ open_. leads_same (word_at sizes after (second_at sizes x)) (word_at sizes after (second_at sizes x))
-      (IsLinkedIn sizes after x) (IsMetIn sizes after i x) refl (met_inside sizes after i m.pass x)
-      (head_leads sizes z after kept_after x within (subst IsUsed (sym spent) tt) vertex open_))
+      (λ open_. leads_same (word_at sizes grown (second_at sizes x)) (word_at sizes grown (second_at sizes x))
+      (IsLinkedIn sizes grown x) (IsMetIn sizes grown i x) refl (met_inside sizes grown i m.pass x)
+      (head_leads sizes z grown kept_after x within (subst IsUsed (sym spent) tt) vertex open_))
     where
-      by : (state sizes after).frozen x ≡ true → IsMetBefore sizes past after i x → ModeStep sizes past e
-          (word_at sizes after) x (node_in sizes after x) → LeadsTo (word_at sizes after (second_at sizes x))
-          (IsMetIn sizes after i x)
+      by : (state sizes grown).frozen x ≡ true → IsMetBefore sizes past grown i x → ModeStep sizes past e
+          (word_at sizes grown) x (node_in sizes grown x) → LeadsTo (word_at sizes grown (second_at sizes x))
+          (IsMetIn sizes grown i x)
       by h b (stays k _ t v) =
           let was : (node_in sizes past x).mode ≡ Spent = sym k ∙ spent in
           let kind : (node_in sizes past x).vertex ≡ true = sym v ∙ vertex in
-          yes_no (LeadsTo (word_at sizes after (second_at sizes x)) (IsMetIn sizes after i x))
+          yes_no (LeadsTo (word_at sizes grown (second_at sizes x)) (IsMetIn sizes grown i x))
           ((state sizes past).frozen x)
           (λ closed.
-          let same = marked_head_stays sizes z x past after (prefix_snoc past e) kept_after (λ f. absurd (cc))
+          let same = marked_head_stays sizes z x past grown (prefix_snoc past e) kept_after (λ f. absurd (cc))
           (head_marked sizes z past kept x within was kind closed) t in
-          leads_same (word_at sizes past (second_at sizes x)) (word_at sizes after (second_at sizes x))
-          (IsMetIn sizes past i x) (IsMetIn sizes after i x) (ap index_of same)
-          (λ y d. inside_stays sizes z past after kept_after i x b.same b.met y d) (c.list i x within b.met was kind))
+          leads_same (word_at sizes past (second_at sizes x)) (word_at sizes grown (second_at sizes x))
+          (IsMetIn sizes past i x) (IsMetIn sizes grown i x) (ap index_of same)
+          (λ y d. inside_stays sizes z past grown kept_after i x b.same b.met y d) (c.list i x within b.met was kind))
           (λ open_.
-          leads_same (word_at sizes past (second_at sizes x)) (word_at sizes after (second_at sizes x))
-          (IsLinkedIn sizes past x) (IsMetIn sizes after i x) (closing sizes z past e kept ok x open_ h).leads
-          (λ y d. inside_stays sizes z past after kept_after i x b.same b.met y
+          leads_same (word_at sizes past (second_at sizes x)) (word_at sizes grown (second_at sizes x))
+          (IsLinkedIn sizes past x) (IsMetIn sizes grown i x) (closing sizes z past e kept ok x open_ h).leads
+          (λ y d. inside_stays sizes z past grown kept_after i x b.same b.met y
           (met_inside sizes past i b.met.pass x y d)) (head_leads sizes z past kept x within
           (subst IsUsed (sym was) tt) kind open_))
       by h b (spends k _ _ _) = let d = (closing sizes z past e kept ok x (unclosed sizes z past kept x k) h).spent in
@@ -302,7 +302,7 @@ module _ (sizes : Sizes) (z : IsLayout sizes) (past : List Event) (e : Event) (k
       by h b (takes _ k) = absurd (cc)
       by h b (frees _ k) = absurd (cc)
 
-  met_step : MetLinks sizes after
+  met_step : MetLinks sizes grown
   met_step = record { link = met_link; list = met_list }
 
 met_links : (sizes : Sizes) → IsLayout sizes → (journal : List Event) → IsKept sizes journal → MetLinks sizes journal

@@ -1,5 +1,6 @@
 -- The edges of a closed list are spent by the caller who spent its vertex.
 use Rattle.std.proofs.Common.{◌≡◌, ◌≢◌, ℕ, ◌<◌, Bool, true, false, List, [], refl, sym, ap, ◌∙◌, subst, ⊎_elim}
+use Rattle.graph_kinds.specs.Levels.{stands_in}
 use Rattle.packed_link.specs.Layout.{Sizes, IsLayout, second_at}
 use Rattle.core_journal.specs.declared.event.Kind.TheVariants.{PopFree, LinkVertex, MarkVertex, UnlinkVertex, LinkEdge}
 use Rattle.core_journal.specs.declared.event.Kind.TheVariants.{MarkEdge, UnlinkEdge, FreezeHead, FreezeEdge, StoreFree}
@@ -12,7 +13,6 @@ use Rattle.core_kept.proofs.ByKind.{KeepsByKind, put_case, put_other, handed_cas
 use Rattle.core_kept.proofs.ByKind.{holds_all}
 use Rattle.core_kept.proofs.LinkWords.{taken}
 use Rattle.core_kept.proofs.Contents.{contents}
-use Rattle.core_kept.proofs.MetFromHead.{stands}
 use Rattle.core_kept.proofs.NodesOnLists.{unlinked_was, linked_was}
 use Rattle.core_lists.proofs.ListHolds.{ListingOf, part_listed, handed_split}
 use Rattle.core_lists.proofs.ListHoldsKept.{listing, replace_joins}
@@ -25,7 +25,7 @@ use Rattle.core_lists.proofs.ClosedHeadStays.{part_head, part_spent}
 -- no list of a linked node is closed
 pub record Spenders (node : ℕ → Node) (edges : ℕ → List ℕ) (frozen : ℕ → Bool) : Type 0 where
   pub closed : (x : ℕ) → frozen x ≡ true → (node x).mode ≢ Linked
-  pub edge : (x y : ℕ) → IsUsed (node x).mode → (node x).vertex ≡ true → stands y (edges x) ≡ true →
+  pub edge : (x y : ℕ) → IsUsed (node x).mode → (node x).vertex ≡ true → stands_in (edges x) y ≡ true →
       (node y).mode ≡ Spent → (frozen x ≡ true) × ((node y).who ≡ (node x).who)
 
 -- a vertex with an edge on its list, and that edge, before one node changes
@@ -33,34 +33,36 @@ record IsPairMoved (node : ℕ → Node) (edges edges' : ℕ → List ℕ) (froz
     (v : Node) : Type 0 where
   pub frozen_else : (x : ℕ) → x ≢ i → frozen' x ≡ frozen x
   pub frozen_here : frozen' i ≡ true → v.mode ≢ Linked
-  pub lists : (x y : ℕ) → stands y (edges' x) ≡ true → y ≢ i → stands y (edges x) ≡ true
-  pub vertex : IsUsed v.mode → v.vertex ≡ true → (y : ℕ) → stands y (edges' i) ≡ true → IsUsed (node i).mode ×
+  pub lists : (x y : ℕ) → stands_in (edges' x) y ≡ true → y ≢ i → stands_in (edges x) y ≡ true
+  pub vertex : IsUsed v.mode → v.vertex ≡ true → (y : ℕ) → stands_in (edges' i) y ≡ true → IsUsed (node i).mode ×
       ((node i).vertex ≡ true) × (frozen i ≡ true → (v.who ≡ (node i).who) × (frozen' i ≡ true))
-  pub edge : (x : ℕ) → stands i (edges' x) ≡ true → v.mode ≡ Spent → ((node i).mode ≡ Spent) × (v.who ≡ (node i).who) ×
-      (stands i (edges x) ≡ true)
+  pub edge : (x : ℕ) → stands_in (edges' x) i ≡ true → v.mode ≡ Spent → ((node i).mode ≡ Spent) ×
+      (v.who ≡ (node i).who) ×
+      (stands_in (edges x) i ≡ true)
 
 module _ (node : ℕ → Node) (edges edges' : ℕ → List ℕ) (frozen frozen' : ℕ → Bool) (i : ℕ) (v : Node)
     (m : IsPairMoved node edges edges' frozen frozen' i v) (c : Spenders node edges frozen) where
-  edge_before : (x y : ℕ) → stands y (edges' x) ≡ true → (put i v node y).mode ≡ Spent → ((node y).mode ≡ Spent) ×
-      ((put i v node y).who ≡ (node y).who) × (stands y (edges x) ≡ true)
+  edge_before : (x y : ℕ) → stands_in (edges' x) y ≡ true → (put i v node y).mode ≡ Spent → ((node y).mode ≡ Spent) ×
+      ((put i v node y).who ≡ (node y).who) × (stands_in (edges x) y ≡ true)
   edge_before x y h = put_case (λ (n : Node). n.mode ≡ Spent → ((node y).mode ≡ Spent) × (n.who ≡ (node y).who) ×
-      (stands y (edges x) ≡ true)) i v node y
-      (λ same g. let q = m.edge x (subst (λ (j : ℕ). stands j (edges' x) ≡ true) same h) g in (
+      (stands_in (edges x) y ≡ true)) i v node y
+      (λ same g. let q = m.edge x (subst (λ (j : ℕ). stands_in (edges' x) j ≡ true) same h) g in (
         ap (λ (j : ℕ). (node j).mode) same ∙ q.0,
         q.1 ∙ ap (λ (j : ℕ). (node j).who) (sym same),
         subst
-            (λ (j : ℕ). stands j (edges x) ≡ true) (sym same) q.2,
+            (λ (j : ℕ). stands_in (edges x) j ≡ true) (sym same) q.2,
       ))
       (λ ne g. (g, refl, m.lists x y h ne))
 
-  vertex_before : (x y : ℕ) → stands y (edges' x) ≡ true → IsUsed (put i v node x).mode → (put i v node x).vertex ≡ true
+  vertex_before : (x y : ℕ) → stands_in (edges' x) y ≡ true → IsUsed (put i v node x).mode → (put i v node x).vertex
+      ≡ true
       → IsUsed (node x).mode × ((node x).vertex ≡ true) × (frozen x ≡ true → ((put i v node x).who ≡ (node x).who) ×
       (frozen' x ≡ true))
   vertex_before x y h = put_case (λ (n : Node). IsUsed n.mode → n.vertex ≡ true → IsUsed (node x).mode ×
       ((node x).vertex ≡ true) × (frozen x ≡ true → (n.who ≡ (node x).who) × (frozen' x ≡ true))) i v node x
       (λ same u t. subst (λ (j : ℕ). IsUsed (node j).mode × ((node j).vertex ≡ true) ×
       (frozen j ≡ true → (v.who ≡ (node j).who) × (frozen' j ≡ true))) (sym same)
-      (m.vertex u t y (subst (λ (j : ℕ). stands y (edges' j) ≡ true) same h)))
+      (m.vertex u t y (subst (λ (j : ℕ). stands_in (edges' j) y ≡ true) same h)))
       (λ ne u t. (u, t, λ f. (refl, m.frozen_else x ne ∙ f)))
 
   spenders_moved : Spenders (put i v node) edges' frozen'
@@ -76,7 +78,7 @@ module _ (node : ℕ → Node) (edges edges' : ℕ → List ℕ) (frozen frozen'
   }
 
 -- the frozen part of a list is handed over
-spenders_handed : (s : State) (v : ℕ) → ((x y : ℕ) → stands y (s.edges x) ≡ true → ((s.node y).vertex ≡ false) ×
+spenders_handed : (s : State) (v : ℕ) → ((x y : ℕ) → stands_in (s.edges x) y ≡ true → ((s.node y).vertex ≡ false) ×
     ((s.node y).source.index ≡ x)) → Spenders s.node s.edges s.frozen → Spenders (handed v s).node s.edges s.frozen
 spenders_handed s v on c = record {
   closed = λ x h. handed_split (λ (n : Node). n.mode ≢ Linked) s v x (λ _. c.closed x h) (λ _ _ l. absurd (cc));
@@ -110,7 +112,7 @@ pair_marked s i closed = record {
 }
 
 module _ (sizes : Sizes) (z : IsLayout sizes) (past : List Event) (kept : IsKept sizes past) where
-  on_past : (i : ℕ) (x y : ℕ) → stands y ((state sizes past).edges x) ≡ true →
+  on_past : (i : ℕ) (x y : ℕ) → stands_in ((state sizes past).edges x) y ≡ true →
       (((marked_state (state sizes past) i).node y).vertex ≡ false) ×
       (((marked_state (state sizes past) i).node y).source.index ≡ x)
   on_past i x y h =
@@ -123,14 +125,15 @@ module _ (sizes : Sizes) (z : IsLayout sizes) (past : List Event) (kept : IsKept
       ))
       (λ _. (d.edge, d.index))
 
-  vertex_off_list : (i x : ℕ) → (node_in sizes past i).vertex ≡ true → stands i ((state sizes past).edges x) ≡ true → ⊥
+  vertex_off_list : (i x : ℕ) → (node_in sizes past i).vertex ≡ true → stands_in ((state sizes past).edges x) i ≡ true →
+      ⊥
   vertex_off_list i x v h = let b = ((listing sizes z past kept).on x i h).edge in absurd (cc)
 
-  fresh_off_list : (i x : ℕ) → (node_in sizes past i).mode ≡ Fresh → stands i ((state sizes past).edges x) ≡ true → ⊥
+  fresh_off_list : (i x : ℕ) → (node_in sizes past i).mode ≡ Fresh → stands_in ((state sizes past).edges x) i ≡ true → ⊥
   fresh_off_list i x f h = ((listing sizes z past kept).on x i h).unfresh f
 
-  no_edges_yet : (i y : ℕ) → (node_in sizes past i).mode ≡ Fresh → stands y ((state sizes past).edges i) ≡ true → ⊥
-  no_edges_yet i y f h = let t : stands y [] ≡ true = subst (λ (l : List ℕ). stands y l ≡ true)
+  no_edges_yet : (i y : ℕ) → (node_in sizes past i).mode ≡ Fresh → stands_in ((state sizes past).edges i) y ≡ true → ⊥
+  no_edges_yet i y f h = let t : stands_in [] y ≡ true = subst (λ (l : List ℕ). stands_in l y ≡ true)
       ((listing sizes z past kept).empty i f) h in absurd (cc)
 
   open_yet : (i : ℕ) → i < sizes.nodes → (node_in sizes past i).mode ≡ Fresh → (state sizes past).frozen i ≡ true → ⊥
@@ -188,7 +191,7 @@ spenders_step sizes z past e kept c LinkEdge by ok w a = spenders_moved (state s
     (state sizes past).frozen e.life.index _ record {
       frozen_else = λ x _. refl;
       frozen_here = λ h. absurd (open_yet sizes z past kept e.life.index ok.there ok.fresh.fresh h);
-      lists = λ x y h ne. ⊎_elim (λ (t : stands y ((state sizes past).edges x) ≡ true). t)
+      lists = λ x y h ne. ⊎_elim (λ (t : stands_in ((state sizes past).edges x) y ≡ true). t)
           (λ (t : (y ≡ e.life.index) × _). absurd (ne t.0)) (linked_was sizes (second_at sizes x) e.place e.life.index y
           ((state sizes past).edges x) h);
       vertex = λ u t y h. absurd (cc);
@@ -230,7 +233,7 @@ spenders_step sizes z past e kept c ReplaceEdge by ok w a =
     record {
       frozen_else = λ x _. refl;
       frozen_here = λ h. absurd (open_yet sizes z past kept e.life.index ok.there ok.fresh.fresh h);
-      lists = λ x y h ne. ⊎_elim (λ (t : stands y (s.edges x) ≡ true). t)
+      lists = λ x y h ne. ⊎_elim (λ (t : stands_in (s.edges x) y ≡ true). t)
           (λ (t : (y ≡ e.life.index) × _). absurd (ne t.0)) (linked_was sizes (second_at sizes x) e.place e.life.index y
           (s.edges x) h);
       vertex = λ u t y h. absurd (cc);

@@ -109,8 +109,8 @@ module _ (sizes : Sizes) (z : IsLayout sizes) (past : List Event) (e : Event) (k
       by (Some a) None p q h = λ i. weighed e.weight (both (p i) (q i))
       by (Some a) (Some b) p q h = let f = sym (λ i. weighed old_link.link.weight (both (p i) (q i))) ∙ h in absurd (cc)
 
-  abbrev replaced : (a b w : ℕ) → present_pair past e.old ≡ Some ((a, b), w) → IsReplacedEdge past e a b
-  replaced a b w h = let j = joined a b w h in record {
+  abbrev is_replaced : (a b w : ℕ) → present_pair past e.old ≡ Some ((a, b), w) → IsReplacedEdge past e a b
+  is_replaced a b w h = let j = joined a b w h in record {
     replaces = replacing;
     weight = w;
     there = h;
@@ -132,7 +132,7 @@ module _ (sizes : Sizes) (z : IsLayout sizes) (past : List Event) (e : Event) (k
     where
       by : (o : Option ((ℕ × ℕ) × ℕ)) → present_pair past e.old ≡ o → IsRegularEvent past e
       by None h = hidden_replaced_regular past e replacing h (hidden h)
-      by (Some ((a, b), w)) h = replaced_edge_regular past e a b (replaced a b w h) (only a b w h) (other a b w h)
+      by (Some ((a, b), w)) h = replaced_edge_regular past e a b (is_replaced a b w h) (only a b w h) (other a b w h)
 
   -- the new one joins the list behind the old one, which is marked
   step : Replaces (edge_chain sizes past e.source.index) (edge_chain sizes (past ++ e ∷ []) e.source.index) e.old.index
@@ -165,6 +165,6 @@ module _ (sizes : Sizes) (z : IsLayout sizes) (past : List Event) (e : Event) (k
             carries past e (AddEdge a b e.weight) (call a b w h)
             (changes_edge (graph_of past) a b w e.weight (key_of_life past e.source a j.0)
             (key_of_life past e.target b j.1) (only_pair past e.old a b w h (only a b w h)) (other a b w h))
-            (replaced_edge_graph past e a b (replaced a b w h));
+            (replaced_edge_graph past e a b (is_replaced a b w h));
         none = λ gone. hidden_replaced_graph past e replacing gone (hidden gone);
       }

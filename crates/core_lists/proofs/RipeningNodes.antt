@@ -38,30 +38,31 @@ ripens sizes shown journal p caller x stamp s high = record {
 }
 
 -- a node is spent with the caller still, in its life
-record IsStill (sizes : Sizes) (front journal : List Event) (caller x : ℕ) : Type 0 where
+record IsStillSpent (sizes : Sizes) (front journal : List Event) (caller x : ℕ) : Type 0 where
   pub before : IsPrefix front journal
   pub spent : IsSpentWith sizes journal caller x
   pub tag : (node_in sizes journal x).tag ≡ (node_in sizes front x).tag
 
-module _ (sizes : Sizes) (front journal : List Event) (caller x : ℕ) (s : IsStill sizes front journal caller x) where
-  still_stamped : (stamp : ℕ) → IsStamped sizes front caller x stamp → IsStamped sizes journal caller x stamp
-  still_stamped stamp t = record {
-    spent = s.spent;
-    when = t.when;
-    when_before = prefix_trans t.when front journal t.when_before s.before;
-    when_spent = t.when_spent;
-    when_life = t.when_life ∙ sym s.tag;
-    when_epoch = t.when_epoch;
-  }
+module _ (sizes : Sizes) (front journal : List Event) (caller x : ℕ) (s : IsStillSpent sizes front journal caller x)
+  where
+    still_stamped : (stamp : ℕ) → IsStamped sizes front caller x stamp → IsStamped sizes journal caller x stamp
+    still_stamped stamp t = record {
+      spent = s.spent;
+      when = t.when;
+      when_before = prefix_trans t.when front journal t.when_before s.before;
+      when_spent = t.when_spent;
+      when_life = t.when_life ∙ sym s.tag;
+      when_epoch = t.when_epoch;
+    }
 
-  still_ripe : IsRipe sizes front caller x → IsRipe sizes journal caller x
-  still_ripe r = ripens sizes r.shown journal (prefix_trans r.shown front journal r.shown_before s.before) caller x
-      r.stamp (still_stamped r.stamp r.stamped) r.shown_epoch
+    still_ripe : IsRipe sizes front caller x → IsRipe sizes journal caller x
+    still_ripe r = ripens sizes r.shown journal (prefix_trans r.shown front journal r.shown_before s.before) caller x
+        r.stamp (still_stamped r.stamp r.stamped) r.shown_epoch
 
 -- while others act
 still_beyond : (sizes : Sizes) → IsLayout sizes → (caller last x : ℕ) (front journal : List Event)
     → IsPrefix front journal → IsKept sizes journal → IsQuiet journal caller last → last ≤ length front
-    → IsSpentWith sizes front caller x → IsStill sizes front journal caller x
+    → IsSpentWith sizes front caller x → IsStillSpent sizes front journal caller x
 still_beyond sizes z caller last x front journal p kept quiet old s =
     let there : x < sizes.nodes = used_there sizes front x (kept_front sizes front journal p kept)
     (λ h. let t = s.spent in absurd (cc)) in
@@ -78,7 +79,7 @@ still_beyond sizes z caller last x front journal p kept quiet old s =
 
 -- behind an event that doesn't give it back
 still_behind : (sizes : Sizes) → IsLayout sizes → (past : List Event) (e : Event) → IsKept sizes (past ++ e ∷ []) →
-    (caller x : ℕ) → (e.kind ≡ PushFree → e.life.index ≢ x) → IsSpentWith sizes past caller x → IsStill sizes past
+    (caller x : ℕ) → (e.kind ≡ PushFree → e.life.index ≢ x) → IsSpentWith sizes past caller x → IsStillSpent sizes past
     (past ++ e ∷ []) caller x
 still_behind sizes z past e kept caller x other s =
     let r = spent_still sizes past e kept z caller x other s in

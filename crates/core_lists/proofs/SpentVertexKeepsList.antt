@@ -1,6 +1,7 @@
 -- The list of a vertex that a caller spent stays one while others act.
 use Rattle.std.proofs.Common.{◌≡◌, ◌≢◌, ℕ, ◌+◌, ◌<◌, ◌≤◌, true, false, List, [], ◌∷◌, ◌++◌, Option, Some, None, length}
 use Rattle.std.proofs.Common.{refl, sym, ap, ◌∙◌, subst}
+use Rattle.graph_kinds.specs.Levels.{stands_in}
 use Rattle.packed_link.specs.Layout.{Sizes, IsLayout}
 use Rattle.packed_link.specs.declared.link.Life.{Life}
 use Rattle.core_journal.specs.declared.event.Kind.{Kind}
@@ -23,7 +24,6 @@ use Rattle.core_kept.proofs.Induction.{kept_beyond}
 use Rattle.core_kept.proofs.ByKind.{put_case, put_same, put_other, handed_case, marked_state, closed_state}
 use Rattle.core_kept.proofs.LinkWords.{link_words, taken}
 use Rattle.core_kept.proofs.LinkedVertices.{life_of}
-use Rattle.core_kept.proofs.MetFromHead.{stands}
 use Rattle.core_lists.proofs.ListHolds.{part_listed, handed_split}
 use Rattle.core_lists.proofs.ListHoldsKept.{listing}
 use Rattle.core_lists.proofs.FrozenToEndIsList.{IsHeldIn, kept_lives}
@@ -59,7 +59,7 @@ same_vertex v v' is = record {
 
 module _ (sizes : Sizes) (z : IsLayout sizes) (past : List Event) (e : Event) (kept : IsKept sizes past)
     (caller x tag : ℕ) (c : IsOwnList sizes caller x tag past (state sizes past))
-    (unstored : e.kind ≡ StoreFree → stands e.life.index ((state sizes past).edges x) ≡ true → ⊥)
+    (unstored : e.kind ≡ StoreFree → stands_in ((state sizes past).edges x) e.life.index ≡ true → ⊥)
     (unpushed : e.kind ≡ PushFree → x ≢ e.life.index) where
   as_keeps : KeepsList sizes past x
   as_keeps = record {
@@ -77,7 +77,7 @@ module _ (sizes : Sizes) (z : IsLayout sizes) (past : List Event) (e : Event) (k
   not_handed : (s : State) (v : ℕ) → ((y : ℕ) → s.edges y ≡ (state sizes past).edges y)
       → s.node x ≡ node_in sizes past x → (handed v s).node x ≡ node_in sizes past x
   not_handed s v lists is = handed_split (λ (n : Node). n ≡ node_in sizes past x) s v x (λ _. is)
-      (λ at _. let b = ((listing sizes z past kept).on v x (subst (λ (l : List ℕ). stands x l ≡ true) (lists v)
+      (λ at _. let b = ((listing sizes z past kept).on v x (subst (λ (l : List ℕ). stands_in l x ≡ true) (lists v)
       (part_listed s.node s.edges s.frozen v x at))).edge in let t = c.vertex in absurd (cc))
 
   -- so the vertex stays in its state and its life
@@ -130,7 +130,7 @@ module _ (sizes : Sizes) (z : IsLayout sizes) (past : List Event) (e : Event) (k
       (not_handed (closed_state (state sizes past) e.life.index) e.life.index (λ _. refl) refl)
   own_still _ is ok = same_vertex (node_in sizes past x) _ (refl)
 
-  module _ (l : Life) (h : IsHeldIn (state sizes past) l) (on : stands l.index ((state sizes past).edges x) ≡ true)
+  module _ (l : Life) (h : IsHeldIn (state sizes past) l) (on : stands_in ((state sizes past).edges x) l.index ≡ true)
     where
       put_held : (i : ℕ) (v : Node) → (l.index ≡ i → (v.tag ≡ (node_in sizes past i).tag) × IsUsed v.mode ×
           (v.stored ≡ (node_in sizes past i).stored)) → (s' : State) → s'.node l.index ≡ put i v
@@ -161,7 +161,8 @@ module _ (sizes : Sizes) (z : IsLayout sizes) (past : List Event) (e : Event) (k
       not_used : (i : ℕ) → (IsUsed (node_in sizes past i).mode → ⊥) → l.index ≢ i
       not_used i none same = none (subst (λ (j : ℕ). IsUsed (node_in sizes past j).mode) same h.used)
 
-      held_after : (k : Kind) → e.kind ≡ k → AllowedAs k sizes past e → IsHeldIn (state_by k sizes e (state sizes past)) l
+      held_after : (k : Kind) → e.kind ≡ k → AllowedAs k sizes past e →
+          IsHeldIn (state_by k sizes e (state sizes past)) l
       held_after PopFree is ok = put_held e.life.index _ (λ same. absurd
           (not_used e.life.index (λ u. subst IsUsed (taken sizes z past e kept ok).free u) same))
           (state_by PopFree sizes e (state sizes past)) refl
@@ -171,14 +172,15 @@ module _ (sizes : Sizes) (z : IsLayout sizes) (past : List Event) (e : Event) (k
       held_after LinkEdge is ok = put_held e.life.index _ (λ same. absurd
           (not_used e.life.index (λ u. subst IsUsed ok.fresh.fresh u) same))
           (state_by LinkEdge sizes e (state sizes past)) refl
-      held_after MarkVertex is ok = put_held e.life.index _ (λ same. (refl, subst IsUsed (sym ok.linked.linked) tt, refl))
+      held_after MarkVertex is ok = put_held e.life.index _
+          (λ same. (refl, subst IsUsed (sym ok.linked.linked) tt, refl))
           (state_by MarkVertex sizes e (state sizes past)) refl
       held_after UnlinkVertex is ok = put_held e.life.index _ (λ same. (refl, tt, refl))
           (state_by UnlinkVertex sizes e (state sizes past)) refl
       held_after UnlinkEdge is ok = put_held e.life.index _ (λ same. (refl, tt, refl))
           (state_by UnlinkEdge sizes e (state sizes past)) refl
       held_after StoreFree is ok = put_held e.life.index _ (λ same. absurd
-          (unstored is (subst (λ (j : ℕ). stands j ((state sizes past).edges x) ≡ true) same on)))
+          (unstored is (subst (λ (j : ℕ). stands_in ((state sizes past).edges x) j ≡ true) same on)))
           (state_by StoreFree sizes e (state sizes past)) refl
       held_after PushFree is ok = put_held e.life.index _ (λ same. let f :
           (node_in sizes past e.life.index).stored ≡ false = ap (λ (j : ℕ). (node_in sizes past j).stored) (sym same)
@@ -285,7 +287,7 @@ module _ (sizes : Sizes) (z : IsLayout sizes) (past : List Event) (e : Event) (k
 module _ (sizes : Sizes) (z : IsLayout sizes) (past : List Event) (e : Event) (kept : IsKept sizes past)
     (caller x tag : ℕ) (c : IsOwnList sizes caller x tag past (state sizes past)) (ok : Allowed sizes past e)
     (other : e.caller ≢ caller) where
-  not_stored : e.kind ≡ StoreFree → stands e.life.index ((state sizes past).edges x) ≡ true → ⊥
+  not_stored : e.kind ≡ StoreFree → stands_in ((state sizes past).edges x) e.life.index ≡ true → ⊥
   not_stored is on =
       let ripe = (subst (λ (k : Kind). AllowedAs k sizes past e) is ok.as_kind).ripe in
       let who = ((spenders sizes z past kept).edge x e.life.index

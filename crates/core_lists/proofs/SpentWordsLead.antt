@@ -76,28 +76,28 @@ head_marked sizes z journal kept x within spent vertex closed =
 
 module _ (sizes : Sizes) (z : IsLayout sizes) (past : List Event) (e : Event) (kept : IsKept sizes past)
     (ok : Allowed sizes past e) where
-  abbrev after : List Event
-  after = past ++ e ∷ []
+  abbrev grown : List Event
+  grown = past ++ e ∷ []
 
-  kept_after : IsKept sizes after
+  kept_after : IsKept sizes grown
   kept_after = kept_snoc sizes past e kept ok
 
   -- an end that a node gets now is the last
-  ends_last : (x : ℕ) → (node_in sizes after x).ended ≤ (state sizes past).count + 1
+  ends_last : (x : ℕ) → (node_in sizes grown x).ended ≤ (state sizes past).count + 1
   ends_last x = omega (
     arith,
-    (ended sizes after kept_after).ended x,
-    count-length sizes after,
+    (ended sizes grown kept_after).ended x,
+    count-length sizes grown,
     count-length sizes past,
     length-append past (e ∷ []),
   )
 
   -- a node that was linked is linked, or it ends now
-  linked_later : (x y : ℕ) → y < sizes.nodes → (node_in sizes past y).mode ≡ Linked → IsNoEarlier sizes after x y
+  linked_later : (x y : ℕ) → y < sizes.nodes → (node_in sizes past y).mode ≡ Linked → IsNoEarlier sizes grown x y
   linked_later x y there was = record { there = there; later = by (turn sizes z past e kept ok y) }
     where
-      by : ModeStep sizes past e (word_at sizes after) y (node_in sizes after y) →
-          ((node_in sizes after y).mode ≡ Linked) ⊎ ((node_in sizes after x).ended ≤ (node_in sizes after y).ended)
+      by : ModeStep sizes past e (word_at sizes grown) y (node_in sizes grown y) →
+          ((node_in sizes grown y).mode ≡ Linked) ⊎ ((node_in sizes grown x).ended ≤ (node_in sizes grown y).ended)
       by (stays m _ _ _) = inl (m ∙ was)
       by (spends _ _ q _) = inr (omega (arith, q, ends_last x))
       by (swaps _ _ _ _ _ q _) = inr (omega (arith, q, ends_last x))
@@ -106,31 +106,31 @@ module _ (sizes : Sizes) (z : IsLayout sizes) (past : List Event) (e : Event) (k
       by (frees m _) = absurd (cc)
 
   -- what was no earlier is so
-  still_later : (x y : ℕ) → (node_in sizes after x).ended ≡ (node_in sizes past x).ended → IsNoEarlier sizes past x y
-      → IsNoEarlier sizes after x y
+  still_later : (x y : ℕ) → (node_in sizes grown x).ended ≡ (node_in sizes past x).ended → IsNoEarlier sizes past x y
+      → IsNoEarlier sizes grown x y
   still_later x y same c = ⊎_elim
       (λ (was : (node_in sizes past y).mode ≡ Linked). linked_later x y c.there was)
       (λ (low : (node_in sizes past x).ended ≤ (node_in sizes past y).ended). record
       { there = c.there; later = inr (omega (arith, low, same, ends_on sizes z past e kept ok y)) }) c.later
 
-  spent_link : SpentLinks sizes past → (x : ℕ) → x < sizes.nodes → (node_in sizes after x).mode ≡ Spent →
-      (node_in sizes after x).stored ≡ false → LeadsTo (word_at sizes after (link_at sizes x))
-      (IsNoEarlier sizes after x)
+  spent_link : SpentLinks sizes past → (x : ℕ) → x < sizes.nodes → (node_in sizes grown x).mode ≡ Spent →
+      (node_in sizes grown x).stored ≡ false → LeadsTo (word_at sizes grown (link_at sizes x))
+      (IsNoEarlier sizes grown x)
   spent_link c x within spent unstored = by (turn sizes z past e kept ok x)
     where
-      by : ModeStep sizes past e (word_at sizes after) x (node_in sizes after x) → LeadsTo
-          (word_at sizes after (link_at sizes x)) (IsNoEarlier sizes after x)
+      by : ModeStep sizes past e (word_at sizes grown) x (node_in sizes grown x) → LeadsTo
+          (word_at sizes grown (link_at sizes x)) (IsNoEarlier sizes grown x)
       by (stays m q t _) =
           let was : (node_in sizes past x).mode ≡ Spent = sym m ∙ spent in
-          let same = marked_link_stays sizes z x past after (prefix_snoc past e) kept_after (λ f. absurd (cc))
+          let same = marked_link_stays sizes z x past grown (prefix_snoc past e) kept_after (λ f. absurd (cc))
           (((link_words sizes z past kept).each x within).spent was).marked t unstored in
-          leads_same (word_at sizes past (link_at sizes x)) (word_at sizes after (link_at sizes x))
-          (IsNoEarlier sizes past x) (IsNoEarlier sizes after x) (ap index_of same) (λ y d. still_later x y q d)
+          leads_same (word_at sizes past (link_at sizes x)) (word_at sizes grown (link_at sizes x))
+          (IsNoEarlier sizes past x) (IsNoEarlier sizes grown x) (ap index_of same) (λ y d. still_later x y q d)
           (c.link x within was (unstored_was sizes z past e kept ok x was unstored))
-      by (spends m _ _ same) = leads_same (word_at sizes past (link_at sizes x)) (word_at sizes after (link_at sizes x))
-          (IsLinkedBehind sizes past x) (IsNoEarlier sizes after x) same (λ y d. linked_later x y d.there d.linked)
+      by (spends m _ _ same) = leads_same (word_at sizes past (link_at sizes x)) (word_at sizes grown (link_at sizes x))
+          (IsLinkedBehind sizes past x) (IsNoEarlier sizes grown x) same (λ y d. linked_later x y d.there d.linked)
           (linked_leads sizes z past kept x within m)
-      by (swaps is r _ _ _ _ here) = inr (subst (IsNoEarlier sizes after x)
+      by (swaps is r _ _ _ _ here) = inr (subst (IsNoEarlier sizes grown x)
           (sym (ap index_of here ∙ leads_new sizes z past e kept r))
           record { there = r.there; later = inl (ap (λ (v : Node). v.mode) (new_after sizes z past e kept r is)) })
       by (links _ m) = absurd (cc)
@@ -139,37 +139,37 @@ module _ (sizes : Sizes) (z : IsLayout sizes) (past : List Event) (e : Event) (k
 
   -- the head of a list that this event closes
   closed_now : (x : ℕ) → x < sizes.nodes → (node_in sizes past x).vertex ≡ true → (state sizes past).frozen x ≡ false →
-      (state sizes after).frozen x ≡ true → LeadsTo (word_at sizes after (second_at sizes x))
-      (IsNoEarlier sizes after x)
+      (state sizes grown).frozen x ≡ true → LeadsTo (word_at sizes grown (second_at sizes x))
+      (IsNoEarlier sizes grown x)
   closed_now x within vertex open_ closed =
       let d = closing sizes z past e kept ok x open_ closed in
-      leads_same (word_at sizes past (second_at sizes x)) (word_at sizes after (second_at sizes x))
-      (IsLinkedIn sizes past x) (IsNoEarlier sizes after x) d.leads (λ y d. linked_later x y d.there d.linked)
+      leads_same (word_at sizes past (second_at sizes x)) (word_at sizes grown (second_at sizes x))
+      (IsLinkedIn sizes past x) (IsNoEarlier sizes grown x) d.leads (λ y d. linked_later x y d.there d.linked)
       (head_leads sizes z past kept x within (subst IsUsed (sym d.spent) tt) vertex open_)
 
-  spent_list : SpentLinks sizes past → (x : ℕ) → x < sizes.nodes → (node_in sizes after x).mode ≡ Spent →
-      (node_in sizes after x).vertex ≡ true → LeadsTo (word_at sizes after (second_at sizes x))
-      (IsNoEarlier sizes after x)
-  spent_list c x within spent vertex = yes_no (LeadsTo (word_at sizes after (second_at sizes x))
-      (IsNoEarlier sizes after x)) ((state sizes after).frozen x)
+  spent_list : SpentLinks sizes past → (x : ℕ) → x < sizes.nodes → (node_in sizes grown x).mode ≡ Spent →
+      (node_in sizes grown x).vertex ≡ true → LeadsTo (word_at sizes grown (second_at sizes x))
+      (IsNoEarlier sizes grown x)
+  spent_list c x within spent vertex = yes_no (LeadsTo (word_at sizes grown (second_at sizes x))
+      (IsNoEarlier sizes grown x)) ((state sizes grown).frozen x)
       (λ h. by h (turn sizes z past e kept ok x))
-      (λ open_. leads_same (word_at sizes after (second_at sizes x)) (word_at sizes after (second_at sizes x))
-      (IsLinkedIn sizes after x) (IsNoEarlier sizes after x) refl
+      (λ open_. leads_same (word_at sizes grown (second_at sizes x)) (word_at sizes grown (second_at sizes x))
+      (IsLinkedIn sizes grown x) (IsNoEarlier sizes grown x) refl
       (λ y d. record { there = d.there; later = inl d.linked })
-      (head_leads sizes z after kept_after x within (subst IsUsed (sym spent) tt) vertex open_))
+      (head_leads sizes z grown kept_after x within (subst IsUsed (sym spent) tt) vertex open_))
     where
-      by : (state sizes after).frozen x ≡ true → ModeStep sizes past e (word_at sizes after) x (node_in sizes after x)
-          → LeadsTo (word_at sizes after (second_at sizes x)) (IsNoEarlier sizes after x)
+      by : (state sizes grown).frozen x ≡ true → ModeStep sizes past e (word_at sizes grown) x (node_in sizes grown x)
+          → LeadsTo (word_at sizes grown (second_at sizes x)) (IsNoEarlier sizes grown x)
       by h (stays m q t v) =
           let was : (node_in sizes past x).mode ≡ Spent = sym m ∙ spent in
           let kind : (node_in sizes past x).vertex ≡ true = sym v ∙ vertex in
-          yes_no (LeadsTo (word_at sizes after (second_at sizes x)) (IsNoEarlier sizes after x))
+          yes_no (LeadsTo (word_at sizes grown (second_at sizes x)) (IsNoEarlier sizes grown x))
           ((state sizes past).frozen x)
           (λ closed.
-          let same = marked_head_stays sizes z x past after (prefix_snoc past e) kept_after (λ f. absurd (cc))
+          let same = marked_head_stays sizes z x past grown (prefix_snoc past e) kept_after (λ f. absurd (cc))
           (head_marked sizes z past kept x within was kind closed) t in
-          leads_same (word_at sizes past (second_at sizes x)) (word_at sizes after (second_at sizes x))
-          (IsNoEarlier sizes past x) (IsNoEarlier sizes after x) (ap index_of same) (λ y d. still_later x y q d)
+          leads_same (word_at sizes past (second_at sizes x)) (word_at sizes grown (second_at sizes x))
+          (IsNoEarlier sizes past x) (IsNoEarlier sizes grown x) (ap index_of same) (λ y d. still_later x y q d)
           (c.list x within was kind))
           (λ open_. closed_now x within kind open_ h)
       by h (spends m _ _ _) = let d = (closing sizes z past e kept ok x (unclosed sizes z past kept x m) h).spent in
@@ -180,7 +180,7 @@ module _ (sizes : Sizes) (z : IsLayout sizes) (past : List Event) (e : Event) (k
       by h (takes _ m) = absurd (cc)
       by h (frees _ m) = absurd (cc)
 
-  spent_step : SpentLinks sizes past → SpentLinks sizes after
+  spent_step : SpentLinks sizes past → SpentLinks sizes grown
   spent_step c = record { link = spent_link c; list = spent_list c }
 
 -- where spent nodes lead after each kept journal
