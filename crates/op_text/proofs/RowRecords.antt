@@ -68,14 +68,14 @@ chosen true x y p P e h g = h refl e
 chosen false x y p P e h g = g refl e
 
 -- a record that was read leaves a fresh state and fewer bytes
-abbrev Leaves : Read → ℕ → Type 0
-Leaves p n = (ends_at_end p.1 ≡ false) × (length p.2 ≤ n)
+abbrev LeavesFewer : Read → ℕ → Type 0
+LeavesFewer p n = (ends_at_end p.1 ≡ false) × (length p.2 ≤ n)
 
-leaves_same : (q p : Read) (n : ℕ) → Some q ≡ Some p → Leaves q n → Leaves p n
-leaves_same q p n e h = let same : q ≡ p = cc in subst (λ (x : Read). Leaves x n) same h
+leaves_same : (q p : Read) (n : ℕ) → Some q ≡ Some p → LeavesFewer q n → LeavesFewer p n
+leaves_same q p n e h = let same : q ≡ p = cc in subst (λ (x : Read). LeavesFewer x n) same h
 
 leaves_next : (cfg : Config) (xs : List ℕ) (s : State) (fields : List (List ℕ)) (field : List ℕ) (p : Read)
-    → next_record cfg s fields field xs ≡ Some p → Leaves p (length xs - 1)
+    → next_record cfg s fields field xs ≡ Some p → LeavesFewer p (length xs - 1)
 unfolding next_record IsFresh
 leaves_next cfg [] s fields field p e = chosen (ends_at_end s) _ _ p _ e
     (λ t same. leaves_same _ p _ same (refl, omega arith)) (λ f none. cc none)

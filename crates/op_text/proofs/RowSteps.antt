@@ -15,29 +15,29 @@ use Rattle.op_text.specs.declared.rows.RowCause.{RowCause}
 use Rattle.op_text.proofs.RowRecords.{none_read, record_read, records_left}
 
 -- rows, and then what the further records give
-abbrev pub joined : List Row → Result (List Row) (ℕ × RowCause) → Result (List Row) (ℕ × RowCause)
-joined read (Ok more) = Ok (read ++ more)
-joined read (Err e) = Err e
+abbrev pub rows_joined : List Row → Result (List Row) (ℕ × RowCause) → Result (List Row) (ℕ × RowCause)
+rows_joined read (Ok more) = Ok (read ++ more)
+rows_joined read (Err e) = Err e
 
-joined_more : (read : List Row) (row : Row) (number : ℕ) (rest : Result (List Row) (ℕ × RowCause)) → joined read
-    (then_rows (Ok row) number rest) ≡ joined (read ++ row ∷ []) rest
+joined_more : (read : List Row) (row : Row) (number : ℕ) (rest : Result (List Row) (ℕ × RowCause)) → rows_joined read
+    (then_rows (Ok row) number rest) ≡ rows_joined (read ++ row ∷ []) rest
 joined_more read row number (Ok more) = ap Ok (sym (append_assoc read (row ∷ []) more))
 joined_more read row number (Err e) = refl
 
 -- a record that is a row
 pub joined_row : (callers number : ℕ) (fields : List (List ℕ)) (more : List (List (List ℕ))) (read : List Row)
     (row : Row) → Ok row ≡ row_of callers number fields
-    → joined read (rows_from callers number (fields ∷ more)) ≡ joined (read ++ row ∷ [])
+    → rows_joined read (rows_from callers number (fields ∷ more)) ≡ rows_joined (read ++ row ∷ [])
     (rows_from callers (number + 1) more)
 joined_row callers number fields more read row e =
-    ap (λ r. joined read (then_rows r number (rows_from callers (number + 1) more))) (sym e)
+    ap (λ r. rows_joined read (then_rows r number (rows_from callers (number + 1) more))) (sym e)
     ∙ joined_more read row number (rows_from callers (number + 1) more)
 
 -- the first record that is none
 pub joined_bad : (callers number : ℕ) (fields : List (List ℕ)) (more : List (List (List ℕ))) (read : List Row)
     (cause : RowCause) → Err cause ≡ row_of callers number fields
-    → joined read (rows_from callers number (fields ∷ more)) ≡ Err (number, cause)
-joined_bad callers number fields more read cause e = ap (λ r. joined read
+    → rows_joined read (rows_from callers number (fields ∷ more)) ≡ Err (number, cause)
+joined_bad callers number fields more read cause e = ap (λ r. rows_joined read
     (then_rows r number (rows_from callers (number + 1) more))) (sym e)
 
 -- what a reader over a text has left underneath
@@ -55,13 +55,14 @@ pub record IsReadSoFar (bytes : List ℕ) (callers number : ℕ) (reader : Reade
   pub config : reader.config ≡ default_config
   pub fresh : ends_at_end reader.state ≡ false
   pub source : source_of known reader ≡ Some left
-  pub rows : rows callers bytes ≡ joined read (rows_from callers number (records_left default_config reader.state left))
+  pub rows : rows callers bytes ≡ rows_joined read
+      (rows_from callers number (records_left default_config reader.state left))
   pub count : length read + 1 ≡ number
   pub few : number ≤ most_rows + 1
   pub within : All (λ r. r.caller < callers) read
   pub well_made : All (λ r. IsWellMade r.call) read
 
-joined_none : (r : Result (List Row) (ℕ × RowCause)) → r ≡ joined [] r
+joined_none : (r : Result (List Row) (ℕ × RowCause)) → r ≡ rows_joined [] r
 joined_none (Ok more) = refl
 joined_none (Err e) = refl
 
@@ -105,7 +106,7 @@ next_row bytes callers number a b read fields row so_far record_b flexible first
       config = record_b.2 ∙ so_far.config;
       fresh = fresh;
       source = at_left;
-      rows = so_far.rows ∙ ap (λ rs. joined read (rows_from callers number rs)) records
+      rows = so_far.rows ∙ ap (λ rs. rows_joined read (rows_from callers number rs)) records
           ∙ joined_row callers number fields (records_left default_config b.state left) read row is_row;
       count = simp length-append (omega (arith, so_far.count));
       few = omega arith;
@@ -121,7 +122,7 @@ pub bad_row : (bytes : List ℕ) (callers number : ℕ) (a b : Reader (Bor (List
 bad_row bytes callers number a b read fields cause so_far record_b is_bad =
     let (left, at_left, fresh, records) = record_read known a b fields default_config so_far.left so_far.config
     so_far.source so_far.fresh record_b in
-    so_far.rows ∙ ap (λ rs. joined read (rows_from callers number rs)) records ∙ joined_bad callers number fields
+    so_far.rows ∙ ap (λ rs. rows_joined read (rows_from callers number rs)) records ∙ joined_bad callers number fields
     (records_left default_config b.state left) read cause is_bad
 
 -- no record is left
@@ -130,4 +131,4 @@ pub all_rows : (bytes : List ℕ) (callers number : ℕ) (a b : Reader (Bor (Lis
     → ReadRecord known a b false fields → rows callers bytes ≡ Ok read
 all_rows bytes callers number a b read fields so_far record_b =
     let records = none_read known a b fields default_config so_far.left so_far.config so_far.source record_b in
-    so_far.rows ∙ ap (λ rs. joined read (rows_from callers number rs)) records ∙ ap Ok (append-nil read)
+    so_far.rows ∙ ap (λ rs. rows_joined read (rows_from callers number rs)) records ∙ ap Ok (append-nil read)

@@ -30,7 +30,7 @@ pub rows_long : (old s : ScanValue) → KeepsRows old s → length s.rows ≡ le
 rows_long old s kept = ap (λ (rows : List VertexRow). length rows) kept.rows
 
 -- the edges of a row were followed up to a place
-pub record IsExpanding (old s : ScanValue) (from place : ℕ) : Type 0 where
+pub record IsRelaxing (old s : ScanValue) (from place : ℕ) : Type 0 where
   pub kept : KeepsRows old s
   pub open_row : IsOpen s from
   pub settled : settled_count s ≡ settled_count old
@@ -40,7 +40,7 @@ pub record IsExpanding (old s : ScanValue) (from place : ℕ) : Type 0 where
       → IsFollowed s from t (edge_at old p).weight
 
 pub expanding_first : (s : ScanValue) (from place : ℕ) → IsOpen s from → place ≡ (row_at s from).first
-    → IsExpanding s s from place
+    → IsRelaxing s s from place
 expanding_first s from place o e = record {
   kept = kept_same s;
   open_row = o;
@@ -51,7 +51,7 @@ expanding_first s from place o e = record {
 }
 
 module _ (old : ScanValue) (scan : IsScan old) (is : IsComplete old) (from : ℕ) (h : from < length old.rows)
-    (s : ScanValue) (place : ℕ) (now : IsExpanding old s from place) where
+    (s : ScanValue) (place : ℕ) (now : IsRelaxing old s from place) where
   module _ (low : (row_at old from).first ≤ place) (high : place < (row_at old from).first + (row_at old from).count)
     where
       pub edge_within : place < length s.edges
@@ -66,7 +66,7 @@ module _ (old : ScanValue) (scan : IsScan old) (is : IsComplete old) (from : ℕ
           ((y : ℕ) → state_of new y ≡ 1 → state_of s y ≡ 1) → KeepsRows s new
           → ((y w : ℕ) → y < length s.rows → HasPair s from y w → IsFollowed s from y w → IsFollowed new from y w)
           → ((t : ℕ) → (edge_at old place).target ≡ Some t → IsFollowed new from t (edge_at old place).weight)
-          → IsExpanding old new from (place + 1)
+          → IsRelaxing old new from (place + 1)
       step new o settled only kept earlier here = record {
         kept = kept_on old s new now.kept kept;
         open_row = o;
@@ -89,7 +89,7 @@ module _ (old : ScanValue) (scan : IsScan old) (is : IsComplete old) (from : ℕ
         ];
       }
 
-      pub expanding_none : (edge_at s place).target ≡ None → IsExpanding old s from (place + 1)
+      pub expanding_none : (edge_at s place).target ≡ None → IsRelaxing old s from (place + 1)
       expanding_none none =
           let old_none : (edge_at old place).target ≡ None = ap (λ (e : EdgeRow). e.target) (sym same_edge) ∙ none in
           step s now.open_row refl (λ y f. f) (kept_same s) (λ y w _ _ f. f)
@@ -116,7 +116,7 @@ module _ (old : ScanValue) (scan : IsScan old) (is : IsComplete old) (from : ℕ
             (edge_pair old scan is from h place t low high old_target))
 
         pub expanding_some : (new : ScanValue) → FollowsPair s new from t (edge_at s place).weight
-            → IsExpanding old new from (place + 1)
+            → IsRelaxing old new from (place + 1)
         expanding_some new f =
             step new f.open_row f.settled f.only f.kept f.earlier
             (λ u e. let same : t ≡ u = cc (old_target, e) in

@@ -107,10 +107,11 @@ module _ (s : ScanValue) (scan : IsScan s) (places first second up down : ℕ) (
   swapped_rows p lt = elim (cases_eq p second) as (λ _. get_or
       (set (set s.slot_zero first down) second up) p 0 < length s.rows) [
         | inl e ↦ rw (e, zero_second) up_row
-        | inr ne ↦ elim (cases_eq p first) as (λ _. get_or (set (set s.slot_zero first down) second up) p 0 < length s.rows) [
-          | inl f ↦ let g : first ≢ second = λ h. ne (f ∙ h) in rw (f, zero_first g) down_row
-          | inr g ↦ rw (zero_other p g ne) (placed.rows p lt)
-        ]
+        | inr ne ↦ elim (cases_eq p first) as
+            (λ _. get_or (set (set s.slot_zero first down) second up) p 0 < length s.rows) [
+              | inl f ↦ let g : first ≢ second = λ h. ne (f ∙ h) in rw (f, zero_first g) down_row
+              | inr g ↦ rw (zero_other p g ne) (placed.rows p lt)
+            ]
       ]
 
   swapped_named : (p : ℕ) → p < places → get_or (set (set s.slot_one down (first + 2)) up (second + 2))
@@ -130,10 +131,13 @@ module _ (s : ScanValue) (scan : IsScan s) (places first second up down : ℕ) (
               | inr g ↦
                   let named = placed.named p lt in
                   let r : ℕ = get_or s.slot_zero p 0 in
-                  let not_up : r ≢ up = λ e. g (omega (arith, named, up_named, ap (λ (k : ℕ). get_or s.slot_one k 0) e)) in
-                  let not_down : r ≢ down = λ e. ne (omega (arith, named, down_named, ap (λ (k : ℕ). get_or s.slot_one k 0) e))
+                  let not_up : r ≢ up =
+                  λ e. g (omega (arith, named, up_named, ap (λ (k : ℕ). get_or s.slot_one k 0) e)) in
+                  let not_down : r ≢ down =
+                  λ e. ne (omega (arith, named, down_named, ap (λ (k : ℕ). get_or s.slot_one k 0) e))
                   in
-                  ap (λ (k : ℕ). get_or (set (set s.slot_one down (first + 2)) up (second + 2)) k 0) (zero_other p g ne) ∙
+                  ap (λ (k : ℕ). get_or (set (set s.slot_one down (first + 2)) up (second + 2)) k 0)
+                  (zero_other p g ne) ∙
                   (one_other r not_down not_up ∙ named)
             ]
       ]
@@ -165,15 +169,19 @@ module _ (s : ScanValue) (scan : IsScan s) (places first second up down : ℕ) (
                   subst (Held r) (sym v) (
                     omega (arith, a),
                     ap (λ (k : ℕ). get_or
-                        (set (set s.slot_zero first down) second up) k 0) q ∙ (zero_first (λ e. g (together e)) ∙ sym f),
+                        (set (set s.slot_zero first down) second up) k 0) q ∙
+                        (zero_first (λ e. g (together e)) ∙ sym f),
                   )
               | inr g ↦
-                  let same : get_or (set (set s.slot_one down (first + 2)) up (second + 2)) r 0 ≡ get_or s.slot_one r 0 =
+                  let same : get_or (set (set s.slot_one down (first + 2)) up (second + 2)) r 0
+                  ≡ get_or s.slot_one r 0 =
                   one_other r g ne in
                   let held = placed.held r h (subst (λ (v : ℕ). 2 ≤ v) same some) in
                   let p : ℕ = get_or s.slot_one r 0 - 2 in
-                  let not_first : p ≢ first = λ e. ne (sym held.1 ∙ (ap (λ (q : ℕ). get_or s.slot_zero q 0) e ∙ sym at_up)) in
-                  let not_second : p ≢ second = λ e. g (sym held.1 ∙ (ap (λ (q : ℕ). get_or s.slot_zero q 0) e ∙ sym at_down))
+                  let not_first : p ≢ first = λ e. ne (sym held.1 ∙
+                  (ap (λ (q : ℕ). get_or s.slot_zero q 0) e ∙ sym at_up)) in
+                  let not_second : p ≢ second = λ e. g (sym held.1 ∙
+                  (ap (λ (q : ℕ). get_or s.slot_zero q 0) e ∙ sym at_down))
                   in
                   subst (Held r) (sym same) (held.0, zero_other p not_first not_second ∙ held.1)
             ]

@@ -56,10 +56,10 @@ there_at s key c d le t = record {
 module _ (s : ScanValue) (scan : IsScan s) (open_row far : ℕ) (now : IsSearchBut s open_row)
     (outside : (x : ℕ) → x < length s.rows → (state_of s x ≡ 2) ⊎ (x ≡ open_row) → far ≤ row_cost s x) where
   -- what a path from a row that is met comes to: a settled row that costs no more, or a cost that is far
-  abbrev Ends : ℕ → ℕ → Type 0
-  Ends key c = IsThere s key c ⊎ (far ≤ c)
+  abbrev ComesTo : ℕ → ℕ → Type 0
+  ComesTo key c = IsThere s key c ⊎ (far ≤ c)
 
-  ends_at : (key c d : ℕ) → c ≤ d → Ends key c → Ends key d
+  ends_at : (key c d : ℕ) → c ≤ d → ComesTo key c → ComesTo key d
   ends_at key c d le (inl t) = inl (there_at s key c d le t)
   ends_at key c d le (inr f) = inr (omega (arith, f, le))
 
@@ -76,9 +76,9 @@ module _ (s : ScanValue) (scan : IsScan s) (open_row far : ℕ) (now : IsSearchB
       ]
 
   pub path_ends : (key : ℕ) (p : List ℕ) (x : ℕ) → x < length s.rows → 1 ≤ state_of s x → IsPath (graph_of_scan s)
-      (key_of_row s x) key p → Ends key (row_cost s x + cost_of (graph_of_scan s) p)
+      (key_of_row s x) key p → ComesTo key (row_cost s x + cost_of (graph_of_scan s) p)
   path_ends key [] x h met k = absurd k
-  path_ends key (z ∷ []) x h met k = elim (row_outside x h met) as (λ _. Ends key (row_cost s x + 0)) [
+  path_ends key (z ∷ []) x h met k = elim (row_outside x h met) as (λ _. ComesTo key (row_cost s x + 0)) [
     | inl one ↦ inl (record { row = x; inside = h; named = sym k.0 ∙ k.1; settled = one.0; cheap = omega arith })
     | inr f ↦ inr (omega (arith, f))
   ]
@@ -88,11 +88,11 @@ module _ (s : ScanValue) (scan : IsScan s) (open_row far : ℕ) (now : IsSearchB
       let pair : weight_of g (key_of_row s x) u ≡ Some w.0 = subst (λ (y : ℕ). weight_of g y u ≡ Some w.0) k.0 w.1 in
       let r = row_there s u (now.graph.to_key (key_of_row s x) u w.0 pair) in
       let weight : unwrap_or (weight_of g z u) 0 ≡ w.0 = ap (λ (o : Option ℕ). unwrap_or o 0) w.1 in
-      elim (row_outside x h met) as (λ _. Ends key (row_cost s x + cost_of g (z ∷ u ∷ p))) [
+      elim (row_outside x h met) as (λ _. ComesTo key (row_cost s x + cost_of g (z ∷ u ∷ p))) [
         | inl one ↦
             let f : IsFollowed s x r.0 w.0 = now.followed x r.0 w.0 h r.1 one.0 one.1
             (subst (λ (y : ℕ). weight_of g (key_of_row s x) y ≡ Some w.0) (sym r.2) pair) in
-            let later : Ends key (row_cost s r.0 + cost_of g (u ∷ p)) = path_ends key (u ∷ p) r.0 r.1 f.met
+            let later : ComesTo key (row_cost s r.0 + cost_of g (u ∷ p)) = path_ends key (u ∷ p) r.0 r.1 f.met
             (subst (λ (y : ℕ). IsPath g y key (u ∷ p)) (sym r.2) k.2) in
             ends_at key (row_cost s r.0 + cost_of g (u ∷ p)) (row_cost s x + cost_of g (z ∷ u ∷ p))
             (omega (arith, f.cost, weight)) later

@@ -105,7 +105,7 @@ module _ (s : ScanValue) (row : ℕ) (zs os : List ℕ) (long : length (states_o
   taken_cases y e ne = sym (same_state y ne) ∙ e
 
 -- what a row that is taken leaves
-pub record IsTaken (old new : ScanValue) (row : ℕ) : Type 0 where
+pub record IsTakenRow (old new : ScanValue) (row : ℕ) : Type 0 where
   pub open_row : IsOpen new row
   pub settled : settled_count new ≡ settled_count old + 1
   pub only : (y : ℕ) → state_of new y ≡ 1 → y ≢ row → state_of old y ≡ 1
@@ -113,7 +113,7 @@ pub record IsTaken (old new : ScanValue) (row : ℕ) : Type 0 where
 pub is_taken : (s new : ScanValue) (row : ℕ) → IsScan new → IsSearch s → row < length s.rows → state_of s row ≡ 2 →
     ((r : ℕ) → r < length s.rows → state_of s r ≡ 2 → row_cost s row ≤ row_cost s r)
     → states_of new ≡ set (states_of s) row 1 → new ≡ record s { slot_zero = new.slot_zero; slot_one = new.slot_one }
-    → IsTaken s new row
+    → IsTakenRow s new row
 is_taken s new row scan now h waited least states rest =
     let rows : length new.rows ≡ length s.rows = ap (λ (t : ScanValue). length t.rows) rest in
     let long : length (states_of s) ≡ length s.rows = omega (
@@ -124,7 +124,7 @@ is_taken s new row scan now h waited least states rest =
           (λ (xs : List ℕ). length xs) states,
       length-set (states_of s) row 1,
     ) in
-    subst (λ (t : ScanValue). IsTaken s t row) (sym rest) (record {
+    subst (λ (t : ScanValue). IsTakenRow s t row) (sym rest) (record {
       open_row = taken_open s row new.slot_zero new.slot_one long now h waited least states;
       settled = more_settled s row new.slot_zero new.slot_one long now h waited least states;
       only = taken_cases s row new.slot_zero new.slot_one long now h waited least states;

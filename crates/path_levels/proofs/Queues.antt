@@ -124,7 +124,8 @@ module _ (s : ScanValue) (scan : IsScan s) (is : IsComplete s) (row parent : ℕ
             (eq-eqb (row_at s row).key (row_at s k).key same) in
             one ∙ sym (ap (λ (b : Bool). cond b 1 0) there)
         | inr ne ↦
-            let old : get_or (set s.slot_two row 1) k 0 ≡ get_or s.slot_two k 0 = get_or-set_other s.slot_two row k 1 0 ne
+            let old : get_or (set s.slot_two row 1) k 0 ≡ get_or s.slot_two k 0 =
+            get_or-set_other s.slot_two row k 1 0 ne
             in
             let other = ne_eqb (row_at s row).key (row_at s k).key (other_key s is row k h l (λ e. ne (sym e))) in
             let there : stands_in (keys ++ (row_at s row).key ∷ []) (row_at s k).key ≡ stands_in keys
@@ -210,7 +211,8 @@ module _ (s : ScanValue) (scan : IsScan s) (is : IsComplete s) (row parent : ℕ
         (s.keys ++ (row_at s row).key ∷ []) p 0
     row_keys p l = elim (old_or_last p l) as (λ _. (row_at s (get_or (set s.slot_zero (length s.keys) row) p 0)).key ≡
         get_or (s.keys ++ (row_at s row).key ∷ []) p 0) [
-          | inl lt ↦ ap (λ (k : ℕ). (row_at s k).key) (old_slot s.slot_zero row p lt) ∙ (q.keys p lt ∙ sym (old_key p lt))
+          | inl lt ↦ ap (λ (k : ℕ). (row_at s k).key) (old_slot s.slot_zero row p lt) ∙
+              (q.keys p lt ∙ sym (old_key p lt))
           | inr e ↦ ap (λ (k : ℕ). (row_at s k).key) (last_slot s.slot_zero row p scan.slot_zero_of_rows e) ∙ sym
               (last_key p e)
         ]

@@ -24,7 +24,7 @@ use Rattle.scan_record.specs.Scan.{ScanValue, IsScan, IsComplete, row_at, edge_a
 use Rattle.scan_record.specs.Scan.{blank_edge}
 use Rattle.scan_record.specs.ScanGraph.{pair_of, pairs_of, graph_of_scan, target_keys, leads_to, weight_to}
 use Rattle.scan_record.proofs.Edges.{length-edges_of, get_or-edges_of}
-use Rattle.scan_record.proofs.Rising.{Chain, chain_pairs, Rises, rises, any_map, itself, same_rising}
+use Rattle.scan_record.proofs.Rising.{Pairwise, pairwise_all, rises, any_map, itself, same_rising}
 
 -- what is true at each place of a row is true of all its edges
 pub all_edges : (P : EdgeRow → Type 0) (s : ScanValue) (k : ℕ) → IsScan s → k < length s.rows →
@@ -37,13 +37,13 @@ all_edges P s k is h at =
     subst P (sym (get_or-edges_of s (row_at s k) n inside)) (at ((row_at s k).first + n) (omega arith)))
 
 -- the edges of a row stand by rising key
-pub edges_climb : (s : ScanValue) (k : ℕ) → IsScan s → k < length s.rows → Chain (λ e f. e.key < f.key)
+pub edges_climb : (s : ScanValue) (k : ℕ) → IsScan s → k < length s.rows → Pairwise (λ e f. e.key < f.key)
     (edges_of s (row_at s k))
 edges_climb s k is h =
     let row = row_at s k in
     let edges = edges_of s row in
     let long : length edges ≡ row.count = length-edges_of s k is h in
-    chain_pairs (λ e f. e.key < f.key) edges (λ i j d lt l.
+    pairwise_all (λ e f. e.key < f.key) edges (λ i j d lt l.
     let at : (n : ℕ) → n < length edges → get_or edges n d ≡ edge_at s (row.first + n) = λ n inside.
     get_or_default edges n d blank_edge inside ∙ get_or-edges_of s row n (omega arith) in
     rw (at i (omega arith), at j l) (is.rising k (row.first + i) (row.first + j) h (omega arith) (omega arith)
@@ -198,11 +198,13 @@ targets_above x (edge ∷ edges) all =
       | Some t ↦ All-cons (λ y. x < y) edge.key (target_keys edges) (All-head (λ e. x < e.key) edge edges all) later
     ]
 
-targets_rise : (edges : List EdgeRow) → Chain (λ e f. e.key < f.key) edges → Rises (target_keys edges)
+targets_rise : (edges : List EdgeRow) → Pairwise (λ e f. e.key < f.key) edges →
+    Pairwise (λ x y. x < y) (target_keys edges)
 targets_rise [] chain = tt
 targets_rise (edge ∷ edges) chain =
     let later = targets_rise edges chain.1 in
-    elim edge.target as (λ o. Rises (cons_option (option_map (λ _. edge.key) o) (target_keys edges))) [
+    elim edge.target as
+    (λ o. Pairwise (λ x y. x < y) (cons_option (option_map (λ _. edge.key) o) (target_keys edges))) [
       | None ↦ later
       | Some t ↦ (targets_above edge.key edges chain.0, later)
     ]

@@ -110,23 +110,24 @@ pairs_alike s v keys from (edge ∷ edges) all =
 abbrev graph_by : List ℕ → List ((ℕ × ℕ) × ℕ) → Graph
 graph_by ks ps = record { keys = set.from_list ks; pairs = finmap.from_entries ps }
 
-abbrev key_in : VertexRow → ℕ
-key_in row = row.key
+abbrev key_of_vertex : VertexRow → ℕ
+key_of_vertex row = row.key
 
 pub graph-vertex : (s : ScanValue) (life : Life) (key : ℕ) → IsScan s → graph_of_scan (with_vertex s life key) ≡ record
     (graph_of_scan s) { keys = set.insert (graph_of_scan s).keys key }
 graph-vertex s life key is =
     let v = with_vertex s life key in
-    let keys : (t : ℕ) → t < length s.rows → (row_at v t).key ≡ (row_at s t).key = λ t h. ap key_in
+    let keys : (t : ℕ) → t < length s.rows → (row_at v t).key ≡ (row_at s t).key = λ t h. ap key_of_vertex
     (row_at-with_vertex s life key t h) in
     let pairs : flat_map (pairs_of v) (s.rows ++ new_row life key ∷ []) ≡ flat_map (pairs_of s) s.rows =
     flat_map-append (pairs_of v) s.rows (new_row life key ∷ []) ∙ append-nil (flat_map (pairs_of v) s.rows)
     ∙ flat_same (pairs_of v) (pairs_of s) (λ r. pairs_alike s v keys r.key (edges_of s r) (all_in_rows s is r)) s.rows
     in
-    ap (λ ps. graph_by (map key_in (s.rows ++ new_row life key ∷ [])) ps) pairs
+    ap (λ ps. graph_by (map key_of_vertex (s.rows ++ new_row life key ∷ [])) ps) pairs
     ∙ ap (λ (ks : set.FinSet nat_cmp). record (graph_of_scan s) { keys = ks })
-    (ap (λ ks. set.from_list {R = nat_cmp} ks) (map-append key_in s.rows (new_row life key ∷ [])) ∙ from_list-push
-    (map key_in s.rows) key)
+    (ap (λ ks. set.from_list {R = nat_cmp} ks) (map-append key_of_vertex s.rows (new_row life key ∷ [])) ∙
+    from_list-push
+    (map key_of_vertex s.rows) key)
 
 pub graph-started : (s : ScanValue) (k counter head : ℕ) → IsScan s → k < length s.rows → s.next ≤ k → graph_of_scan
     (with_started s k counter head) ≡ graph_of_scan s
@@ -134,14 +135,14 @@ graph-started s k counter head is inside later =
     let v = with_started s k counter head in
     let row = started_row s k counter head in
     let keys : (t : ℕ) → t < length s.rows → (row_at v t).key ≡
-    (row_at s t).key = λ t h. told_written key_in s.rows k row no_row refl t in
+    (row_at s t).key = λ t h. told_written key_of_vertex s.rows k row no_row refl t in
     let none : pairs_of v (row_at s k) ≡ [] = ap (pairs_of v) (is.not_started k later inside) in
     let pairs : flat_map (pairs_of v) (list.set s.rows k row) ≡ flat_map (pairs_of s) s.rows =
     flat_written (pairs_of v) s.rows k row inside (sym none)
     ∙ flat_same (pairs_of v) (pairs_of s) (λ r. pairs_alike s v keys r.key (edges_of s r) (all_in_rows s is r)) s.rows
     in
-    ap (λ ps. graph_by (map key_in (list.set s.rows k row)) ps) pairs
-    ∙ ap (λ ks. graph_by ks (flat_map (pairs_of s) s.rows)) (map-set_same key_in s.rows k row no_row refl)
+    ap (λ ps. graph_by (map key_of_vertex (list.set s.rows k row)) ps) pairs
+    ∙ ap (λ ks. graph_by ks (flat_map (pairs_of s) s.rows)) (map-set_same key_of_vertex s.rows k row no_row refl)
 
 -- the pairs after a push of an edge: that of the edge, if it has a target, comes last
 pairs-edge : (s : ScanValue) (edge : EdgeRow) → IsScan s → 0 < s.next → InRows s edge
@@ -155,7 +156,7 @@ pairs-edge s edge is some target =
     let inside : n < length s.rows = omega (arith, is.started_are_rows) in
     let end : old.first + old.count ≡ length s.edges = is.last_ends some in
     let keys : (t : ℕ) → t < length s.rows → (row_at v t).key ≡
-    (row_at s t).key = λ t h. told_written key_in s.rows n row no_row refl t in
+    (row_at s t).key = λ t h. told_written key_of_vertex s.rows n row no_row refl t in
     let whole : (e : List EdgeRow) → old.first + (old.count + 1) ≡ length e → take (old.count + 1)
     (drop old.first e) ≡ drop old.first e = λ e long. take_all (old.count + 1) (drop old.first e)
     (omega (arith, length-drop old.first e)) in
@@ -181,13 +182,13 @@ pairs-edge s edge is some target =
 
 graph-edge_by : (s : ScanValue) (edge : EdgeRow) (ps : List ((ℕ × ℕ) × ℕ)) → IsScan s → 0 < s.next → InRows s edge
     → filter_map (pair_of s (row_at s (s.next - 1)).key) (edge ∷ []) ≡ ps
-    → graph_of_scan (with_edge s edge) ≡ graph_by (map key_in s.rows) (flat_map (pairs_of s) s.rows ++ ps)
+    → graph_of_scan (with_edge s edge) ≡ graph_by (map key_of_vertex s.rows) (flat_map (pairs_of s) s.rows ++ ps)
 graph-edge_by s edge ps is some target told =
     let row = longer_row s in
-    ap (λ qs. graph_by (map key_in (list.set s.rows (s.next - 1) row)) qs)
+    ap (λ qs. graph_by (map key_of_vertex (list.set s.rows (s.next - 1) row)) qs)
     (pairs-edge s edge is some target ∙ ap (λ qs. flat_map (pairs_of s) s.rows ++ qs) told)
     ∙ ap (λ ks. graph_by ks (flat_map (pairs_of s) s.rows ++ ps))
-    (map-set_same key_in s.rows (s.next - 1) row no_row refl)
+    (map-set_same key_of_vertex s.rows (s.next - 1) row no_row refl)
 
 pub graph-edge : (s : ScanValue) (edge : EdgeRow) (t : ℕ) → IsScan s → 0 < s.next → edge.target ≡ Some t
     → t < length s.rows
@@ -214,5 +215,5 @@ graph-edge_out s edge is some told =
     let within : InRows s edge = λ u e. let same : None ≡ Some u = sym told ∙ e in absurd (cc) in
     let here : filter_map (pair_of s from) (edge ∷ []) ≡ [] = ap
     (λ o. cons_option (option_map (λ u. ((from, (row_at s u).key), edge.weight)) o) []) told in
-    graph-edge_by s edge [] is some within here ∙ ap (λ ps. graph_by (map key_in s.rows) ps)
+    graph-edge_by s edge [] is some within here ∙ ap (λ ps. graph_by (map key_of_vertex s.rows) ps)
     (append-nil (flat_map (pairs_of s) s.rows))

@@ -10,23 +10,20 @@ use Rattle.std.proofs.lemmas.List.Kept.{AllPairs-from_increasing}
 use Rattle.graph_kinds.specs.Levels.{stands_in}
 
 -- each item is related to those behind it
-abbrev pub Chain : {X : Type 0} → (X → X → Type 0) → List X → Type 0
-Chain R [] = Unit {0}
-Chain R (x ∷ xs) = All (R x) xs × Chain R xs
+abbrev pub Pairwise : {X : Type 0} → (X → X → Type 0) → List X → Type 0
+Pairwise R [] = Unit {0}
+Pairwise R (x ∷ xs) = All (R x) xs × Pairwise R xs
 
-pub chain_pairs : {X : Type 0} (R : X → X → Type 0) (xs : List X) → AllPairs R xs → Chain R xs
-chain_pairs R [] pairs = tt
-chain_pairs R (x ∷ xs) pairs = (
+pub pairwise_all : {X : Type 0} (R : X → X → Type 0) (xs : List X) → AllPairs R xs → Pairwise R xs
+pairwise_all R [] pairs = tt
+pairwise_all R (x ∷ xs) pairs = (
   (λ k d h. pairs zero (suc k) d (omega arith) (omega arith)),
-  chain_pairs R xs
+  pairwise_all R xs
       (λ i j d lt h. pairs (suc i) (suc j) d (omega arith) (omega arith)),
 )
 
-abbrev pub Rises : List ℕ → Type 0
-Rises = Chain (λ x y. x < y)
-
-pub rises : (xs : List ℕ) → IsStrictlyIncreasing xs → Rises xs
-rises xs up = chain_pairs (λ x y. x < y) xs (AllPairs-from_increasing xs up)
+pub rises : (xs : List ℕ) → IsStrictlyIncreasing xs → Pairwise (λ x y. x < y) xs
+rises xs up = pairwise_all (λ x y. x < y) xs (AllPairs-from_increasing xs up)
 
 -- what all items of a list meet, an item meets that a test finds there
 pub any_meets : {X : Type 0} (P : X → Type 0) (test : X → Bool) (xs : List X) → All P xs → list_any test xs ≡ true →
@@ -89,7 +86,8 @@ at_least x z xs all h =
     subst (λ (n : ℕ). x ≤ n) same r.2
 
 -- two rising lists with the same numbers are one
-pub same_rising : (xs ys : List ℕ) → Rises xs → Rises ys → ((z : ℕ) → stands_in xs z ≡ stands_in ys z) → xs ≡ ys
+pub same_rising : (xs ys : List ℕ) → Pairwise (λ x y. x < y) xs → Pairwise (λ x y. x < y) ys →
+    ((z : ℕ) → stands_in xs z ≡ stands_in ys z) → xs ≡ ys
 same_rising [] [] r q same = refl
 same_rising [] (y ∷ ys) r q same = absurd (true≢false (sym (same y ∙ ap (λ b. b || stands_in ys y) (itself y))))
 same_rising (x ∷ xs) [] r q same = absurd (true≢false (sym (ap (λ b. b || stands_in xs x) (itself x)) ∙ same x))

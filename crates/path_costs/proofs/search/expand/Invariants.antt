@@ -1,9 +1,9 @@
 use Rattle.path_costs.specs.Heap.{IsHeap}
-use Rattle.path_costs.proofs.Expanding.{IsExpanding}
+use Rattle.path_costs.proofs.Expanding.{IsRelaxing}
 use Rattle.path_costs.proofs.search.expand.Given as goal
 
 abbrev pub invariant-loop-place : goal.invariant-loop-place
 invariant-loop-place l = record {
   heap : IsHeap l.scan l.waiting;
-  expanding : IsExpanding l.fn.scan l.scan l.fn.from l.place;
+  expanding : IsRelaxing l.fn.scan l.scan l.fn.from l.place;
 }

@@ -11,7 +11,7 @@ use Rattle.path_costs.specs.Search.{key_of_row}
 use Rattle.path_costs.proofs.HeapPlaces.{waits}
 use Rattle.path_costs.proofs.Expanding.{rows_long}
 use Rattle.path_costs.proofs.Settling.{nowhere, settled_tree}
-use Rattle.path_costs.proofs.Taking.{IsTaken, is_taken}
+use Rattle.path_costs.proofs.Taking.{IsTakenRow, is_taken}
 use Rattle.path_costs.proofs.search.search.Goals as goal
 
 pub loop-waiting-init : goal.loop-waiting-init
@@ -39,7 +39,7 @@ returns-then-vertex-goal-clause-found c =
     let s = c.loop-waiting.scan in
     let new = c.take-row.new.scan in
     let row = c.take-row.result in
-    let taken : IsTaken s new row = is_taken s new row c.vertices.ensures.valid c.loop-waiting.invariant.search
+    let taken : IsTakenRow s new row = is_taken s new row c.vertices.ensures.valid c.loop-waiting.invariant.search
     c.take-row.ensures.row c.take-row.ensures.waited c.take-row.ensures.least c.take-row.ensures.states
     c.take-row.ensures.rest in
     let kept = kept_on old s new c.loop-waiting.invariant.kept (slots_kept s new c.take-row.ensures.rest) in
@@ -72,7 +72,7 @@ loop-waiting-preserved c =
     let mid = c.take-row.new.scan in
     let row = c.take-row.result in
     let new = c.expand-waiting.new.scan in
-    let taken : IsTaken s mid row = is_taken s mid row c.vertices.ensures.valid c.loop-waiting.invariant.search
+    let taken : IsTakenRow s mid row = is_taken s mid row c.vertices.ensures.valid c.loop-waiting.invariant.search
     c.take-row.ensures.row c.take-row.ensures.waited c.take-row.ensures.least c.take-row.ensures.states
     c.take-row.ensures.rest in
     let first = slots_kept s mid c.take-row.ensures.rest in
