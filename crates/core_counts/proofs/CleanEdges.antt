@@ -72,17 +72,17 @@ module _ (sizes : Sizes) (z : IsLayout sizes) (past : List Event) (e : Event) (k
     same_by _ ok n c = refl
 
   -- a linked node was linked, as what it is, or it was fresh and is linked now
-  abbrev WasLinked : Kind → ℕ → Node → Type 0
-  WasLinked k y v' = v'.mode ≡ Linked → (((s.node y).mode ≡ Linked) × (v'.vertex ≡ (s.node y).vertex) ×
+  abbrev CameLinked : Kind → ℕ → Node → Type 0
+  CameLinked k y v' = v'.mode ≡ Linked → (((s.node y).mode ≡ Linked) × (v'.vertex ≡ (s.node y).vertex) ×
       (v'.source ≡ (s.node y).source)) ⊎ (((s.node y).mode ≡ Fresh) × (e.life.index ≡ y) ×
       ((k ≡ LinkVertex) ⊎ (links_edge k ≡ true)) × (k ≡ LinkVertex → v'.vertex ≡ true))
 
   put_was : (k : Kind) (v : Node) (y : ℕ) → (v.mode ≡ Linked →
       (((s.node e.life.index).mode ≡ Linked) × (v.vertex ≡ (s.node e.life.index).vertex) ×
       (v.source ≡ (s.node e.life.index).source)) ⊎ (((s.node e.life.index).mode ≡ Fresh) ×
-      ((k ≡ LinkVertex) ⊎ (links_edge k ≡ true)) × (k ≡ LinkVertex → v.vertex ≡ true))) → WasLinked k y
+      ((k ≡ LinkVertex) ⊎ (links_edge k ≡ true)) × (k ≡ LinkVertex → v.vertex ≡ true))) → CameLinked k y
       (put e.life.index v s.node y)
-  put_was k v y new = put_case (λ (u : Node). WasLinked k y u) e.life.index v s.node y
+  put_was k v y new = put_case (λ (u : Node). CameLinked k y u) e.life.index v s.node y
       (λ same m. subst (λ (i : ℕ). (((s.node i).mode ≡ Linked) × (v.vertex ≡ (s.node i).vertex) ×
       (v.source ≡ (s.node i).source)) ⊎ (((s.node i).mode ≡ Fresh) × (e.life.index ≡ i) ×
       ((k ≡ LinkVertex) ⊎ (links_edge k ≡ true)) × (k ≡ LinkVertex → v.vertex ≡ true))) (sym same)
@@ -93,10 +93,10 @@ module _ (sizes : Sizes) (z : IsLayout sizes) (past : List Event) (e : Event) (k
       (λ _ m. inl (m, refl, refl))
 
   -- a part that is handed over is linked no more
-  handed_was : (k : Kind) (s0 : State) (i y : ℕ) → WasLinked k y (s0.node y) → WasLinked k y ((handed i s0).node y)
-  handed_was k s0 i y h = handed_case (λ (u : Node). WasLinked k y u) s0 i y h (λ _ _ _ m. absurd (cc))
+  handed_was : (k : Kind) (s0 : State) (i y : ℕ) → CameLinked k y (s0.node y) → CameLinked k y ((handed i s0).node y)
+  handed_was k s0 i y h = handed_case (λ (u : Node). CameLinked k y u) s0 i y h (λ _ _ _ m. absurd (cc))
 
-  linked_was : (k : Kind) → AllowedAs k sizes past e → (y : ℕ) → WasLinked k y ((state_by k sizes e s).node y)
+  linked_was : (k : Kind) → AllowedAs k sizes past e → (y : ℕ) → CameLinked k y ((state_by k sizes e s).node y)
   linked_was PopFree ok y = put_was PopFree _ y (λ m. absurd (cc))
   linked_was LinkVertex ok y = put_was LinkVertex _ y (λ m. inr (ok.fresh.fresh, inl refl, λ _. refl))
   linked_was LinkEdge ok y = put_was LinkEdge _ y (λ m. inr (ok.fresh.fresh, inr refl, λ h. absurd (cc)))
@@ -111,9 +111,9 @@ module _ (sizes : Sizes) (z : IsLayout sizes) (past : List Event) (e : Event) (k
       (put_was FreezeEdge _ y (λ m. inl (m, refl, refl)))
   linked_was FreezeHead ok y = handed_was FreezeHead (closed_state s e.life.index) e.life.index y
       (λ m. inl (m, refl, refl))
-  linked_was ReplaceEdge ok y = replaced_case sizes z past e kept ok (λ (u : Node). WasLinked ReplaceEdge y u) y
+  linked_was ReplaceEdge ok y = replaced_case sizes z past e kept ok (λ (u : Node). CameLinked ReplaceEdge y u) y
       (λ at _. inr (ap (λ (i : ℕ). (s.node i).mode) at ∙ ok.fresh.fresh, sym at, inr refl, λ h. absurd (cc)))
-      (λ _. put_case (λ (u : Node). WasLinked ReplaceEdge y u) e.old.index
+      (λ _. put_case (λ (u : Node). CameLinked ReplaceEdge y u) e.old.index
       (record (s.node e.old.index) { marked = true }) s.node y
       (λ same m. inl (
         ap (λ (i : ℕ). (s.node i).mode) same ∙ m,

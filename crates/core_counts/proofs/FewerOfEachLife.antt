@@ -66,7 +66,8 @@ shorter (suc n) (l ∷ xs) ys low h =
     let here : 1 ≤ occurs l (l ∷ xs) = omega (
       arith,
       ap (λ (b : Bool). length
-          (cond b (l ∷ filter (λ (u : Life). same_life l u) xs) (filter (λ (u : Life). same_life l u) xs))) (same_self l),
+          (cond b (l ∷ filter (λ (u : Life). same_life l u) xs) (filter (λ (u : Life). same_life l u) xs)))
+          (same_self l),
     )
     in
     let whole = split l (l ∷ xs) in
@@ -80,35 +81,37 @@ shorter (suc n) (l ∷ xs) ys low h =
 
 -- the lives of the events of some kinds, in order
 module _ (test : Kind → Bool) (at : Event → Life) where
-  abbrev lives_of : List Event → List Life
-  lives_of [] = []
-  lives_of (e ∷ es) = cond (test e.kind) (at e ∷ lives_of es) (lives_of es)
+  abbrev passing_lives : List Event → List Life
+  passing_lives [] = []
+  passing_lives (e ∷ es) = cond (test e.kind) (at e ∷ passing_lives es) (passing_lives es)
 
-  as_many : (journal : List Event) → length (lives_of journal) ≡ all_made test journal
+  as_many : (journal : List Event) → length (passing_lives journal) ≡ all_made test journal
   as_many [] = refl
   as_many (e ∷ es) = by (test e.kind) (as_many es)
     where
-      by : (b : Bool) → length (lives_of es) ≡ all_made test es → length
-          (cond b (at e ∷ lives_of es) (lives_of es)) ≡ length
+      by : (b : Bool) → length (passing_lives es) ≡ all_made test es → length
+          (cond b (at e ∷ passing_lives es) (passing_lives es)) ≡ length
           (cond b (e ∷ filter (λ (d : Event). test d.kind) es) (filter (λ (d : Event). test d.kind) es))
       by true h = omega (arith, h)
       by false h = h
 
-  as_often : (x : Life) (journal : List Event) → occurs x (lives_of journal) ≡ length
+  as_often : (x : Life) (journal : List Event) → occurs x (passing_lives journal) ≡ length
       (filter (λ (d : Event). test d.kind && same_life x (at d)) journal)
   as_often x [] = refl
   as_often x (e ∷ es) = by (test e.kind) (as_often x es)
     where
-      also : (c : Bool) → occurs x (lives_of es) ≡ length (filter (λ (d : Event). test d.kind && same_life x (at d)) es)
-          → length (cond c (at e ∷ filter (λ (u : Life). same_life x u) (lives_of es))
-          (filter (λ (u : Life). same_life x u) (lives_of es))) ≡ length
+      also : (c : Bool) → occurs x (passing_lives es)
+          ≡ length (filter (λ (d : Event). test d.kind && same_life x (at d)) es)
+          → length (cond c (at e ∷ filter (λ (u : Life). same_life x u) (passing_lives es))
+          (filter (λ (u : Life). same_life x u) (passing_lives es))) ≡ length
           (cond c (e ∷ filter (λ (d : Event). test d.kind && same_life x (at d)) es)
           (filter (λ (d : Event). test d.kind && same_life x (at d)) es))
       also true h = omega (arith, h)
       also false h = h
 
-      by : (b : Bool) → occurs x (lives_of es) ≡ length (filter (λ (d : Event). test d.kind && same_life x (at d)) es)
-          → occurs x (cond b (at e ∷ lives_of es) (lives_of es)) ≡ length
+      by : (b : Bool) → occurs x (passing_lives es)
+          ≡ length (filter (λ (d : Event). test d.kind && same_life x (at d)) es)
+          → occurs x (cond b (at e ∷ passing_lives es) (passing_lives es)) ≡ length
           (cond (b && same_life x (at e)) (e ∷ filter (λ (d : Event). test d.kind && same_life x (at d)) es)
           (filter (λ (d : Event). test d.kind && same_life x (at d)) es))
       by true h = also (same_life x (at e)) h
@@ -119,7 +122,8 @@ fewer_lives : (test other : Kind → Bool) (at to : Event → Life) (journal : L
     (filter (λ (d : Event). other d.kind && same_life x (to d)) journal))
     → all_made test journal ≤ all_made other journal
 fewer_lives test other at to journal h =
-    let less = shorter (length (lives_of test at journal)) (lives_of test at journal) (lives_of other to journal)
+    let less = shorter (length (passing_lives test at journal)) (passing_lives test at journal)
+    (passing_lives other to journal)
     (omega arith) (λ x. omega (arith, as_often test at x journal, as_often other to x journal, h x)) in
     omega (arith, less, as_many test at journal, as_many other to journal)
 

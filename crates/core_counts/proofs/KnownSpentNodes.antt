@@ -52,13 +52,13 @@ module _ (sizes : Sizes) (z : IsLayout sizes) (past : List Event) (e : Event) (k
   abbrev i : ℕ
   i = e.life.index
 
-  abbrev after : List Event
-  after = past ++ e ∷ []
+  abbrev grown : List Event
+  grown = past ++ e ∷ []
 
-  after_is : state sizes after ≡ state_by e.kind sizes e s
+  after_is : state sizes grown ≡ state_by e.kind sizes e s
   after_is = state-snoc sizes past e
 
-  kept_after : IsKept sizes after
+  kept_after : IsKept sizes grown
   kept_after = kept_snoc sizes past e kept ok
 
   -- which lists are closed
@@ -73,7 +73,7 @@ module _ (sizes : Sizes) (z : IsLayout sizes) (past : List Event) (e : Event) (k
       (λ same _. inr (is, same, ok.spent)) (λ _ t. inl t) h
   closed_by _ is ok v h = inl h
 
-  was_closed : (v : ℕ) → (state sizes after).frozen v ≡ true → WasClosed v
+  was_closed : (v : ℕ) → (state sizes grown).frozen v ≡ true → WasClosed v
   was_closed v closed = closed_by e.kind refl ok.as_kind v (subst (λ (t : State). t.frozen v ≡ true) after_is closed)
 
   -- a vertex whose list the event closes is spent by the event's caller
@@ -85,36 +85,36 @@ module _ (sizes : Sizes) (z : IsLayout sizes) (past : List Event) (e : Event) (k
 
   -- spent with the caller before, or unlinked by it, or on the part that is being frozen
   abbrev Was : ℕ → Type 0
-  Was y = (IsSpentWith sizes past c y ⊎ IsOwnUnlink e c y) ⊎ IsOnPart (state sizes after) but y
+  Was y = (IsSpentWith sizes past c y ⊎ IsOwnUnlink e c y) ⊎ IsOnPart (state sizes grown) but y
 
-  new_spent : (y : ℕ) → IsSpentWith sizes after c y → Was y
+  new_spent : (y : ℕ) → IsSpentWith sizes grown c y → Was y
   new_spent y f = ⊎_elim (λ (a : IsSpentWith sizes past c y ⊎ IsOwnUnlink e c y). inl a)
       (λ (h : IsHandedOver sizes past e c y). ⊎_elim
-      (λ (one : IsBeingFrozen but h.vertex). inr (on_part (state sizes after) but h.vertex y one h.on))
+      (λ (one : IsBeingFrozen but h.vertex). inr (on_part (state sizes grown) but h.vertex y one h.on))
       (λ (other : IsBeingFrozen but h.vertex → ⊥). ⊎_elim
       (λ (closed : s.frozen h.vertex ≡ true). absurd (h.unfinished (fin.each h.vertex other h.spent closed)))
       (λ (now : (e.kind ≡ FreezeHead) × (h.vertex ≡ i) × IsSpentVertex sizes past e.caller i). absurd
       (not_mine h.vertex other h.spent.mine now))
-      (was_closed h.vertex (part_head (state sizes after) h.vertex y h.on)))
+      (was_closed h.vertex (part_head (state sizes grown) h.vertex y h.on)))
       (one_or but h.vertex))
       (becoming sizes z past e kept ok c y f)
 
   -- a node that is spent behind the event wasn't given back by it
-  ungiven : (y : ℕ) → (node_in sizes after y).mode ≡ Spent → e.kind ≡ PushFree → i ≢ y
+  ungiven : (y : ℕ) → (node_in sizes grown y).mode ≡ Spent → e.kind ≡ PushFree → i ≢ y
   ungiven y f is same =
-      let at : (node_in sizes after i).mode ≡ Free = ap (λ (t : State). (t.node i).mode)
+      let at : (node_in sizes grown i).mode ≡ Free = ap (λ (t : State). (t.node i).mode)
       (after_is ∙ ap (λ (k : Kind). state_by k sizes e s) is) ∙ ap (λ (u : Node). u.mode)
       (put_same i (record (s.node i) { mode = Free }) s.node) in
-      let f' : (node_in sizes after i).mode ≡ Spent = ap (λ (x : ℕ). (node_in sizes after x).mode) same ∙ f in
+      let f' : (node_in sizes grown i).mode ≡ Spent = ap (λ (x : ℕ). (node_in sizes grown x).mode) same ∙ f in
       absurd (cc)
 
-  part_edge : (y : ℕ) → IsOnPart (state sizes after) but y → (node_in sizes after y).vertex ≡ false
+  part_edge : (y : ℕ) → IsOnPart (state sizes grown) but y → (node_in sizes grown y).vertex ≡ false
   part_edge y = by but
     where
-      by : (o : Option ℕ) → IsOnPart (state sizes after) o y → (node_in sizes after y).vertex ≡ false
+      by : (o : Option ℕ) → IsOnPart (state sizes grown) o y → (node_in sizes grown y).vertex ≡ false
       by None h = absurd h
-      by (Some x) h = ((listing sizes z after kept_after).on x y
-          (part_listed (state sizes after).node (state sizes after).edges (state sizes after).frozen x y h)).edge
+      by (Some x) h = ((listing sizes z grown kept_after).on x y
+          (part_listed (state sizes grown).node (state sizes grown).edges (state sizes grown).frozen x y h)).edge
 
   -- a node that an event unlinks was linked
   unlinked_linked : (k : Kind) → unlinks k ≡ true → AllowedAs k sizes past e → (node_in sizes past i).mode ≡ Linked
@@ -125,14 +125,14 @@ module _ (sizes : Sizes) (z : IsLayout sizes) (past : List Event) (e : Event) (k
   no_closing : e.kind ≡ FreezeHead → unlinks e.kind ≡ true → ⊥
   no_closing is u = let f = ap unlinks is in absurd (cc)
 
-  finished_behind : AreFinished sizes after c but
+  finished_behind : AreFinished sizes grown c but
   finished_behind = record {
     each = λ v other sp closed. ⊎_elim (λ (a : IsSpentWith sizes past c v ⊎ IsOwnUnlink e c v). ⊎_elim
         (λ (was : IsSpentWith sizes past c v).
         let still = spent_still sizes past e kept_after z c v (ungiven v sp.spent) was in
         let vertex : (s.node v).vertex ≡ true = sym still.2 ∙ sp.vertex in
         ⊎_elim
-        (λ (old : s.frozen v ≡ true). finished_stays sizes z v past after (prefix_snoc past e) kept_after still.1
+        (λ (old : s.frozen v ≡ true). finished_stays sizes z v past grown (prefix_snoc past e) kept_after still.1
         (fin.each v other (record { spent = was.spent; vertex = vertex; mine = was.mine }) old))
         (λ (h : (e.kind ≡ FreezeHead) × (v ≡ i) × IsSpentVertex sizes past e.caller i). absurd
         (not_mine v other was.mine h))
@@ -146,29 +146,29 @@ module _ (sizes : Sizes) (z : IsLayout sizes) (past : List Event) (e : Event) (k
         (λ (h : (e.kind ≡ FreezeHead) × (v ≡ i) × IsSpentVertex sizes past e.caller i). absurd
         (no_closing h.0 u.unlinks))
         (was_closed v closed)) a)
-        (λ (on : IsOnPart (state sizes after) but v). let f = part_edge v on in let t = sp.vertex in absurd (cc))
+        (λ (on : IsOnPart (state sizes grown) but v). let f = part_edge v on in let t = sp.vertex in absurd (cc))
         (new_spent v (record { spent = sp.spent; mine = sp.mine }));
   }
 
   -- the part goes on
   part_on : IsHolder sizes past c but → (IsBeingFrozen but i → e.kind ≢ PushFree) → (y : ℕ) → IsSpentWith sizes past c y
-      → (node_in sizes after y).mode ≡ Spent → IsOnPart s but y → IsOnPart (state sizes after) but y
+      → (node_in sizes grown y).mode ≡ Spent → IsOnPart s but y → IsOnPart (state sizes grown) but y
   part_on = by but
     where
       by : (o : Option ℕ) → IsHolder sizes past c o → (IsBeingFrozen o i → e.kind ≢ PushFree) → (y : ℕ)
-          → IsSpentWith sizes past c y → (node_in sizes after y).mode ≡ Spent → IsOnPart s o y → IsOnPart
-          (state sizes after) o y
+          → IsSpentWith sizes past c y → (node_in sizes grown y).mode ≡ Spent → IsOnPart s o y → IsOnPart
+          (state sizes grown) o y
       by None h g y was m on = on
       by (Some x) h g y was m on =
           let tx = (spent_still sizes past e kept_after z c x (λ is same. g same is)
           (record { spent = h.spent; mine = h.mine })).1 in
           let ty = (spent_still sizes past e kept_after z c y (ungiven y m) was).1 in
-          part_stays sizes z x y past after (prefix_snoc past e) kept_after tx ty on (subst IsUsed (sym m) tt)
+          part_stays sizes z x y past grown (prefix_snoc past e) kept_after tx ty on (subst IsUsed (sym m) tt)
 
-  holder_on : IsHolder sizes past c but → (IsBeingFrozen but i → e.kind ≢ PushFree) → IsHolder sizes after c but
+  holder_on : IsHolder sizes past c but → (IsBeingFrozen but i → e.kind ≢ PushFree) → IsHolder sizes grown c but
   holder_on = by but
     where
-      by : (o : Option ℕ) → IsHolder sizes past c o → (IsBeingFrozen o i → e.kind ≢ PushFree) → IsHolder sizes after c o
+      by : (o : Option ℕ) → IsHolder sizes past c o → (IsBeingFrozen o i → e.kind ≢ PushFree) → IsHolder sizes grown c o
       by None h g = tt
       by (Some x) h g = let r = spent_still sizes past e kept_after z c x (λ is same. g same is)
           (record { spent = h.spent; mine = h.mine }) in record
@@ -178,8 +178,8 @@ module _ (sizes : Sizes) (z : IsLayout sizes) (past : List Event) (e : Event) (k
   known_on : (from : List Event) (got more : List ℕ) → (IsBeingFrozen but i → e.kind ≢ PushFree)
       → IsHolder sizes past c but → ((y : ℕ) → list_any (λ (u : ℕ). u == y) got ≡ true → list_any
       (λ (u : ℕ). u == y) more ≡ true)
-      → (y : ℕ) → IsSpentWith sizes past c y → IsSpentWith sizes after c y → IsKnown sizes from past c but got y
-      → IsKnown sizes from after c but more y
+      → (y : ℕ) → IsSpentWith sizes past c y → IsSpentWith sizes grown c y → IsKnown sizes from past c but got y
+      → IsKnown sizes from grown c but more y
   known_on from got more g holder grows y was f k = ⊎_elim
       (λ (a : IsSpentWith sizes from c y ⊎ (list_any (λ (u : ℕ). u == y) got ≡ true)). inl
       (⊎_elim (λ (b : IsSpentWith sizes from c y). inl b)
@@ -189,7 +189,7 @@ module _ (sizes : Sizes) (z : IsLayout sizes) (past : List Event) (e : Event) (k
   -- an event by which the caller unlinks nothing
   pub got_step : (from : List Event) (got : List ℕ) → (e.caller ≡ c → unlinks e.kind ≡ false) →
       (IsBeingFrozen but i → e.kind ≢ PushFree) → IsHolder sizes past c but →
-      ((y : ℕ) → IsSpentWith sizes past c y → IsKnown sizes from past c but got y) → GotOnly sizes from after c but got
+      ((y : ℕ) → IsSpentWith sizes past c y → IsKnown sizes from past c but got y) → GotOnly sizes from grown c but got
   got_step from got none g holder old = record {
     finished = finished_behind;
     holder = holder_on holder g;
@@ -197,14 +197,14 @@ module _ (sizes : Sizes) (z : IsLayout sizes) (past : List Event) (e : Event) (k
         (λ (a : IsSpentWith sizes past c y ⊎ IsOwnUnlink e c y). ⊎_elim
         (λ (was : IsSpentWith sizes past c y). known_on from got got g holder (λ _ h. h) y was f (old y was))
         (λ (u : IsOwnUnlink e c y). let t = none u.mine in let w = u.unlinks in absurd (cc)) a)
-        (λ (on : IsOnPart (state sizes after) but y). inr on)
+        (λ (on : IsOnPart (state sizes grown) but y). inr on)
         (new_spent y f);
   }
 
   -- the caller's own unlink
   pub got_unlinked : (from : List Event) (got : List ℕ) → (IsBeingFrozen but i → e.kind ≢ PushFree)
       → IsHolder sizes past c but → ((y : ℕ) → IsSpentWith sizes past c y → IsKnown sizes from past c but got y)
-      → GotOnly sizes from after c but (i ∷ got)
+      → GotOnly sizes from grown c but (i ∷ got)
   got_unlinked from got g holder old = record {
     finished = finished_behind;
     holder = holder_on holder g;
@@ -214,7 +214,7 @@ module _ (sizes : Sizes) (z : IsLayout sizes) (past : List Event) (e : Event) (k
         (λ w h. any_more (i == w) got w h) y was f (old y was))
         (λ (u : IsOwnUnlink e c y). inl (inr (ap (λ (b : Bool). b || list_any (λ (w : ℕ). w == y) got)
         (eq-eqb i y u.life)))) a)
-        (λ (on : IsOnPart (state sizes after) but y). inr on)
+        (λ (on : IsOnPart (state sizes grown) but y). inr on)
         (new_spent y f);
   }
 

@@ -136,8 +136,8 @@ module _ (sizes : Sizes) (test : Kind → Bool) (before : (past : List Event) (e
           by true t false s = omega (arith, about_else test x past e s, h x)
           by false t c s = omega (arith, about_other test x past e t, h x)
 
-abbrev own : Event → Life
-own e = e.life
+abbrev life_of_event : Event → Life
+life_of_event e = e.life
 
 cuts_more : (x : Life) (past : List Event) (e : Event) → cuts x past ≤ cuts x (past ++ e ∷ [])
 cuts_more x past e = omega (arith, times-snoc cuts_edge cut_life x past e)
@@ -237,7 +237,7 @@ module _ (sizes : Sizes) (z : IsLayout sizes) where
       (omega (arith, (taken sizes z past e kept ok).tag))
   takes past e kept _ is ok t = absurd (cc)
 
-  link_takes : FollowsOther sizes links own (about pops)
+  link_takes : FollowsOther sizes links life_of_event (about pops)
   link_takes past e kept LinkVertex is ok t = (
     its sizes z past kept e.life ok.life links ∙ (linked_once sizes z past kept).fresh e.life.index ok.fresh.fresh,
     was_taken sizes z past kept e.life ok.life (let f = ok.fresh.fresh in λ h. absurd (cc)),
@@ -256,7 +256,7 @@ module _ (sizes : Sizes) (z : IsLayout sizes) where
       → mark_of (word_at sizes past i) ≡ n
   at_link past e i n p m = ap (λ (j : ℕ). mark_of (word_at sizes past j)) (sym p) ∙ m
 
-  mark_links_vertex : FollowsOther sizes marks_vertex own (about links_vertex)
+  mark_links_vertex : FollowsOther sizes marks_vertex life_of_event (about links_vertex)
   mark_links_vertex past e kept MarkVertex is ok t =
       let u = used_linked _ ok.linked.linked in
       let m = not_marked sizes z past kept e.life ok.life ok.there ok.linked.linked
@@ -267,7 +267,7 @@ module _ (sizes : Sizes) (z : IsLayout sizes) where
       )
   mark_links_vertex past e kept _ is ok t = absurd (cc)
 
-  unlink_marks_vertex : FollowsOther sizes unlinks_vertex own (about marks_vertex)
+  unlink_marks_vertex : FollowsOther sizes unlinks_vertex life_of_event (about marks_vertex)
   unlink_marks_vertex past e kept UnlinkVertex is ok t =
       let u = used_linked _ ok.linked.linked in (
         not_unlinked sizes z past kept e.life ok.life unlinks_vertex within ok.linked.linked,
@@ -281,7 +281,7 @@ module _ (sizes : Sizes) (z : IsLayout sizes) where
       within _ h = absurd (cc)
   unlink_marks_vertex past e kept _ is ok t = absurd (cc)
 
-  close_unlinks_vertex : FollowsOther sizes freezes_head own (about unlinks_vertex)
+  close_unlinks_vertex : FollowsOther sizes freezes_head life_of_event (about unlinks_vertex)
   close_unlinks_vertex past e kept FreezeHead is ok t =
       let u = used_spent _ ok.spent.spent in
       let words = ((contents sizes z past kept).each e.life.index ok.there).vertex u ok.spent.vertex in
@@ -318,12 +318,13 @@ module _ (sizes : Sizes) (z : IsLayout sizes) where
       (at_link past e _ 0 ok.place ok.unmarked))
   mark_links_edge past e kept _ is ok t = absurd (cc)
 
-  unlink_marks_edge : FollowsOther sizes unlinks_edge own cuts
+  unlink_marks_edge : FollowsOther sizes unlinks_edge life_of_event cuts
   unlink_marks_edge past e kept UnlinkEdge is ok t =
       let u = used_linked _ ok.linked.linked in (
         not_unlinked sizes z past kept e.life ok.life unlinks_edge within ok.linked.linked,
         edge_mark sizes z past kept
-            e.life ok.life ok.there u ok.linked.edge (is_marked sizes z past kept e.life ok.life ok.there ok.linked.linked
+            e.life ok.life ok.there u ok.linked.edge (is_marked sizes z past kept e.life ok.life ok.there
+            ok.linked.linked
             ok.dead),
       )
     where
@@ -332,7 +333,7 @@ module _ (sizes : Sizes) (z : IsLayout sizes) where
       within _ h = absurd (cc)
   unlink_marks_edge past e kept _ is ok t = absurd (cc)
 
-  push_takes : FollowsOther sizes pushes own (about pops)
+  push_takes : FollowsOther sizes pushes life_of_event (about pops)
   push_takes past e kept PushFree is ok t =
       let s = ok.ripe.stamped.spent.spent in (
         its sizes z past kept e.life ok.life pushes ∙ ((told sizes z past kept).each e.life.index).back
@@ -342,7 +343,8 @@ module _ (sizes : Sizes) (z : IsLayout sizes) where
   push_takes past e kept _ is ok t = absurd (cc)
 
   -- the list of a vertex that's stored is closed, and a spent edge is marked
-  push_closes : FollowsOther sizes pushes own (λ (x : Life) (j : List Event). about freezes_head x j + cuts x j)
+  push_closes : FollowsOther sizes pushes life_of_event
+      (λ (x : Life) (j : List Event). about freezes_head x j + cuts x j)
   push_closes past e kept PushFree is ok t =
       let v : Node = node_in sizes past e.life.index in
       let s = ok.ripe.stamped.spent.spent in (
@@ -381,22 +383,24 @@ module _ (sizes : Sizes) (z : IsLayout sizes) where
   -- as many are given back as were taken at most
   pub given_taken : (journal : List Event) → IsKept sizes journal → (x : Life)
       → about pushes x journal ≤ about pops x journal
-  given_taken = follows sizes pushes own (about pops) (about_more pops) (λ x. omega arith) push_takes
+  given_taken = follows sizes pushes life_of_event (about pops) (about_more pops) (λ x. omega arith) push_takes
 
   pub one_way : (journal : List Event) → IsKept sizes journal → (x : Life) → GoesOneWay journal x
   one_way journal kept x = record {
     taken = once sizes pops takes journal kept x;
-    linked = follows sizes links own (about pops) (about_more pops) (λ x. omega arith) link_takes journal kept x;
-    vertex_marked = follows sizes marks_vertex own (about links_vertex) (about_more links_vertex)
+    linked = follows sizes links life_of_event (about pops) (about_more pops) (λ x. omega arith) link_takes
+        journal kept x;
+    vertex_marked = follows sizes marks_vertex life_of_event (about links_vertex) (about_more links_vertex)
         (λ x. omega arith) mark_links_vertex journal kept x;
-    vertex_unlinked = follows sizes unlinks_vertex own (about marks_vertex) (about_more marks_vertex)
+    vertex_unlinked = follows sizes unlinks_vertex life_of_event (about marks_vertex) (about_more marks_vertex)
         (λ x. omega arith) unlink_marks_vertex journal kept x;
-    closed = follows sizes freezes_head own (about unlinks_vertex) (about_more unlinks_vertex)
+    closed = follows sizes freezes_head life_of_event (about unlinks_vertex) (about_more unlinks_vertex)
         (λ x. omega arith) close_unlinks_vertex journal kept x;
     edge_marked = follows sizes cuts_edge cut_life (about links_edge) (about_more links_edge)
         (λ x. omega arith) mark_links_edge journal kept x;
-    edge_unlinked = follows sizes unlinks_edge own cuts cuts_more (λ x. omega arith) unlink_marks_edge journal kept x;
-    given_back = follows sizes pushes own (λ (y : Life) (j : List Event). about freezes_head y j + cuts y j)
+    edge_unlinked = follows sizes unlinks_edge life_of_event cuts cuts_more (λ x. omega arith) unlink_marks_edge
+        journal kept x;
+    given_back = follows sizes pushes life_of_event (λ (y : Life) (j : List Event). about freezes_head y j + cuts y j)
         (λ y past e. omega (arith, about_more freezes_head y past e, cuts_more y past e))
         (λ x. omega arith) push_closes journal kept x;
   }

@@ -1,6 +1,7 @@
 -- How a node becomes spent with a caller.
 use Rattle.std.proofs.Common.{◌≡◌, ◌≢◌, ◌⊎◌, ℕ, ◌≤◌, true, cond, List, [], ◌∷◌, ◌++◌, length, refl, sym, ap, ◌∙◌, subst}
 use Rattle.std.proofs.Common.{inl, inr, ⊎_elim}
+use Rattle.graph_kinds.specs.Levels.{stands_in}
 use Rattle.packed_link.specs.Layout.{Sizes, IsLayout, second_at}
 use Rattle.core_journal.specs.declared.event.Kind.{Kind}
 use Rattle.core_journal.specs.declared.event.Kind.TheVariants.{PopFree, LinkVertex, MarkVertex, UnlinkVertex, LinkEdge}
@@ -23,7 +24,6 @@ use Rattle.core_kept.proofs.NodesInPlace.{frozen_stands}
 use Rattle.core_kept.proofs.NodesOnLists.{IsWordOf, linked_was, part_same}
 use Rattle.core_kept.proofs.ReplaceCases.{new_edge_node, replaced_case}
 use Rattle.core_lists.proofs.ListHoldsKept.{listing, sources}
-use Rattle.core_kept.proofs.MetFromHead.{stands}
 use Rattle.core_lists.proofs.ClosedHeadStays.{part_head, finished_stays}
 use Rattle.core_lists.proofs.PartSpender.{spenders}
 use Rattle.core_lists.proofs.EventKeepsRest.{spent_still}
@@ -44,10 +44,10 @@ record IsUnlinkedBy (k : Kind) (e : Event) (y : ℕ) (v' : Node) : Type 0 where
 record IsHandedIn (s after : State) (y : ℕ) (v' : Node) : Type 0 where
   pub vertex : ℕ
   pub linked : (s.node y).mode ≡ Linked
-  pub listed : stands y (s.edges vertex) ≡ true
+  pub listed : stands_in (s.edges vertex) y ≡ true
   pub who : v'.who ≡ (s.node vertex).who
   pub closed : (s.node vertex).mode ≢ Linked
-  pub on : stands y (frozen_part after vertex) ≡ true
+  pub on : stands_in (frozen_part after vertex) y ≡ true
 
 abbrev Became : Kind → Event → State → State → ℕ → Node → Type 0
 Became k e s after y v' = v'.mode ≡ Spent → (WasSpent (s.node y) v' ⊎ IsUnlinkedBy k e y v') ⊎ IsHandedIn s after y v'
@@ -60,9 +60,9 @@ handed_part : (v : ℕ) (s : State) (x : ℕ) → frozen_part (handed v s) x ≡
 handed_part v s x = ap (λ (l : List ℕ). cond (s.frozen x) l [])
     (part_same (λ y. ((handed v s).node y).marked) (λ y. (s.node y).marked) (s.edges x) (λ y _. handed_marked v s y))
 
-on_after : (v : ℕ) (s : State) (y : ℕ) → stands y (frozen_part s v) ≡ true → stands y
-    (frozen_part (handed v s) v) ≡ true
-on_after v s y on = ap (stands y) (handed_part v s v) ∙ on
+on_after : (v : ℕ) (s : State) (y : ℕ) → stands_in (frozen_part s v) y ≡ true → stands_in (frozen_part (handed v s) v)
+    y ≡ true
+on_after v s y on = ap (λ (l : List ℕ). stands_in l y) (handed_part v s v) ∙ on
 
 -- a node that changes but isn't unlinked
 put_became : (k : Kind) (e : Event) (s after : State) (v : Node) (y : ℕ) →
@@ -91,7 +91,7 @@ handed_became k e s s0 x y mode who edges closed = handed_case (λ (u : Node). B
     (λ l _ on _. inr record {
       vertex = x;
       linked = sym (mode y) ∙ l;
-      listed = ap (stands y) (sym (edges x))
+      listed = ap (λ (l : List ℕ). stands_in l y) (sym (edges x))
           ∙ frozen_stands s0 x y on;
       who = who x;
       closed = closed (part_head s0 x y on);
@@ -147,9 +147,10 @@ module _ (sizes : Sizes) (z : IsLayout sizes) (past : List Event) (e : Event) (k
         on = on_after src m y on;
       })
     where
-      was_listed : (x y : ℕ) → y ≢ e.life.index → stands y ((joined_edge sizes e s).edges x) ≡ true → stands y
-          (s.edges x) ≡ true
-      was_listed x y ne h = ⊎_elim (λ (a : stands y (s.edges x) ≡ true). a)
+      was_listed : (x y : ℕ) → y ≢ e.life.index → stands_in ((joined_edge sizes e s).edges x) y ≡ true → stands_in
+          (s.edges x)
+          y ≡ true
+      was_listed x y ne h = ⊎_elim (λ (a : stands_in (s.edges x) y ≡ true). a)
           (λ (a : (y ≡ e.life.index) × IsWordOf sizes (second_at sizes x) e.place (s.edges x)). absurd (ne a.0))
           (linked_was sizes (second_at sizes x) e.place e.life.index y (s.edges x) h)
 
@@ -209,7 +210,7 @@ becoming sizes z past e kept ok caller y c =
       listed = h.listed;
       edge = l.0;
       unfinished = l.1.unfinished;
-      on = ap (λ (t : State). stands y (frozen_part t h.vertex)) (state-snoc sizes past e) ∙ h.on;
+      on = ap (λ (t : State). stands_in (frozen_part t h.vertex) y) (state-snoc sizes past e) ∙ h.on;
     }) r
 
 -- where the lists of all vertices that a caller spent are frozen to their ends, nothing else becomes spent with it

@@ -1,6 +1,7 @@
 -- What each node tells of the events of its life: whether it was taken, unlinked, closed and given back.
 use Rattle.std.proofs.Common.{◌≡◌, ◌≢◌, ℕ, ◌<◌, ◌≤◌, Bool, true, false, List, [], ◌∷◌, ◌++◌, refl, sym, ap, ◌∙◌, subst}
 use Rattle.std.proofs.Common.{arith}
+use Rattle.graph_kinds.specs.Levels.{stands_in}
 use Rattle.packed_link.specs.Layout.{Sizes, IsLayout}
 use Rattle.packed_link.specs.declared.link.Life.{Life}
 use Rattle.core_journal.specs.Event.{pushes, unlinks_vertex}
@@ -19,7 +20,6 @@ use Rattle.core_kept.specs.Nodes.{node_in}
 use Rattle.core_kept.proofs.ByKind.{KeepsIn, put_case, put_both, handed_case, marked_state, closed_state, all_in}
 use Rattle.core_kept.proofs.LinkWords.{taken}
 use Rattle.core_kept.proofs.PastLives.{about-snoc, about_other, about_else, about_this, other_index, this_life, lives}
-use Rattle.core_kept.proofs.MetFromHead.{stands}
 use Rattle.core_kept.proofs.LinkedVertices.{life_of}
 use Rattle.core_kept.proofs.NodesInPlace.{on_lists, marked_lists, joined_lists, frozen_stands}
 use Rattle.core_kept.proofs.ReplaceCases.{new_edge_node, else_marked, replaced_case}
@@ -107,7 +107,7 @@ put_told sizes past e v a b d o c x = put_case (λ (u : Node). IsTold (past ++ e
     (λ _. told_other past e x (node_in sizes past x) _ a b d (c.each x))
 
 -- the frozen part of a list is handed over
-handed_told : (journal : List Event) (s : State) (i x : ℕ) → (stands x (frozen_part s i) ≡ true →
+handed_told : (journal : List Event) (s : State) (i x : ℕ) → (stands_in (frozen_part s i) x ≡ true →
     (s.node x).vertex ≡ false) → IsTold journal x (s.node x) (s.frozen x) → IsTold journal x ((handed i s).node x)
     (s.frozen x)
 handed_told journal s i x on c = handed_case (λ (u : Node). IsTold journal x u (s.frozen x)) s i x c
@@ -161,8 +161,9 @@ unlinked_told sizes past e v b d spent tag was kind life c x = put_case
     (λ ne. told_else past e x (node_in sizes past x) _ ne (c.each x))
 
 -- what is handed over after a mark is an edge
-on_marked : (sizes : Sizes) (past : List Event) (e : Event) → IsKept sizes past → (i x : ℕ) → stands x
-    (frozen_part (marked_state (state sizes past) e.life.index) i) ≡ true →
+on_marked : (sizes : Sizes) (past : List Event) (e : Event) → IsKept sizes past → (i x : ℕ) → stands_in
+    (frozen_part (marked_state (state sizes past) e.life.index) i)
+    x ≡ true →
     ((marked_state (state sizes past) e.life.index).node x).vertex ≡ false
 on_marked sizes past e kept i x h = ((marked_lists (state sizes past) e.life.index (on_lists sizes past kept)).each i x
     (frozen_stands (marked_state (state sizes past) e.life.index) i x h)).1
@@ -211,7 +212,8 @@ told_step sizes z past e kept c MarkVertex is ok w a = record {
 }
 told_step sizes z past e kept c StoreFree is ok w a = record {
   each = put_told sizes past e _ (ap unlinks is)
-      (ap freezes_head is) (ap pushes is) (record { tag = refl; used = λ h. h; early = λ h. h; spent = λ m w. (m, w) }) c;
+      (ap freezes_head is) (ap pushes is) (record { tag = refl; used = λ h. h; early = λ h. h; spent = λ m w. (m, w) })
+      c;
 }
 told_step sizes z past e kept c MarkEdge is ok w a = record {
   each = λ x. handed_told (past ++ e ∷ [])
@@ -288,8 +290,8 @@ told_step sizes z past e kept c ReplaceEdge is ok w a = record { each = λ x. by
         (c.each x)
 
     -- what is handed over is an edge
-    on : (i x : ℕ) → x ≢ e.life.index → stands x (frozen_part
-        (marked_state (joined_edge sizes e (state sizes past)) e.old.index) i) ≡ true →
+    on : (i x : ℕ) → x ≢ e.life.index → stands_in (frozen_part
+        (marked_state (joined_edge sizes e (state sizes past)) e.old.index) i) x ≡ true →
         ((marked_state (state sizes past) e.old.index).node x).vertex ≡ false
     on i x ne h = ap (λ (v : Node). v.vertex) (sym (else_marked sizes z past e kept ok x ne))
         ∙ ((marked_lists (joined_edge sizes e (state sizes past)) e.old.index

@@ -1,6 +1,6 @@
 -- How a node becomes spent with a caller, and what a caller got since a front.
-use Rattle.std.specs.Prelude.{◌≡◌, ◌≢◌, ◌⊎◌, ℕ, ◌==◌, Bool, true, false, not, List, [], ◌∷◌, ◌++◌, Option, Some, None}
-use Rattle.std.specs.List.{list_any}
+use Rattle.std.specs.Prelude.{◌≡◌, ◌≢◌, ◌⊎◌, ℕ, Bool, true, false, not, List, [], ◌∷◌, ◌++◌, Option, Some, None}
+use Rattle.graph_kinds.specs.Levels.{stands_in}
 use Rattle.packed_link.specs.Layout.{Sizes}
 use Rattle.core_journal.specs.declared.event.Kind.{Kind}
 use Rattle.core_journal.specs.declared.event.Kind.TheVariants.{FreezeHead, PushFree}
@@ -47,14 +47,10 @@ pub record AreFinished (sizes : Sizes) (journal : List Event) (caller : ℕ) (bu
   pub each : (v : ℕ) → (IsBeingFrozen but v → ⊥) → IsSpentVertex sizes journal caller v
       → (state sizes journal).frozen v ≡ true → IsFrozenToEnd sizes journal v
 
--- a node is one of some
-abbrev pub is_among : List ℕ → ℕ → Bool
-is_among xs y = list_any (λ (z : ℕ). z == y) xs
-
 -- a node was spent with the caller at a front, or is one of those that it got, or of the part that is being frozen
 abbrev pub IsKnown : Sizes → List Event → List Event → ℕ → Option ℕ → List ℕ → ℕ → Type 0
 IsKnown sizes front journal caller but got y =
-    (IsSpentWith sizes front caller y ⊎ (is_among got y ≡ true)) ⊎ IsOnPart (state sizes journal) but y
+    (IsSpentWith sizes front caller y ⊎ (stands_in got y ≡ true)) ⊎ IsOnPart (state sizes journal) but y
 
 -- from a front to a journal a caller got no spent node but these and those of the part that is being frozen, and the
 -- other lists of vertices that it spent are open or frozen to their ends

@@ -7,6 +7,7 @@
 
 ghost use Rattle.std.specs.Prelude.{◌≡◌, ◌≢◌, ◌⊎◌, ℕ, ◌≤◌, true, false, List, [], ◌∷◌, ◌++◌, length, Option};
 ghost use Rattle.std.specs.Prelude.{Some, None};
+ghost use Rattle.graph_kinds.specs.Levels.{stands_in};
 ghost use Rattle.packed_link.specs.Layout.{IsLayout, Sizes};
 ghost use Rattle.core_journal.specs.declared.event.Event.{Event};
 ghost use Rattle.core_journal.specs.Event.{unlinks};
@@ -18,7 +19,7 @@ ghost use Rattle.core_kept.specs.Freezing.{IsSpentVertex};
 ghost use Rattle.core_kept.specs.Kept.{IsKept, IsQuiet};
 ghost use Rattle.core_kept.specs.Nodes.{IsFreshWith, IsFrozenToEnd, IsSpentWith, is_frozen, node_in};
 ghost use Rattle.core_counts.specs.Spending.{AreFinished, GetsNone, GotOnly, IsHandedOver, IsHolder, IsOwnUnlink};
-ghost use Rattle.core_counts.specs.Spending.{acts, is_among};
+ghost use Rattle.core_counts.specs.Spending.{acts};
 
 /// A node becomes spent with a caller where the caller unlinks it, or where it's an edge that comes onto the frozen
 /// part of the list of a vertex that the caller spent. So where all lists of vertices that it spent are frozen to their
@@ -64,7 +65,7 @@ pub fn a_caller_knows_what_it_got()
         → GotOnly sizes from journal caller (Some x) got }
     ensures done { (sizes : Sizes) (from journal : List Event) (caller x : ℕ) (got : List ℕ)
         → GotOnly sizes from journal caller (Some x) got → IsFrozenToEnd sizes journal x
-        → ((y : ℕ) → is_frozen (state sizes journal) x y ≡ true → is_among got y ≡ true)
+        → ((y : ℕ) → is_frozen (state sizes journal) x y ≡ true → stands_in got y ≡ true)
         → GotOnly sizes from journal caller None got }
     ensures more { (sizes : Sizes) (from journal : List Event) (caller y : ℕ) (but : Option ℕ) (got : List ℕ)
         → GotOnly sizes from journal caller but got → GotOnly sizes from journal caller but (y ∷ got) }
