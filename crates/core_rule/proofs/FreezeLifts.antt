@@ -3,6 +3,7 @@
 -- list.
 use Rattle.std.proofs.Common.{◌≡◌, ◌≢◌, ℕ, ◌<◌, ◌≤◌, true, List, [], ◌∷◌, ◌++◌, length, inl, inr, refl, sym, ap, ◌∙◌}
 use Rattle.std.proofs.Common.{subst, arith, ⊎_elim}
+use Rattle.graph_kinds.specs.Levels.{stands_in}
 use Rattle.packed_link.specs.Link.{pack, index_of, mark_of, mark_bit, nowhere}
 use Rattle.packed_link.specs.Layout.{Sizes, IsLayout, link_at, second_at}
 use Rattle.packed_link.specs.declared.link.Life.{Life}
@@ -41,7 +42,6 @@ use Rattle.core_lists.proofs.ListHolds.{part_listed}
 use Rattle.core_kept.proofs.NodesOnLists.{unlinked_keeps, linked_keeps}
 use Rattle.core_lists.proofs.ListHoldsKept.{listing, sources, has_open}
 use Rattle.core_kept.proofs.MarkedWords.{marked_head_stays}
-use Rattle.core_kept.proofs.MetFromHead.{stands}
 use Rattle.core_rule.proofs.OwnLifts.{own_spent, still_ripe}
 use Rattle.core_kept.proofs.OwnSpent.{spent_stays}
 use Rattle.core_kept.proofs.ReplaceCases.{new_edge_node}
@@ -71,23 +71,24 @@ lift_store_free v z next x m journal r =
     }
 
 -- a node stands on a list, in this life, and is linked or spent
-record IsBehind (tag source x : ℕ) (s : State) : Type 0 where
+record IsUsedOn (tag source x : ℕ) (s : State) : Type 0 where
   pub life : (s.node x).tag ≡ tag
   pub used : IsUsed (s.node x).mode
   pub on : is_listed s source x ≡ true
 
 -- a node that is linked or spent, in this life
-abbrev IsIn : ℕ → Nodes → Type 0
-IsIn tag v = (v.tag ≡ tag) × IsUsed v.mode
+abbrev IsUsedIn : ℕ → Nodes → Type 0
+IsUsedIn tag v = (v.tag ≡ tag) × IsUsed v.mode
 
 module _ (tag source x : ℕ) where
-  in_put : (s : State) (i : ℕ) (u : Nodes) → IsIn tag (s.node x) → (x ≡ i → IsIn tag (s.node i) → IsIn tag u) → IsIn tag
+  in_put : (s : State) (i : ℕ) (u : Nodes) → IsUsedIn tag (s.node x) →
+      (x ≡ i → IsUsedIn tag (s.node i) → IsUsedIn tag u) → IsUsedIn tag
       (put i u s.node x)
-  in_put s i u c new = put_case (λ (y : Nodes). IsIn tag y) i u s.node x
-      (λ same. new same (subst (λ (y : ℕ). IsIn tag (s.node y)) same c)) (λ _. c)
+  in_put s i u c new = put_case (λ (y : Nodes). IsUsedIn tag y) i u s.node x
+      (λ same. new same (subst (λ (y : ℕ). IsUsedIn tag (s.node y)) same c)) (λ _. c)
 
-  in_handed : (s : State) (i : ℕ) → IsIn tag (s.node x) → IsIn tag ((handed i s).node x)
-  in_handed s i c = handed_case (λ (y : Nodes). IsIn tag y) s i x c (λ _ _ _. (c.0, tt))
+  in_handed : (s : State) (i : ℕ) → IsUsedIn tag (s.node x) → IsUsedIn tag ((handed i s).node x)
+  in_handed s i c = handed_case (λ (y : Nodes). IsUsedIn tag y) s i x c (λ _ _ _. (c.0, tt))
 
 -- a frozen word of the list of a vertex that is spent with a caller, which leads to a node, at a front
 module _ (sizes : Sizes) (z : IsLayout sizes) (caller last place x : ℕ) (source : Life) (front : List Event)
@@ -215,14 +216,14 @@ module _ (sizes : Sizes) (z : IsLayout sizes) (caller last place x : ℕ) (sourc
         (who ∙ spent_now.mine)))
 
     module _ (tag : ℕ) (e : Event) (other : e.caller ≢ caller)
-        (c : IsBehind tag source.index x (state sizes journal)) where
-      is_in : IsIn tag (node_in sizes journal x)
+        (c : IsUsedOn tag source.index x (state sizes journal)) where
+      is_in : IsUsedIn tag (node_in sizes journal x)
       is_in = (c.life, c.used)
 
       not_mode : (m : Mode) (i : ℕ) → (IsUsed m → ⊥) → (node_in sizes journal i).mode ≡ m → x ≢ i
       not_mode m i none is same = none (subst IsUsed (ap (λ (y : ℕ). (node_in sizes journal y).mode) same ∙ is) c.used)
 
-      behind_step : (k : Kind) → AllowedAs k sizes journal e → IsBehind tag source.index x
+      behind_step : (k : Kind) → AllowedAs k sizes journal e → IsUsedOn tag source.index x
           (state_by k sizes e (state sizes journal))
       behind_step PopFree ok =
           let free = (taken sizes z journal e kept ok).free in
@@ -235,7 +236,7 @@ module _ (sizes : Sizes) (z : IsLayout sizes) (caller last place x : ℕ) (sourc
           record {
             life = i.0;
             used = i.1;
-            on = ap (stands x) at ∙ unlinked_keeps e.life.index x
+            on = ap (λ (l : List ℕ). stands_in l x) at ∙ unlinked_keeps e.life.index x
                 ((state sizes journal).edges source.index) c.on (not_mode Free e.life.index (λ u. u) free);
           }
       behind_step LinkVertex ok = let i = in_put tag source.index x (state sizes journal) e.life.index _ is_in
@@ -294,10 +295,10 @@ module _ (sizes : Sizes) (z : IsLayout sizes) (caller last place x : ℕ) (sourc
   -- so it stands behind that word still
   record IsBehindIn (tag : ℕ) (journal : List Event) : Type 0 where
     pub before : IsPrefix front journal
-    pub behind : IsBehind tag source.index x (state sizes journal)
+    pub behind : IsUsedOn tag source.index x (state sizes journal)
 
   behind_stays : (tag : ℕ) (journal : List Event) → IsPrefix front journal → IsKept sizes journal
-      → IsQuiet journal caller last → IsBehind tag source.index x (state sizes front) → IsBehind tag source.index x
+      → IsQuiet journal caller last → IsUsedOn tag source.index x (state sizes front) → IsUsedOn tag source.index x
       (state sizes journal)
   behind_stays tag journal p kept quiet start = (kept_beyond sizes
       (λ (j : List Event). IsQuiet j caller last × IsBehindIn tag j) caller last
@@ -305,7 +306,7 @@ module _ (sizes : Sizes) (z : IsLayout sizes) (caller last place x : ℕ) (sourc
         quiet_more past e caller last other c.0,
         record {
           before = prefix_trans front past (past ++ e ∷ []) c.1.before (prefix_snoc past e);
-          behind = subst (λ (s : State). IsBehind tag source.index x s) (sym (state-snoc sizes past e))
+          behind = subst (λ (s : State). IsUsedOn tag source.index x s) (sym (state-snoc sizes past e))
               (behind_step past c.1.before past_kept c.0 tag e other c.1.behind e.kind ok.as_kind);
         },
       )) front journal p kept quiet within (
@@ -354,7 +355,7 @@ module _ (v : View) (z : IsLayout v.sizes) (journal : List Event) (r : Reaches v
       (λ (h : is_listed (state v.sizes v.front) source.index (index_of (word_at v.sizes v.front place)) ≡ true). subst
       (λ (i : ℕ). is_listed (state v.sizes v.front) source.index i ≡ true) m.leads h)
       (kept_leads v.sizes z v.front old source.index place m.list m.frozen) in
-      let b : IsBehind x.tag source.index x.index (state v.sizes journal) =
+      let b : IsUsedOn x.tag source.index x.index (state v.sizes journal) =
       behind_stays v.sizes z v.number v.last place x.index source v.front old r.old vertex m.spent m.frozen
       (handed_at source m.list m.spent) m.leads m.edge.there x.tag journal r.front r.kept r.quiet
       record { life = sym m.edge.tag; used = used_at source m.list x.index on; on = on } in
@@ -380,7 +381,7 @@ module _ (v : View) (z : IsLayout v.sizes) (journal : List Event) (r : Reaches v
       (λ (i : ℕ). is_listed (state v.sizes v.front) source.index i ≡ true) m.leads h)
       (kept_leads v.sizes z v.front old source.index place m.list m.frozen) in
       let handed_over = handed_at source m.list m.spent in
-      let behind : IsBehind x.tag source.index x.index (state v.sizes journal) =
+      let behind : IsUsedOn x.tag source.index x.index (state v.sizes journal) =
       behind_stays v.sizes z v.number v.last place x.index source v.front old r.old vertex m.spent m.frozen handed_over
       m.leads m.edge.there x.tag journal r.front r.kept r.quiet
       record { life = sym m.edge.tag; used = used_at source m.list x.index on; on = on } in

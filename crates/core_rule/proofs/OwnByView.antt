@@ -13,6 +13,7 @@ use Rattle.core_kept.specs.Facts.{IsHeld, IsKeptSpent}
 use Rattle.core_kept.specs.Freezing.{IsSpentVertex, IsFrozenWord}
 use Rattle.core_rule.specs.Fronts.{IsLifeAt}
 use Rattle.core_kept.specs.Nodes.{node_in, IsFreshWith, IsSpentWith, IsStamped, IsRipe, IsFrozenToEnd, is_listed}
+use Rattle.core_rule.specs.Stretches.{GivesNone, GivesOther}
 use Rattle.core_rule.specs.Views.{Spares, Steps}
 use Rattle.core_rule.specs.declared.view.View.{View}
 use Rattle.core_kept.proofs.Callers.{made_quiet, made_none}
@@ -28,13 +29,6 @@ use Rattle.core_rule.proofs.ViewShows.{through, step_grows}
 -- an event is about another node, or doesn't give this one back
 abbrev IsElsewhere : ℕ → Event → Type 0
 IsElsewhere x e = x ≢ e.life.index
-
-abbrev GivesOther : ℕ → Event → Type 0
-GivesOther x e = e.kind ≡ PushFree → e.life.index ≢ x
-
--- it stores no link for the free list, and gives no node back
-abbrev GivesNone : Event → Type 0
-GivesNone e = (e.kind ≢ StoreFree) × (e.kind ≢ PushFree)
 
 module _ (v w : View) (own : Option Event) (t : Steps v own w) where
   -- a fact of a journal that speaks of the sizes and the number is one of the new view

@@ -1,8 +1,8 @@
 -- Nodes that are spent with a token and stand once in a list are at most as many as there are nodes.
 use Rattle.std.proofs.Common.{◌≡◌, ◌≢◌, ℕ, ◌+◌, ◌<◌, ◌≤◌, ◌==◌, ◌||◌, Bool, true, false, List, [], ◌∷◌, length, refl}
 use Rattle.std.proofs.Common.{ap, ap₂, arith, eq-eqb, ne_eqb}
-use Rattle.std.specs.List.{list_any}
 use Rattle.graph_kinds.specs.History.{Every}
+use Rattle.graph_kinds.specs.Levels.{stands_in}
 use Rattle.core_kept.specs.Kept.{IsKept}
 use Rattle.core_kept.specs.Nodes.{IsSpentWith}
 use Rattle.core_kept.proofs.NodesInPlace.{used_there}
@@ -10,10 +10,6 @@ use Rattle.core_rule.specs.Retired.{AreApart}
 use Rattle.core_rule.specs.Stretches.{count_below}
 use Rattle.core_rule.specs.declared.view.View.{View}
 use Rattle.core_rule.proofs.SpentSince.{count_at_most, count_more}
-
--- whether an index stands in a list
-abbrev stands_in : List ℕ → ℕ → Bool
-stands_in xs x = list_any (λ y. y == x) xs
 
 not_in : (xs : List ℕ) (x : ℕ) → Every (λ y. y ≢ x) xs → stands_in xs x ≡ false
 not_in [] x h = refl

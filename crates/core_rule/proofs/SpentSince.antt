@@ -100,10 +100,10 @@ module _ (sizes : Sizes) (z : IsLayout sizes) (c x : ℕ) (front : List Event)
         (λ (q : Pass). q.since) same;
   }
 
-  abbrev IsOn : List Event → Type 0
-  IsOn j = IsPrefix front j × (pass_in sizes j c ≡ pass_in sizes front c → IsSpentWith sizes j c x)
+  abbrev SpentInPass : List Event → Type 0
+  SpentInPass j = IsPrefix front j × (pass_in sizes j c ≡ pass_in sizes front c → IsSpentWith sizes j c x)
 
-  on_step : (past : List Event) (e : Event) → IsKept sizes past → IsOn past → Allowed sizes past e → IsOn
+  on_step : (past : List Event) (e : Event) → IsKept sizes past → SpentInPass past → Allowed sizes past e → SpentInPass
       (past ++ e ∷ [])
   on_step past e kept h ok =
       let now = kept_snoc sizes past e kept ok in (
@@ -119,7 +119,8 @@ module _ (sizes : Sizes) (z : IsLayout sizes) (c x : ℕ) (front : List Event)
 
   pub spent_on : (journal : List Event) → IsPrefix front journal → IsKept sizes journal
       → pass_in sizes journal c ≡ pass_in sizes front c → IsSpentWith sizes journal c x
-  spent_on journal p kept same = (kept_onward sizes IsOn on_step front journal p kept (prefix_refl front, λ _. f)).1
+  spent_on journal p kept same = (kept_onward sizes SpentInPass on_step front journal p kept
+      (prefix_refl front, λ _. f)).1
       same
 
   spent_after : (journal : List Event) → IsPrefix front journal → IsKept sizes journal

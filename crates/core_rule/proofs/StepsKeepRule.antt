@@ -111,8 +111,8 @@ stepped_to sizes s h i x id v e me has by place word plain ok =
           };
     }
 
-abbrev Goes : Sizes → Table → ℕ → ℕ → ℕ → (ℕ → AtSeat → Type 0) → Type 0
-Goes sizes s i id x then = (w : View) × (a : Act (Unit {0})) × Valid s.homes [] a × Ruled sizes
+abbrev StepIsRuled : Sizes → Table → ℕ → ℕ → ℕ → (ℕ → AtSeat → Type 0) → Type 0
+StepIsRuled sizes s i id x then = (w : View) × (a : Act (Unit {0})) × Valid s.homes [] a × Ruled sizes
     (step_to s i x id [] w a) × then (slice_index s.words i) (w, carried_after [] a)
 
 -- an exchange, a mark or an add
@@ -121,7 +121,7 @@ pub turns : (n id i a b : ℕ) (said : Option (Unit {0})) (v : View) (f : ℕ �
     → Allows (Ruled v.sizes) n id (v, []) i f (turning wins event (step n i a b said) (v, []))
 turns n id i a b said v f wins event has owes s h wide me _ = by_case (wins (slice_index s.words i)) refl
   where
-    by_case : (b' : Bool) → wins (slice_index s.words i) ≡ b' → Goes v.sizes s i id (f (slice_index s.words i))
+    by_case : (b' : Bool) → wins (slice_index s.words i) ≡ b' → StepIsRuled v.sizes s i id (f (slice_index s.words i))
         (turning wins event (step n i a b said) (v, []))
     by_case true is =
         let fits = h.seats id v me in

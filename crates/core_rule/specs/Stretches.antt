@@ -36,6 +36,14 @@ pub record Own (P : List Event → Event → Type 0) (v w : View) : Type 0 where
 abbrev pub Elsewhere : ℕ → List Event → Event → Type 0
 Elsewhere place past e = e.place ≢ place
 
+-- the event gives another node back, or none
+abbrev pub GivesOther : ℕ → Event → Type 0
+GivesOther x e = e.kind ≡ PushFree → e.life.index ≢ x
+
+-- the event stores no link for the free list and gives no node back
+abbrev pub GivesNone : Event → Type 0
+GivesNone e = (e.kind ≢ StoreFree) × (e.kind ≢ PushFree)
+
 -- the event leaves the graph as it is
 abbrev pub Leaves : List Event → Event → Type 0
 Leaves past e = changes past e ≡ false
