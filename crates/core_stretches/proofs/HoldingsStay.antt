@@ -15,14 +15,14 @@ use Rattle.core_counts.specs.Spending.{GotOnly, GetsNone}
 use Rattle.core_counts.proofs.KnownSpentNodes.{got_beyond, got_own, got_unlink}
 use Rattle.core_rule.specs.Fronts.{IsLifeAt}
 use Rattle.core_rule.specs.Retired.{IsRetired}
-use Rattle.core_rule.specs.Stretches.{HasNoFresh, is_of_fresh}
+use Rattle.core_rule.specs.Stretches.{HasNoFresh, is_of_fresh, GivesOther}
 use Rattle.core_rule.specs.Views.{Spares, Steps}
 use Rattle.core_rule.specs.declared.view.View.{View}
 use Rattle.core_rule.proofs.OwnByKind.{own_fresh_by_kind}
 use Rattle.core_rule.proofs.OwnByView.{own_none_kept, own_fresh_kept, own_spent_still}
 use Rattle.core_rule.proofs.RetiredStays.{retired_still}
 use Rattle.core_rule.proofs.ViewShows.{through, step_view}
-use Rattle.core_stretches.specs.Makes.{StepsBy, Makes, GivesOther}
+use Rattle.core_stretches.specs.Makes.{StepsBy, Makes}
 use Rattle.core_stretches.specs.Holdings.{IsHeldFresh, IsHeldSpent, HasGotOnly}
 
 -- a fact that is kept by a load, and by each own event that spares it, is kept over the whole stretch

@@ -34,15 +34,15 @@ link_leads v z kept x m some = ⊎_elim
     (vertex_link_shown v z kept x m)
 
 -- a vertex of the bucket of a key
-abbrev pub IsOfBucket : ℕ → View → ℕ → Type 0
-IsOfBucket key v x = IsVertexIn v (key % v.sizes.buckets) x
+abbrev pub IsInBucketOf : ℕ → View → ℕ → Type 0
+IsInBucketOf key v x = IsVertexIn v (key % v.sizes.buckets) x
 
 -- a word behind which a vertex of this key may stand
 abbrev pub IsBefore : ℕ → View → ℕ → Type 0
 IsBefore key v place = IsBeforeVertex v key place
 
 module _ (key : ℕ) where
-  bucket_still : (v w : View) → IsLayout v.sizes → GoesOn v w → (x : ℕ) → IsOfBucket key v x → IsOfBucket key w x
+  bucket_still : (v w : View) → IsLayout v.sizes → GoesOn v w → (x : ℕ) → IsInBucketOf key v x → IsInBucketOf key w x
   bucket_still v w z g x h =
       let same = key_still v w z g x h.met.life.there h.met.met in
       record {
@@ -66,10 +66,11 @@ module _ (key : ℕ) where
       before
 
   before_leads : (v : View) → IsLayout v.sizes → IsKept v.sizes v.front → HasPass v → (place : ℕ) → IsBefore key v place
-      → index_of (word_at v.sizes v.front place) ≢ nowhere → IsOfBucket key v (index_of (word_at v.sizes v.front place))
+      → index_of (word_at v.sizes v.front place) ≢ nowhere →
+      IsInBucketOf key v (index_of (word_at v.sizes v.front place))
   before_leads v z kept opened place before some = ⊎_elim
       (λ (b : place ≡ bucket_at v.sizes (key % v.sizes.buckets)).
-      subst (λ (i : ℕ). IsOfBucket key v (index_of (word_at v.sizes v.front i))) (sym b)
+      subst (λ (i : ℕ). IsInBucketOf key v (index_of (word_at v.sizes v.front i))) (sym b)
       (⊎_elim
       (λ (none : index_of (word_at v.sizes v.front (bucket_at v.sizes (key % v.sizes.buckets))) ≡ nowhere). absurd
       (some (ap (λ (i : ℕ). index_of (word_at v.sizes v.front i)) b ∙ none)))
@@ -79,11 +80,11 @@ module _ (key : ℕ) where
       (λ (b : (x : Life) × IsVertexBelow v key place x).
       let k = link_leads v z kept b.0 b.1.met (λ none. some (ap
       (λ (i : ℕ). index_of (word_at v.sizes v.front i)) b.1.place_is ∙ none)) in
-      subst (λ (i : ℕ). IsOfBucket key v (index_of (word_at v.sizes v.front i))) (sym b.1.place_is)
+      subst (λ (i : ℕ). IsInBucketOf key v (index_of (word_at v.sizes v.front i))) (sym b.1.place_is)
       (record { met = k.met; of_bucket = k.bucket ∙ b.1.bucket }))
       before
 
-  pub vertex_words : WordLaws (IsOfBucket key) (IsBefore key)
+  pub vertex_words : WordLaws (IsInBucketOf key) (IsBefore key)
   vertex_words = record {
     there = λ v x h. h.met.life.there;
     has = λ v x h. h.met.met;
@@ -139,7 +140,7 @@ module _ (key : ℕ) where
         });
   }
 
-  pub vertex_walks : WalkLaws key (IsOfBucket key) (IsBefore key) (Lacks key)
+  pub vertex_walks : WalkLaws key (IsInBucketOf key) (IsBefore key) (Lacks key)
   vertex_walks = record {
     words = vertex_words;
     low = before_low;

@@ -4,7 +4,7 @@
 use Rattle.std.specs.Prelude.{◌≡◌, ◌≢◌, ℕ, ◌+◌, ◌==◌, ◌⊎◌, Bool, true, cond, List, [], ◌∷◌, None, Some}
 use Rattle.packed_link.specs.Link.{mark_of}
 use Rattle.core_journal.specs.declared.event.Kind.{Kind}
-use Rattle.core_journal.specs.declared.event.Kind.TheVariants.{Announce, Withdraw, FreezeEdge, PushFree, StoreFree}
+use Rattle.core_journal.specs.declared.event.Kind.TheVariants.{Announce, Withdraw, FreezeEdge}
 use Rattle.core_journal.specs.declared.event.Event.{Event}
 use Rattle.core_journal.specs.Changes.{is_idle}
 use Rattle.core_journal.specs.Prefix.{IsPrefix}
@@ -37,14 +37,6 @@ StaysInPass e = (e.kind ≢ Announce) × (e.kind ≢ Withdraw)
 -- the event leaves the graph as it is by its kind
 abbrev pub IsGraphless : Event → Type 0
 IsGraphless e = (is_idle e.kind ≡ true) ⊎ (e.kind ≡ FreezeEdge)
-
--- the event gives another node back, or none
-abbrev pub GivesOther : ℕ → Event → Type 0
-GivesOther x e = e.kind ≡ PushFree → e.life.index ≢ x
-
--- the event stores no link for the free list and gives no node back
-abbrev pub GivesNone : Event → Type 0
-GivesNone e = (e.kind ≢ StoreFree) × (e.kind ≢ PushFree)
 
 -- the later view is of the same table and caller, has a number where the other has one, and has seen more
 pub record IsLater (v w : View) : Type 0 where

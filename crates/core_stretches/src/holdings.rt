@@ -10,10 +10,10 @@ ghost use Rattle.core_journal.specs.Event.{unlinks};
 ghost use Rattle.core_kept.specs.Facts.{IsHeld};
 ghost use Rattle.core_counts.specs.Spending.{GetsNone};
 ghost use Rattle.core_rule.specs.Retired.{IsRetired};
-ghost use Rattle.core_rule.specs.Stretches.{HasNoFresh, is_of_fresh};
+ghost use Rattle.core_rule.specs.Stretches.{HasNoFresh, is_of_fresh, GivesOther};
 ghost use Rattle.core_rule.specs.declared.view.View.{View};
 ghost use Rattle.core_stretches.specs.Holdings.{HasGotOnly, IsHeldFresh, IsHeldSpent};
-ghost use Rattle.core_stretches.specs.Makes.{GivesOther, Makes};
+ghost use Rattle.core_stretches.specs.Makes.{Makes};
 
 /// A token that holds no fresh node holds none where it took none. A fresh node stays with all of its words where no
 /// own event is about it, or none is of a kind that fills or links a fresh node.

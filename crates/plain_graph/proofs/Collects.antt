@@ -157,13 +157,13 @@ module _ (rows : List VertexRow) (r : ℕ) (v : VertexRow) (inside : r < length 
           (λ here. true≢false (sym (ap (λ n. n == r) here ∙ itself r) ∙ e)))
 
 -- keys and lives of the rows stay, and so do the edges of the first n
-record Keeps (s t : ScanValue) (n : ℕ) : Type 0 where
+record KeepsEdgesBelow (s t : ScanValue) (n : ℕ) : Type 0 where
   pub long : length t.rows ≡ length s.rows
   pub keys : (k : ℕ) → (row_at t k).key ≡ (row_at s k).key
   pub lives : (k : ℕ) → (row_at t k).life.index ≡ (row_at s k).life.index
   pub done : (k : ℕ) → k < n → edges_of t (row_at t k) ≡ edges_of s (row_at s k)
 
-keeps_started : (s : ScanValue) (r : ℕ) → r < length s.rows → Keeps s (with_started s r 0 0) r
+keeps_started : (s : ScanValue) (r : ℕ) → r < length s.rows → KeepsEdgesBelow s (with_started s r 0 0) r
 keeps_started s r inside =
     let v = record (row_at s r) { counter = 0; head = 0; first = length s.edges; count = 0 } in
     record {
@@ -173,7 +173,7 @@ keeps_started s r inside =
       done = λ k h. ap (edges_of s) (get_or-set_other s.rows r k v (new_row blank_life 0) (omega arith));
     }
 
-keeps_edge : (s : ScanValue) (e : EdgeRow) (n : ℕ) → IsScan s → s.next ≡ n + 1 → n < length s.rows → Keeps s
+keeps_edge : (s : ScanValue) (e : EdgeRow) (n : ℕ) → IsScan s → s.next ≡ n + 1 → n < length s.rows → KeepsEdgesBelow s
     (with_edge s e) n
 keeps_edge s e n valid next inside =
     let r = s.next - 1 in
@@ -194,7 +194,7 @@ keeps_edge s e n valid next inside =
         ∙ take-append-le r.count (drop r.first s.edges) (e ∷ []) (omega (arith, length-drop r.first s.edges))
 
 module _ (m : Vertices) (numbers : Numbers) (s t : ScanValue) (n at : ℕ) (p : IsCollected m numbers s n at)
-    (keeps : Keeps s t n) where
+    (keeps : KeepsEdgesBelow s t n) where
   leads_kept : (e : EdgeRow) → LeadsToRow s e → LeadsToRow t e
   leads_kept e l = record {
     row = l.row;

@@ -20,8 +20,8 @@ use Rattle.graph_kinds.proofs.Calls.{and_left, and_right}
 use Rattle.plain_graph.specs.Kept.{Edges, pairs_from, weight_by}
 
 -- the pairs from one key, of a list of edges
-abbrev pub pairs_of : ℕ → List (ℕ × ℕ) → List ((ℕ × ℕ) × ℕ)
-pairs_of k es = map (λ e. ((k, e.0), e.1)) es
+abbrev pub paired_from : ℕ → List (ℕ × ℕ) → List ((ℕ × ℕ) × ℕ)
+paired_from k es = map (λ e. ((k, e.0), e.1)) es
 
 find-append : {K X : Type 0} (R : K → K → Ordering) (q : K) (xs ys : List (K × X)) → finite_map.find R q
     (xs ++ ys) ≡ option_or (finite_map.find R q xs) (finite_map.find R q ys)
@@ -32,12 +32,12 @@ find-append R q (x ∷ xs) ys =
     ≡ option_or (cond b (Some x.1) (finite_map.find R q xs)) (finite_map.find R q ys))
     [ true ↦ refl | false ↦ refl ]
 
-find-pairs_of : (a b k : ℕ) (es : List (ℕ × ℕ)) → finite_map.find pair_cmp (a, b) (pairs_of k es) ≡ cond
+find-paired_from : (a b k : ℕ) (es : List (ℕ × ℕ)) → finite_map.find pair_cmp (a, b) (paired_from k es) ≡ cond
     (is_eq (nat_cmp a k)) (lookup (is_at (nat_cmp b)) es) None
-find-pairs_of a b k [] = elim (nat_cmp a k) as (λ o. None ≡ cond {A = Option ℕ} (is_eq o) None None)
+find-paired_from a b k [] = elim (nat_cmp a k) as (λ o. None ≡ cond {A = Option ℕ} (is_eq o) None None)
     [ Less ↦ refl | Equal ↦ refl | Greater ↦ refl ]
-find-pairs_of a b k (e ∷ es) =
-    ap (cond (is_eq (ordering_then (nat_cmp a k) (nat_cmp b e.0))) (Some e.1)) (find-pairs_of a b k es)
+find-paired_from a b k (e ∷ es) =
+    ap (cond (is_eq (ordering_then (nat_cmp a k) (nat_cmp b e.0))) (Some e.1)) (find-paired_from a b k es)
     ∙ elim (nat_cmp a k) as (λ o. cond (is_eq (ordering_then o (nat_cmp b e.0))) (Some e.1)
     (cond (is_eq o) (lookup (is_at (nat_cmp b)) es) None) ≡ cond (is_eq o)
     (lookup (is_at (nat_cmp b)) (e ∷ es)) None) [ Less ↦ refl | Equal ↦ refl | Greater ↦ refl ]
@@ -53,7 +53,7 @@ find-pairs a b [] rising = refl
 find-pairs a b (v ∷ vs) rising =
     let rest = find-pairs a b vs (sorted_tail nat_cmp v.0 (keys_of vs) rising) in
     find-append pair_cmp (a, b) (pairs_from v) (flat_map pairs_from vs)
-    ∙ ((λ i. option_or (find-pairs_of a b v.0 v.1.entries i) (rest i)) ∙ by (is_eq (nat_cmp a v.0)) refl)
+    ∙ ((λ i. option_or (find-paired_from a b v.0 v.1.entries i) (rest i)) ∙ by (is_eq (nat_cmp a v.0)) refl)
   where
     by : (t : Bool) → is_eq (nat_cmp a v.0) ≡ t → option_or (cond t (lookup (is_at (nat_cmp b)) v.1.entries) None)
         (weight_by (lookup (is_at (nat_cmp a)) vs) b) ≡ weight_by (cond t (Some v.1) (lookup (is_at (nat_cmp a)) vs)) b
@@ -75,13 +75,13 @@ below-append x (p ∷ es) fs d e = both _ _ (and_left _ _ d) (below-append x es 
 
 -- an edge's pair is below those of the edges after it
 below-row : (k b : ℕ) (es : List (ℕ × ℕ)) → AllByRecursion (λ y. nat_cmp b y ≡ Less) (keys_of es) → (t : Ordering)
-    → nat_cmp k k ≡ t → t ≡ Equal → below_all pair_cmp (k, b) (pairs_of k es) ≡ true
+    → nat_cmp k k ≡ t → t ≡ Equal → below_all pair_cmp (k, b) (paired_from k es) ≡ true
 below-row k b [] h t d e = refl
 below-row k b (f ∷ es) h t d e = both _ _ (ap (λ o. is_lt (ordering_then o (nat_cmp b f.0))) (d ∙ e) ∙ ap is_lt h.0)
     (below-row k b es h.1 t d e)
 
 -- a pair is below those of a vertex with a higher key
-below-later : (k b j : ℕ) (es : List (ℕ × ℕ)) → nat_cmp k j ≡ Less → below_all pair_cmp (k, b) (pairs_of j es) ≡ true
+below-later : (k b j : ℕ) (es : List (ℕ × ℕ)) → nat_cmp k j ≡ Less → below_all pair_cmp (k, b) (paired_from j es) ≡ true
 below-later k b j [] h = refl
 below-later k b j (f ∷ es) h = both _ _ (ap (λ o. is_lt (ordering_then o (nat_cmp b f.0))) h) (below-later k b j es h)
 
@@ -94,10 +94,10 @@ below-others k b (v ∷ vs) h = below-append (k, b) (pairs_from v) (flat_map pai
 -- the pairs of a vertex, with pairs behind them that rise and are above each of these
 sorted-row : (k : ℕ) (es : List (ℕ × ℕ)) (later : List ((ℕ × ℕ) × ℕ)) → IsStrictlySortedBy nat_cmp (keys_of es)
     → ((b : ℕ) → below_all pair_cmp (k, b) later ≡ true) → finite_map.is_sorted pair_cmp later ≡ true
-    → finite_map.is_sorted pair_cmp (pairs_of k es ++ later) ≡ true
+    → finite_map.is_sorted pair_cmp (paired_from k es ++ later) ≡ true
 sorted-row k [] later rising above rest = rest
 sorted-row k (e ∷ es) later rising above rest =
-    both _ _ (below-append (k, e.0) (pairs_of k es) later (below-row k e.0 es
+    both _ _ (below-append (k, e.0) (paired_from k es) later (below-row k e.0 es
     (sorted_head nat_cmp e.0 (keys_of es) rising) _ refl (tied_itself nat_cmp_total k)) (above e.0))
     (sorted-row k es later (sorted_tail nat_cmp e.0 (keys_of es) rising) above rest)
 

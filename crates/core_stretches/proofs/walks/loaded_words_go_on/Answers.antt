@@ -1,7 +1,7 @@
 use Rattle.std.proofs.Common.{◌≢◌}
 use Rattle.core_stretches.proofs.MakesTell.{makes_goes, makes_own}
 use Rattle.core_stretches.proofs.EdgeWords.{IsBeforeOf, IsOfSource, edge_words}
-use Rattle.core_stretches.proofs.VertexWords.{IsBefore, IsOfBucket, vertex_words}
+use Rattle.core_stretches.proofs.VertexWords.{IsBefore, IsInBucketOf, vertex_words}
 use Rattle.core_stretches.proofs.WordsLeadOn.{word_goes, word_changed}
 use Rattle.core_stretches.proofs.walks.loaded_words_go_on.Goals as goal
 
@@ -16,7 +16,7 @@ returns-clause-edge c = λ source key place seen moment v w own stays apart make
     (makes_own (λ e. e.place ≢ place) v w own apart makes) h
 
 pub returns-clause-vertex_changed : goal.returns-clause-vertex_changed
-returns-clause-vertex_changed c = λ key place seen moment v z h other. word_changed (IsOfBucket key) (IsBefore key)
+returns-clause-vertex_changed c = λ key place seen moment v z h other. word_changed (IsInBucketOf key) (IsBefore key)
     (vertex_words key) place seen moment v z h other
 
 pub returns-clause-edge_changed : goal.returns-clause-edge_changed
