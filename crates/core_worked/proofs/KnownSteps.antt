@@ -377,7 +377,8 @@ may_store_vertex = record {
   list = on_none (before 49) 0 refl;
 }
 
-pub makes_push : MakesNext two_lives (view_at 0 50) 50 (pack 3 0 5) (push_event (view_at 0 50) (pack 3 0 5) (first_life 0))
+pub makes_push : MakesNext two_lives (view_at 0 50) 50 (pack 3 0 5)
+    (push_event (view_at 0 50) (pack 3 0 5) (first_life 0))
 unfolding machine word_at
 makes_push = record { reaches = own_front 0 50 (lit≤ tt) refl; finds = refl; makes = refl }
 

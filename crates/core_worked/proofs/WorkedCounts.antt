@@ -12,6 +12,7 @@ use Rattle.core_journal.specs.Life.{link_of}
 use Rattle.core_journal.specs.Prefix.{IsPrefix}
 use Rattle.core_journal.specs.State.{Mode, Free, Linked, Spent, state}
 use Rattle.core_journal.specs.Worked.{small, first_life}
+use Rattle.core_kept.specs.Moments.{is_spent}
 use Rattle.core_kept.specs.Counts.{all_made, made}
 use Rattle.core_kept.specs.Freezing.{IsSpentVertex}
 use Rattle.core_kept.specs.Kept.{IsKept, IsQuiet}
@@ -148,11 +149,7 @@ handed = ⊎_elim (λ (a : IsSpentWith small (take 43 two_lives) 0 3 ⊎ IsOwnUn
     (last_allowed small (take 43 two_lives) freezes_second (kept_at 44 refl)) 0 3
     (record { spent = refl; mine = refl }))
 
--- whether a node isn't a vertex that's spent, but for one node
-abbrev is_spent : Mode → Bool
-is_spent Spent = true
-is_spent _ = false
-
+-- whether a node isn't a vertex that's spent
 abbrev no_spent : List Event → ℕ → Bool
 no_spent past x = not (is_spent (node_in small past x).mode && (node_in small past x).vertex)
 

@@ -104,11 +104,11 @@ vertex_unlinked = stays_but_unlinked small small_layout (first 24) 1 (drop 24 (f
         (ap (λ (d : Event). counted d.kind) (sym same))
     each (suc (suc k)) e at = absurd (cc)
 
-abbrev behind : ℕ → List Event
-behind n = take n replacing_journal
+abbrev replacing_front : ℕ → List Event
+replacing_front n = take n replacing_journal
 
-pub edges_unlinked : StaysButUnlinked small (behind 47) (drop 47 (behind 51)) 0
-edges_unlinked = stays_but_unlinked small small_layout (behind 47) 0 (drop 47 (behind 51)) kept_51
+pub edges_unlinked : StaysButUnlinked small (replacing_front 47) (drop 47 (replacing_front 51)) 0
+edges_unlinked = stays_but_unlinked small small_layout (replacing_front 47) 0 (drop 47 (replacing_front 51)) kept_51
     (record { each = each })
   where
     own : (n : ℕ) (e : Event) → unlinks (get_or replacing_journal n blank).kind ≡ true →
@@ -120,7 +120,7 @@ edges_unlinked = stays_but_unlinked small small_layout (behind 47) 0 (drop 47 (b
           (sym same) ∙ mine,
     )
 
-    each : (k : ℕ) (e : Event) → slice_get (drop 47 (behind 51)) k ≡ Some e → (counted e.kind ≡ false) ⊎
+    each : (k : ℕ) (e : Event) → slice_get (drop 47 (replacing_front 51)) k ≡ Some e → (counted e.kind ≡ false) ⊎
         ((unlinks e.kind ≡ true) × (e.caller ≡ 0))
     each zero e at = own 47 e refl refl (cc)
     each (suc zero) e at = own 48 e refl refl (cc)
@@ -129,20 +129,20 @@ edges_unlinked = stays_but_unlinked small small_layout (behind 47) 0 (drop 47 (b
         (ap (λ (d : Event). counted d.kind) (sym same))
     each (suc (suc (suc (suc k)))) e at = absurd (cc)
 
-pub three_listed : (state small (behind 47)).edges 0 ≡ 2 ∷ 3 ∷ 4 ∷ []
+pub three_listed : (state small (replacing_front 47)).edges 0 ≡ 2 ∷ 3 ∷ 4 ∷ []
 unfolding state
 three_listed = refl
 
-pub none_listed : (state small (behind 51)).edges 0 ≡ []
+pub none_listed : (state small (replacing_front 51)).edges 0 ≡ []
 unfolding state
 none_listed = refl
 
-pub taken_off : is_listed (state small (behind 51)) 0 3 ≡ false
+pub taken_off : is_listed (state small (replacing_front 51)) 0 3 ≡ false
 taken_off = edges_unlinked.lists 0 3
 
-list_before : HasList small (behind 47) 0
+list_before : HasList small (replacing_front 47) 0
 unfolding state
 list_before = record { there = lit< tt; used = tt; vertex = refl; unfinished = λ f. true≢false (sym f.head) }
 
-pub list_behind : HasList small (behind 51) 0
-list_behind = list_stays small (behind 47) (drop 47 (behind 51)) 0 0 edges_unlinked list_before
+pub list_behind : HasList small (replacing_front 51) 0
+list_behind = list_stays small (replacing_front 47) (drop 47 (replacing_front 51)) 0 0 edges_unlinked list_before

@@ -64,7 +64,8 @@ pub fn a_token_may_make_each_step()
         × MakesNext two_lives (view_at 0 51) 51 0 (announce_event (view_at 0 51) 2) }
     ensures withdraw { MayWithdraw (view_at 0 44)
         × MakesNext two_lives (view_at 0 44) 44 1 (withdraw_event (view_at 0 44)) }
-    ensures move_on { MayMoveEpoch (view_at 1 2) 0 × MakesNext two_lives (view_at 1 2) 45 0 (move_event (view_at 1 2) 0) }
+    ensures move_on { MayMoveEpoch (view_at 1 2) 0
+        × MakesNext two_lives (view_at 1 2) 45 0 (move_event (view_at 1 2) 0) }
     ensures freeze_head { MayFreezeHead (view_at 0 42) (first_life 0)
         × MakesNext two_lives (view_at 0 42) 42 (pack 3 0 1)
         (freeze_head_event (view_at 0 42) (first_life 0) (pack 3 0 1)) }
