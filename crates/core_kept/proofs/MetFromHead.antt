@@ -2,7 +2,6 @@
 use Rattle.std.proofs.Common.{◌≡◌, ◌≢◌, ℕ, suc, Bool, true, false, cond, not, ◌||◌, ◌==◌, List, [], ◌∷◌, refl, sym, ap}
 use Rattle.std.proofs.Common.{◌∙◌, subst, arith, eq-eqb, eqb-true, ne_eqb, ◌⊎◌, ⊎_elim, inl, inr}
 use Rattle.std.specs.Prelude.{Contains}
-use Rattle.std.specs.List.{list_any}
 use mathlib.Core.Logic.{dite}
 use native.Mathlib.Decide.{ℕ_discrete}
 use Rattle.graph_kinds.specs.Levels.{stands_in}

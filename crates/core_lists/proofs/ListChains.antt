@@ -2,7 +2,7 @@
 use Rattle.graph_kinds.specs.Levels.{stands_in}
 use Rattle.core_kept.proofs.Contents.{contents}
 use Rattle.std.proofs.Common.{◌≡◌, ◌≢◌, ℕ, ◌<◌, true, false, List, [], refl, sym, ap, ◌∙◌, subst, arith, ⊎_elim, inl}
-use Rattle.std.proofs.Common.{inr, ◌≤◌, ◌+◌}
+use Rattle.std.proofs.Common.{inr, ◌+◌}
 use mathlib.Core.Logic.{dite}
 use native.Mathlib.Decide.{ℕ_discrete}
 use Rattle.packed_link.specs.Link.{nowhere, index_of, mark_of, tag_of, with_mark}
@@ -26,7 +26,7 @@ use Rattle.core_journal.specs.declared.event.Kind.TheVariants.{UnlinkVertex, Lin
 use Rattle.core_journal.specs.declared.event.Kind.TheVariants.{ReplaceEdge, FreezeHead, FreezeEdge, StoreFree, PushFree}
 use Rattle.core_journal.specs.declared.event.Event.{Event}
 use Rattle.core_journal.specs.Machine.{word_at}
-use Rattle.core_journal.specs.State.{Free, Fresh, Linked, Spent, State, put, linked_in, unlinked_from, state_by}
+use Rattle.core_journal.specs.State.{Free, Fresh, Linked, Spent, State, linked_in, unlinked_from, state_by}
 use Rattle.core_journal.specs.State.{state, joined_edge}
 use Rattle.core_journal.specs.State.{Node as Nodes}
 use Rattle.core_kept.specs.Kept.{AllowedAs, IsKept}
