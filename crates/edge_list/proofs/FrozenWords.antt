@@ -9,7 +9,8 @@ use Rattle.core_rule.specs.Views.{Spares, Steps}
 use Rattle.core_rule.specs.declared.view.View.{View}
 use Rattle.core_rule.proofs.OwnByView.{own_list_still, own_spent_still, own_word_still}
 use Rattle.core_stretches.specs.Holdings.{IsUnlinkedVertex}
-use Rattle.core_stretches.specs.Makes.{GivesNone, GivesOther, Makes}
+use Rattle.core_rule.specs.Stretches.{GivesNone, GivesOther}
+use Rattle.core_stretches.specs.Makes.{Makes}
 use Rattle.core_stretches.proofs.HoldingsStay.{makes_keeps}
 use Rattle.edge_list.specs.Freezing.{FrozenValue, IsFreezing, KeepsFrozen}
 

@@ -15,7 +15,8 @@ ghost use Rattle.core_lists.specs.Chains.{KeepsList};
 ghost use Rattle.core_lists.specs.FrozenPaths.{FrozenPath};
 ghost use Rattle.core_rule.specs.declared.view.View.{View};
 ghost use Rattle.core_stretches.specs.Holdings.{IsUnlinkedVertex};
-ghost use Rattle.core_stretches.specs.Makes.{GivesNone, Makes};
+ghost use Rattle.core_rule.specs.Stretches.{GivesNone};
+ghost use Rattle.core_stretches.specs.Makes.{Makes};
 ghost use Rattle.edge_list.specs.Freezing.{KeepsFrozen};
 
 /// A vertex that the token unlinked keeps its list, and the frozen words of the list stay as they are, where the token

@@ -30,13 +30,13 @@ use Rattle.epoch_limbo.specs.Advances.{IsAdvanceLost, IsHeldBy, IsMoved}
 use Rattle.epoch_limbo.specs.Passes.{EpochIs, IsOpened}
 
 -- the epoch is this one at a view's front, and the token made nothing until then
-pub record HasSeen (v m : View) (epoch : ℕ) : Type 0 where
+pub record SawEpoch (v m : View) (epoch : ℕ) : Type 0 where
   pub makes : Makes v [] m
   pub later : IsLater v m
   pub word : EpochIs v epoch m.front
 
 pub has_seen : (v m : View) (at epoch : ℕ) → v.numbered ≡ true → IsSound v → Looked v at epoch m → at ≡ epoch_at v.sizes
-    → HasSeen v m epoch
+    → SawEpoch v m epoch
 has_seen v m at epoch has s l at_is =
     let makes = makes_look v m at epoch has s l in
     record {
@@ -64,7 +64,7 @@ kept_is : (v w : View) (e : Event) → (t : Steps v (Some e) w) → IsKept v.siz
 kept_is v w e t = subst (λ (j : List Event). IsKept v.sizes j) t.front t.kept
 
 -- the epoch that was loaded may be announced
-pub may_announce : (v m : View) (epoch : ℕ) → HasSeen v m epoch → v.number < v.sizes.callers → HasNoPass v
+pub may_announce : (v m : View) (epoch : ℕ) → SawEpoch v m epoch → v.number < v.sizes.callers → HasNoPass v
     → MayAnnounce m epoch
 may_announce v m epoch h there closed = record {
   there = let s = ap (λ (z : Sizes). z.callers) h.later.sizes in let n = h.later.number in omega (arith, s, n, there);
@@ -74,7 +74,7 @@ may_announce v m epoch h there closed = record {
   closed = closed_still v m h.makes closed;
 }
 
-pub is_opened : (v m w : View) (epoch : ℕ) → HasSeen v m epoch → v.numbered ≡ true → IsSound m → Stored m
+pub is_opened : (v m w : View) (epoch : ℕ) → SawEpoch v m epoch → v.numbered ≡ true → IsSound m → Stored m
     (announce_event m epoch) w → IsOpened v w
 is_opened v m w epoch h has s st =
     let e = announce_event m epoch in
@@ -113,7 +113,7 @@ pub record HasChecked (g : TableValue) (v : View) (epoch : ℕ) (loaded : List E
   pub word : EpochIs v epoch loaded
   pub each : (i : ℕ) → i < n → IsChecked v.sizes loaded t.view.front epoch i
 
-pub checks_begin : (g : TableValue) (v : View) (t : TokenValue) (epoch : ℕ) → IsOf g t → HasSeen v t.view epoch
+pub checks_begin : (g : TableValue) (v : View) (t : TokenValue) (epoch : ℕ) → IsOf g t → SawEpoch v t.view epoch
     → HasChecked g v epoch t.view.front 0 t
 checks_begin g v t epoch of h = record {
   of = of;

@@ -21,7 +21,8 @@ use Rattle.core_rule.specs.Retired.{AreApart, IsRetired, IsShown}
 use Rattle.core_rule.specs.declared.view.View.{View}
 use Rattle.core_rule.proofs.RoomInLimbo.{room_for_one, spent_fit}
 use Rattle.core_stretches.specs.Holdings.{IsGivable, IsHeldSpent, IsRetirable}
-use Rattle.core_stretches.specs.Makes.{GivesOther, Makes}
+use Rattle.core_rule.specs.Stretches.{GivesOther}
+use Rattle.core_stretches.specs.Makes.{Makes}
 use Rattle.core_stretches.proofs.HoldingsStay.{makes_retired}
 use Rattle.core_stretches.proofs.MakesAddUp.{makes_look}
 use Rattle.core_stretches.proofs.MakesTell.{makes_later}

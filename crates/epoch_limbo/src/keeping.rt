@@ -10,7 +10,8 @@ ghost use Rattle.core_kept.specs.Kept.{IsKept};
 ghost use Rattle.core_kept.specs.Nodes.{IsFrozenToEnd};
 ghost use Rattle.core_rule.specs.declared.view.View.{View};
 ghost use Rattle.core_stretches.specs.Holdings.{IsHeldSpent};
-ghost use Rattle.core_stretches.specs.Makes.{GivesOther, Makes};
+ghost use Rattle.core_rule.specs.Stretches.{GivesOther};
+ghost use Rattle.core_stretches.specs.Makes.{Makes};
 ghost use Rattle.epoch_limbo.specs.Limbos.{IsLimboOf, IsOut, index_in};
 ghost use Rattle.graph_table.specs.Tokens.{RipeValue};
 

@@ -4,8 +4,8 @@ use Rattle.std.proofs.Common.{subst, eq-eqb, inl, inr, ◌⊎◌, ⊎_elim, arit
 use Rattle.std.proofs.lemmas.List.{map-append}
 use Rattle.std.specs.List.{list_any}
 use Rattle.std.specs.Prelude.{Contains, zero, suc}
+use Rattle.graph_kinds.specs.Levels.{stands_in}
 use Rattle.graph_kinds.specs.History.{Every}
-use Rattle.core_counts.specs.Spending.{is_among}
 use Rattle.graph_table.specs.Tokens.{RipeValue}
 use Rattle.epoch_limbo.specs.Limbos.{IsOut, index_in}
 use Rattle.graph_updates.specs.Burying.{IsIn}
@@ -15,36 +15,36 @@ true_or true c h = refl
 true_or false c h = h
 
 -- a number stands in a list with more behind it, or before it
-pub among_left : (xs ys : List ℕ) (y : ℕ) → is_among xs y ≡ true → is_among (xs ++ ys) y ≡ true
+pub among_left : (xs ys : List ℕ) (y : ℕ) → stands_in xs y ≡ true → stands_in (xs ++ ys) y ≡ true
 among_left [] ys y h = absurd (cc)
 among_left (x ∷ xs) ys y h = by (x == y) (among_left xs ys y) h
   where
-    by : (b : Bool) → (is_among xs y ≡ true → is_among (xs ++ ys) y ≡ true) → (b || is_among xs y) ≡ true →
-        (b || is_among (xs ++ ys) y) ≡ true
+    by : (b : Bool) → (stands_in xs y ≡ true → stands_in (xs ++ ys) y ≡ true) → (b || stands_in xs y) ≡ true →
+        (b || stands_in (xs ++ ys) y) ≡ true
     by true rec h = refl
     by false rec h = rec h
 
-pub among_right : (xs ys : List ℕ) (y : ℕ) → is_among ys y ≡ true → is_among (xs ++ ys) y ≡ true
+pub among_right : (xs ys : List ℕ) (y : ℕ) → stands_in ys y ≡ true → stands_in (xs ++ ys) y ≡ true
 among_right [] ys y h = h
 among_right (x ∷ xs) ys y h = true_or (x == y) (list_any (λ (z : ℕ). z == y) (xs ++ ys)) (among_right xs ys y h)
 
-pub among_first : (ys : List ℕ) (y : ℕ) → is_among (y ∷ ys) y ≡ true
+pub among_first : (ys : List ℕ) (y : ℕ) → stands_in (y ∷ ys) y ≡ true
 among_first ys y = ap (λ (b : Bool). b || list_any (λ (z : ℕ). z == y) ys) (eq-eqb y y refl)
 
 -- what a list contains stands there
-pub contains_among : (ys : List ℕ) (y : ℕ) → Contains ys y → is_among ys y ≡ true
+pub contains_among : (ys : List ℕ) (y : ℕ) → Contains ys y → stands_in ys y ≡ true
 contains_among [] y c = absurd (let low = c.1 in omega (arith, low))
-contains_among (x ∷ xs) y (zero, low, at) = subst (λ (z : ℕ). is_among (z ∷ xs) y ≡ true) (sym at) (among_first xs y)
+contains_among (x ∷ xs) y (zero, low, at) = subst (λ (z : ℕ). stands_in (z ∷ xs) y ≡ true) (sym at) (among_first xs y)
 contains_among (x ∷ xs) y (suc k, low, at) = true_or (x == y) (list_any (λ (z : ℕ). z == y) xs)
     (contains_among xs y (k, omega (arith, low), at))
 
 -- the same of the nodes of a limbo
 pub in_left : (rs ss : List RipeValue) (y : ℕ) → IsIn rs y → IsIn (rs ++ ss) y
-in_left rs ss y h = subst (λ (l : List ℕ). is_among l y ≡ true) (sym (map-append index_in rs ss))
+in_left rs ss y h = subst (λ (l : List ℕ). stands_in l y ≡ true) (sym (map-append index_in rs ss))
     (among_left (map index_in rs) (map index_in ss) y h)
 
 pub in_right : (rs ss : List RipeValue) (y : ℕ) → IsIn ss y → IsIn (rs ++ ss) y
-in_right rs ss y h = subst (λ (l : List ℕ). is_among l y ≡ true) (sym (map-append index_in rs ss))
+in_right rs ss y h = subst (λ (l : List ℕ). stands_in l y ≡ true) (sym (map-append index_in rs ss))
     (among_right (map index_in rs) (map index_in ss) y h)
 
 -- what holds of each of one list and of another holds of each of both

@@ -6,13 +6,14 @@ use Rattle.std.proofs.Common.{◌∙◌, subst, arith, ⊎_elim, ne_eqb, ◌||�
 use Rattle.std.proofs.lemmas.List.{map-append}
 use mathlib.Core.Logic.{dite}
 use native.Mathlib.Decide.{ℕ_discrete}
+use Rattle.graph_kinds.specs.Levels.{stands_in}
 use Rattle.graph_kinds.specs.History.{Every}
 use Rattle.packed_link.specs.Link.{index_of, mark_of, nowhere}
 use Rattle.packed_link.specs.Layout.{Sizes, IsLayout, link_at, second_at, epoch_at}
 use Rattle.packed_link.specs.declared.link.Life.{Life}
 use Rattle.core_chain.specs.Chain.{Position, Head}
 use Rattle.core_chain.specs.Chain.{Node as At}
-use Rattle.core_counts.specs.Spending.{AreFinished, GetsNone, GotOnly, is_among}
+use Rattle.core_counts.specs.Spending.{AreFinished, GetsNone, GotOnly}
 use Rattle.core_counts.proofs.KnownSpentNodes.{got_itself, got_begins, got_done, got_more}
 use Rattle.core_journal.specs.declared.event.Kind.TheVariants.{FreezeHead, FreezeEdge, PushFree}
 use Rattle.core_journal.specs.declared.event.Event.{Event}
@@ -33,7 +34,8 @@ use Rattle.core_rule.specs.Views.{Spares, Steps}
 use Rattle.core_rule.specs.declared.view.View.{View}
 use Rattle.core_rule.proofs.OwnByView.{own_end_still, own_spent_still}
 use Rattle.core_stretches.specs.Holdings.{IsHeldSpent, IsRetirable, IsUnlinkedVertex, HasGotOnly}
-use Rattle.core_stretches.specs.Makes.{GivesNone, GivesOther, Makes, marking}
+use Rattle.core_rule.specs.Stretches.{GivesNone, GivesOther}
+use Rattle.core_stretches.specs.Makes.{Makes, marking}
 use Rattle.core_stretches.proofs.HoldingsStay.{makes_got, makes_keeps, makes_retired}
 use Rattle.core_stretches.proofs.MakesAddUp.{makes_chain}
 use Rattle.core_stretches.proofs.MakesTell.{makes_later}
@@ -124,7 +126,7 @@ edges_on t u own z every h r e = makes_keeps (λ (q : View). IsSpentEdge q r) Gi
 kinds_more : (v : View) (x : Life) (ys zs : List ℕ) (e : Event) → FreezesOf v x ys e → FreezesOf v x (ys ++ zs) e
 kinds_more v x ys zs e f = ⊎_elim
     (λ (h : (e.kind ≡ FreezeHead) × (e.place ≡ second_at v.sizes x.index)). inl h)
-    (λ (h : (e.kind ≡ FreezeEdge) × ((y : ℕ) × (is_among ys y ≡ true) × (e.place ≡ link_at v.sizes y))). inr
+    (λ (h : (e.kind ≡ FreezeEdge) × ((y : ℕ) × (stands_in ys y ≡ true) × (e.place ≡ link_at v.sizes y))). inr
     (h.0, (h.1.0, among_left ys zs h.1.0 h.1.1, h.1.2)))
     f
 
@@ -132,7 +134,7 @@ kind_of : (v : View) (x : Life) (ys : List ℕ) (e : Event) → FreezesOf v x ys
     (e.kind ≡ FreezeEdge)
 kind_of v x ys e f = ⊎_elim
     (λ (h : (e.kind ≡ FreezeHead) × (e.place ≡ second_at v.sizes x.index)). inl h.0)
-    (λ (h : (e.kind ≡ FreezeEdge) × ((y : ℕ) × (is_among ys y ≡ true) × (e.place ≡ link_at v.sizes y))). inr h.0)
+    (λ (h : (e.kind ≡ FreezeEdge) × ((y : ℕ) × (stands_in ys y ≡ true) × (e.place ≡ link_at v.sizes y))). inr h.0)
     f
 
 no_push : (e : Event) → GivesNone e → e.kind ≢ PushFree
@@ -181,8 +183,9 @@ buries_first v m x old f z h c =
         (ap (λ (a : ℕ). (node_in v.sizes v.front a).vertex) is ∙ s.vertex)))
         (λ ne. find y rs (later ne i) e.1 s)
       where
-        later : index_in r ≢ y → is_among (index_in r ∷ map index_in rs) y ≡ true → is_among (map index_in rs) y ≡ true
-        later ne i = subst (λ (b : Bool). (b || is_among (map index_in rs) y) ≡ true) (ne_eqb (index_in r) y ne) i
+        later : index_in r ≢ y → stands_in (index_in r ∷ map index_in rs) y ≡ true → stands_in (map index_in rs) y
+            ≡ true
+        later ne i = subst (λ (b : Bool). (b || stands_in (map index_in rs) y) ≡ true) (ne_eqb (index_in r) y ne) i
 
     retired_list : (y : ℕ) → y ≢ x.index → IsSpentVertex v.sizes v.front v.number y → IsFrozenToEnd v.sizes v.front y
     retired_list y ne s = find y old.nodes (h.all y (record { spent = s.spent; mine = s.mine }) ne) h.limbo_of.each s
@@ -226,14 +229,14 @@ room_in but v t m x old now y sizes kept h room limbo held out =
     omega (arith, few, all, same, room)
 
 -- what is ready for the next edge to be retired: the limbo is of the token, and the edge isn't in it
-pub record IsReady (x y : Life) (now : LimboValue) (m : View) : Type 0 where
+pub record MayRetireNext (x y : Life) (now : LimboValue) (m : View) : Type 0 where
   pub limbo_of : IsLimboOf (Some x.index) m now.nodes
   pub out : IsOut y.index now.nodes
   pub room : length now.nodes < now.room
 
 pub ready_next : (v t m : View) (x y : Life) (old now : LimboValue) (f g : FrozenValue) → IsLayout v.sizes
     → IsLayout t.sizes → IsLayout m.sizes → IsToBury old v x → Buries v x old now t f → IsHandedTo f t m y g
-    → IsReady x y now m
+    → MayRetireNext x y now m
 ready_next v t m x y old now f g z zt zm h b d =
     let edges = b.edges in
     let own = b.own in
@@ -419,19 +422,19 @@ got_all from u but (y ∷ ys) g = got_more u.sizes from u.front u.number y but y
 -- a node that is spent with the token is in the limbo: it was before, or it's one of the edges, or the vertex
 in_limbo : (v u : View) (x : Life) (old : LimboValue) (edges : List RipeValue) (ripe : RipeValue) → IsToBury old v x
     → u.sizes ≡ v.sizes → u.number ≡ v.number → ripe.life ≡ x → (y : ℕ) →
-    (IsSpentWith u.sizes v.front u.number y ⊎ (is_among (map index_in edges) y ≡ true)) ⊎ ⊥ → IsIn
+    (IsSpentWith u.sizes v.front u.number y ⊎ (stands_in (map index_in edges) y ≡ true)) ⊎ ⊥ → IsIn
     (old.nodes ++ (edges ++ ripe ∷ [])) y
 in_limbo v u x old edges ripe h sizes number is y k = ⊎_elim
-    (λ (a : IsSpentWith u.sizes v.front u.number y ⊎ (is_among (map index_in edges) y ≡ true)). ⊎_elim
+    (λ (a : IsSpentWith u.sizes v.front u.number y ⊎ (stands_in (map index_in edges) y ≡ true)). ⊎_elim
     (λ (b : IsSpentWith u.sizes v.front u.number y).
     let b' : IsSpentWith v.sizes v.front v.number y = subst (λ (s : Sizes). IsSpentWith s v.front v.number y) sizes
     (subst (λ (n : ℕ). IsSpentWith u.sizes v.front n y) number b) in
     dite (ℕ_discrete y x.index)
     (λ same. in_right old.nodes (edges ++ ripe ∷ []) y (in_right edges (ripe ∷ []) y
-    (subst (λ (i : ℕ). is_among (index_in ripe ∷ []) i ≡ true) (ap (λ (l : Life). l.index) is ∙ sym same)
+    (subst (λ (i : ℕ). stands_in (index_in ripe ∷ []) i ≡ true) (ap (λ (l : Life). l.index) is ∙ sym same)
     (among_first [] (index_in ripe)))))
     (λ ne. in_left old.nodes (edges ++ ripe ∷ []) y (h.all y b' ne)))
-    (λ (c : is_among (map index_in edges) y ≡ true). in_right old.nodes (edges ++ ripe ∷ []) y
+    (λ (c : stands_in (map index_in edges) y ≡ true). in_right old.nodes (edges ++ ripe ∷ []) y
     (in_left edges (ripe ∷ []) y c))
     a)
     (λ (b : ⊥). absurd b)

@@ -1,5 +1,6 @@
 -- What burying a vertex asks and tells.
 use Rattle.std.specs.Prelude.{◌≡◌, ◌≢◌, ◌⊎◌, ℕ, ◌≤◌, true, false, List, [], ◌∷◌, ◌++◌, map, None}
+use Rattle.graph_kinds.specs.Levels.{stands_in}
 use Rattle.graph_kinds.specs.History.{Every}
 use Rattle.packed_link.specs.Layout.{link_at, second_at}
 use Rattle.packed_link.specs.declared.link.Life.{Life}
@@ -7,7 +8,6 @@ use Rattle.core_journal.specs.declared.event.Kind.TheVariants.{FreezeHead, Freez
 use Rattle.core_journal.specs.declared.event.Event.{Event}
 use Rattle.core_journal.specs.State.{state}
 use Rattle.core_kept.specs.Nodes.{node_in, IsFrozenToEnd, IsSpentWith}
-use Rattle.core_counts.specs.Spending.{is_among}
 use Rattle.core_rule.specs.declared.view.View.{View}
 use Rattle.core_stretches.specs.Holdings.{IsUnlinkedVertex}
 use Rattle.core_stretches.specs.Makes.{Makes}
@@ -16,7 +16,7 @@ use Rattle.epoch_limbo.specs.Limbos.{LimboValue, IsLimboOf, IsOut, index_in}
 
 -- a node is one of a limbo's
 abbrev pub IsIn : List RipeValue → ℕ → Type 0
-IsIn nodes y = is_among (map index_in nodes) y ≡ true
+IsIn nodes y = stands_in (map index_in nodes) y ≡ true
 
 -- the token unlinked the vertex, whose list is open at its head; the limbo is of the token, has every other node that
 -- the token spent, and room for all nodes
@@ -32,7 +32,7 @@ pub record IsToBury (limbo : LimboValue) (v : View) (x : Life) : Type 0 where
 abbrev pub FreezesOf : View → Life → List ℕ → Event → Type 0
 FreezesOf v x edges e =
     ((e.kind ≡ FreezeHead) × (e.place ≡ second_at v.sizes x.index))
-    ⊎ ((e.kind ≡ FreezeEdge) × ((y : ℕ) × (is_among edges y ≡ true) × (e.place ≡ link_at v.sizes y)))
+    ⊎ ((e.kind ≡ FreezeEdge) × ((y : ℕ) × (stands_in edges y ≡ true) × (e.place ≡ link_at v.sizes y)))
 
 -- the vertex's list is frozen to its end; its edges and then the vertex were put behind the others in the limbo, which
 -- is of the token and has every node that the token spent; and the token made no other events than those of freezing

@@ -22,7 +22,7 @@ use Rattle.core_stretches.specs.Holdings.{IsUnlinkedVertex}
 use Rattle.core_stretches.specs.Makes.{Makes}
 use Rattle.core_stretches.proofs.MakesAddUp.{makes_chain, makes_look, makes_won}
 use Rattle.core_stretches.proofs.MakesTell.{makes_goes, makes_later}
-use Rattle.limbo_calls.specs.Steady.{IsFirst, IsSteady}
+use Rattle.limbo_calls.specs.Steady.{LeadsToMet, IsSteady}
 use Rattle.limbo_calls.proofs.FirstIsLinked.{only_unmarked}
 use Rattle.limbo_calls.proofs.StaysSteady.{pass_by, steady_on}
 
@@ -57,7 +57,7 @@ module _ (n : ℕ) (v m : View) (at seen : ℕ) (z : IsLayout v.sizes) (sound : 
   first_there = subst (λ (y : Sizes). index_of seen < y.nodes) same first_met.life.there
 
   pub first_found : (k : View) (at' link index : ℕ) → IsSound m → Looked m at' link k → at' ≡ link_at v.sizes index
-      → index ≡ index_of seen → IsFirst k seen (record { index = index; tag = tag_of link })
+      → index ≡ index_of seen → LeadsToMet k seen (record { index = index; tag = tag_of link })
   first_found k at' link index sound_m l' place index_is =
       let has : m.numbered ≡ true = (makes_later v m [] look).numbered ∙ s.numbered in
       let second = makes_look m k at' link has sound_m l' in
@@ -79,7 +79,7 @@ module _ (n : ℕ) (v m : View) (at seen : ℕ) (z : IsLayout v.sizes) (sound : 
 
 -- it was marked, its link loaded, and then it's unlinked
 module _ (n : ℕ) (v m k : View) (x : Life) (seen place found at dead : ℕ) (z : IsLayout v.sizes) (sound : IsSound v)
-    (s : IsSteady true n v) (f : IsFirst v seen x) (one : v.sizes.buckets ≡ 1)
+    (s : IsSteady true n v) (f : LeadsToMet v seen x) (one : v.sizes.buckets ≡ 1)
     (won : Won v place found (mark_vertex_event v x found) m) (sound_m : IsSound m) (l : Looked m at dead k)
     (at_is : at ≡ link_at v.sizes x.index) (marked : mark_of dead ≡ 1) where
   mark : Makes v (mark_vertex_event v x found ∷ []) m

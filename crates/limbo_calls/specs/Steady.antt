@@ -21,13 +21,13 @@ pub record IsSteady (opened : Bool) (steps : ℕ) (v : View) : Type 0 where
   pub moved : made moves v.number v.front ≤ steps
 
 -- the word that was loaded of the only bucket leads to this vertex, which the pass has met
-pub record IsFirst (v : View) (seen : ℕ) (x : Life) : Type 0 where
+pub record LeadsToMet (v : View) (seen : ℕ) (x : Life) : Type 0 where
   pub met : MetVertex v x
   pub leads : index_of seen ≡ x.index
   pub unmarked : mark_of seen ≡ 0
 
 -- one node is in the limbo, which is the token's
-pub record IsBuried (steps : ℕ) (v : View) (kept : LimboValue) : Type 0 where
+pub record HoldsOneNode (steps : ℕ) (v : View) (kept : LimboValue) : Type 0 where
   pub steady : IsSteady false steps v
   pub limbo : IsLimboOf None v kept.nodes
   pub one : length kept.nodes ≡ 1

@@ -3,7 +3,7 @@
 ghost use Rattle.std.specs.Prelude.{◌≡◌, ◌<◌, [], true, false, IfSome, None};
 ghost use Rattle.core_stretches.specs.Holdings.{IsRetirable, IsUnlinkedVertex};
 ghost use Rattle.graph_table.specs.Tokens.{IsOf};
-ghost use Rattle.limbo_calls.specs.Steady.{IsBuried, IsFirst, IsSteady};
+ghost use Rattle.limbo_calls.specs.Steady.{HoldsOneNode, LeadsToMet, IsSteady};
 
 use crate::adding::{close, open};
 use epoch_limbo::Limbo;
@@ -17,7 +17,7 @@ pub fn find_first(table: &GraphTable, token: &mut Token, _steps: u32) -> Option<
     requires one { table.now.sizes.buckets ≡ 1 }
     ensures table { IsOf table.now token.new }
     ensures steady { IsSteady true _steps token.new.view }
-    ensures first { IfSome result (λ found. IsFirst token.new.view found.0.0 found.1) }
+    ensures first { IfSome result (λ found. LeadsToMet token.new.view found.0.0 found.1) }
 {
     let layout = table.layout();
     let seen = Link(table.load(token, layout.bucket_at(0)));
@@ -41,7 +41,7 @@ pub fn unlink_first(
     requires table { IsOf table.now token.old }
     requires steady { IsSteady true _steps token.old.view }
     requires one { table.now.sizes.buckets ≡ 1 }
-    requires first { IsFirst token.old.view seen.0 life }
+    requires first { LeadsToMet token.old.view seen.0 life }
     ensures table { IsOf table.now token.new }
     ensures steady { IfSome result (λ _. IsSteady true _steps token.new.view) }
     ensures unlinked { IfSome result (λ spent. IsUnlinkedVertex token.new.view spent) }
@@ -92,7 +92,7 @@ pub fn bury_first(table: &GraphTable, token: &mut Token, limbo: &mut Limbo, _ste
     requires empty { limbo.old.nodes ≡ [] }
     requires room { 0 < limbo.old.room }
     ensures table { IsOf table.now token.new }
-    ensures buried { result ≡ true → IsBuried _steps token.new.view limbo.new }
+    ensures buried { result ≡ true → HoldsOneNode _steps token.new.view limbo.new }
 {
     open(table, token, _steps);
     let Some((seen, life)) = find_first(table, token, _steps) else {

@@ -20,13 +20,13 @@ use Rattle.graph_table.specs.Table.{Missed}
 use Rattle.node_arena.specs.Taking.{FreeWordIs}
 
 -- the word of the free list is this one at a view's front, and the token made nothing until then
-pub record HasSeen (v m : View) (seen : ℕ) : Type 0 where
+pub record SawFreeWord (v m : View) (seen : ℕ) : Type 0 where
   pub makes : Makes v [] m
   pub later : IsLater v m
   pub word : FreeWordIs v seen m.front
 
 pub has_seen : (v m : View) (at seen : ℕ) → v.numbered ≡ true → IsSound v → Looked v at seen m → at ≡ free_at v.sizes
-    → HasSeen v m seen
+    → SawFreeWord v m seen
 has_seen v m at seen has s l at_is =
     let makes = makes_look v m at seen has s l in
     record {
@@ -37,7 +37,8 @@ has_seen v m at seen has s l at_is =
     }
 
 -- it leads to a node or to none
-pub leads_somewhere : (v m : View) (seen : ℕ) → IsLayout v.sizes → HasSeen v m seen → (index_of seen < v.sizes.nodes) ⊎
+pub leads_somewhere : (v m : View) (seen : ℕ) → IsLayout v.sizes → SawFreeWord v m seen →
+    (index_of seen < v.sizes.nodes) ⊎
     (index_of seen ≡ nowhere)
 leads_somewhere v m seen z h =
     let kept : IsKept v.sizes m.front = subst (λ (s : Sizes). IsKept s m.front) h.later.sizes h.later.kept in
@@ -46,7 +47,7 @@ leads_somewhere v m seen z h =
     (λ (there : index_of (word_at v.sizes m.front (free_at v.sizes)) < v.sizes.nodes). inl there)
     (first_leads v.sizes z m.front kept))
 
-pub leads_to_node : (v m : View) (seen : ℕ) → IsLayout v.sizes → HasSeen v m seen → index_of seen ≢ nowhere
+pub leads_to_node : (v m : View) (seen : ℕ) → IsLayout v.sizes → SawFreeWord v m seen → index_of seen ≢ nowhere
     → index_of seen < v.sizes.nodes
 leads_to_node v m seen z h some = ⊎_elim
     (λ (there : index_of seen < v.sizes.nodes). there)
@@ -54,7 +55,8 @@ leads_to_node v m seen z h some = ⊎_elim
     (leads_somewhere v m seen z h)
 
 -- the moment of the load
-pub seen_then : (v m w : View) (seen : ℕ) → HasSeen v m seen → IsPrefix m.front w.front → HoldsBetween v.front w.front
+pub seen_then : (v m w : View) (seen : ℕ) → SawFreeWord v m seen → IsPrefix m.front w.front →
+    HoldsBetween v.front w.front
     (FreeWordIs v seen) m.front
 seen_then v m w seen h grows = record { since = h.later.grows; until = grows; holds = h.word }
 
@@ -66,7 +68,7 @@ none_at place m w own every h =
     record { none = λ p e far at by. own_is.each p e far at (by ∙ (makes_later m w own h).number) }
 
 -- where an exchange of the word that was seen lost, another caller changed it
-pub changed_since : (v m u w : View) (seen found : ℕ) (own : List Event) → HasSeen v m seen → Makes m own u → Every
+pub changed_since : (v m u w : View) (seen found : ℕ) (own : List Event) → SawFreeWord v m seen → Makes m own u → Every
     (λ (e : Event). e.place ≢ free_at w.sizes) own → Makes m own w → Missed u (free_at w.sizes) seen found w
     → IsChangedByAnother m.front w.front w.number (free_at w.sizes)
 changed_since v m u w seen found own h first every all missed =

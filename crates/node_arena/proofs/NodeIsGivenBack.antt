@@ -24,7 +24,7 @@ use Rattle.core_stretches.proofs.MakesAddUp.{makes_chain, makes_look, makes_stor
 use Rattle.core_stretches.proofs.MakesTell.{makes_later}
 use Rattle.graph_table.specs.Table.{Missed}
 use Rattle.node_arena.specs.Giving.{IsGiven, IsGiveLost}
-use Rattle.node_arena.proofs.FreeWordSeen.{HasSeen, changed_since, leads_somewhere, seen_then}
+use Rattle.node_arena.proofs.FreeWordSeen.{SawFreeWord, changed_since, leads_somewhere, seen_then}
 use Rattle.node_arena.proofs.RipeNodesStay.{makes_givable}
 
 -- a node that was given back is free
@@ -39,7 +39,7 @@ given_free v w place found seen x won sizes kept =
     (put_same x.index (record (node_in w.sizes won.grown x.index) { mode = Free }) (state w.sizes won.grown).node))
 
 -- the word of the free list was seen, and the node may be given back
-module _ (v m : View) (seen : ℕ) (x : Life) (z : IsLayout v.sizes) (h : HasSeen v m seen) (s : IsSound m)
+module _ (v m : View) (seen : ℕ) (x : Life) (z : IsLayout v.sizes) (h : SawFreeWord v m seen) (s : IsSound m)
     (has : v.numbered ≡ true) (g : IsGivable v x) where
   seen_givable : IsGivable m x
   seen_givable = makes_givable v m [] z x tt h.makes g

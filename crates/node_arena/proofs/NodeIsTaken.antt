@@ -24,16 +24,16 @@ use Rattle.core_stretches.proofs.MakesAddUp.{makes_chain, makes_look, makes_won}
 use Rattle.core_stretches.proofs.MakesTell.{makes_counts, makes_later}
 use Rattle.graph_table.specs.Table.{Missed}
 use Rattle.node_arena.specs.Taking.{FoundEmpty, IsTaken, IsTakeLost}
-use Rattle.node_arena.proofs.FreeWordSeen.{HasSeen, changed_since, seen_then}
+use Rattle.node_arena.proofs.FreeWordSeen.{SawFreeWord, changed_since, seen_then}
 
-pub found_empty : (v m : View) (seen : ℕ) → HasSeen v m seen → index_of seen ≡ nowhere → FoundEmpty v m
+pub found_empty : (v m : View) (seen : ℕ) → SawFreeWord v m seen → index_of seen ≡ nowhere → FoundEmpty v m
 found_empty v m seen h none = record {
   makes = h.makes;
   empty = ap index_of (ap (λ (s : Sizes). word_at s m.front (free_at s)) h.later.sizes ∙ h.word) ∙ none;
 }
 
 -- after the load of the word, that of the link of the node to which it leads
-module _ (v m k : View) (seen at next : ℕ) (z : IsLayout v.sizes) (h : HasSeen v m seen) (s : IsSound m)
+module _ (v m k : View) (seen at next : ℕ) (z : IsLayout v.sizes) (h : SawFreeWord v m seen) (s : IsSound m)
     (has : v.numbered ≡ true) (l : Looked m at next k) (at_is : at ≡ link_at v.sizes (index_of seen))
     (some : index_of seen < v.sizes.nodes) where
   second : Makes m [] k

@@ -8,7 +8,8 @@ use Rattle.core_rule.specs.Views.{Spares, Steps}
 use Rattle.core_rule.specs.declared.view.View.{View}
 use Rattle.core_rule.proofs.OwnByView.{own_end_still, own_ends_still, own_ripe_still, own_spent_still}
 use Rattle.core_stretches.specs.Holdings.{IsGivable}
-use Rattle.core_stretches.specs.Makes.{GivesOther, Makes}
+use Rattle.core_rule.specs.Stretches.{GivesOther}
+use Rattle.core_stretches.specs.Makes.{Makes}
 use Rattle.core_stretches.proofs.HoldingsStay.{makes_keeps}
 
 givable_still : (v w : View) (own : Option Event) → IsLayout v.sizes → Steps v own w → (x : Life) → Spares

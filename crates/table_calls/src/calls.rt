@@ -167,7 +167,8 @@ pub fn store_key(table: &GraphTable, token: &mut Token, fresh: &Fresh, key: u64)
     ensures table { IsOf table.now token.new }
     ensures holding { IsHolding token.new.view fresh.now }
     ensures stored { Stored token.old.view (store_event token.old.view fresh.now 0 key) token.new.view }
-    ensures key { word_at token.new.view.sizes token.new.view.front (key_at token.new.view.sizes fresh.now.index) ≡ key }
+    ensures key { word_at token.new.view.sizes token.new.view.front
+        (key_at token.new.view.sizes fresh.now.index) ≡ key }
     ensures uses { uses_of token.new.view ≡ uses_of token.old.view }
 {
     table.store_private(token, fresh, Field::Key, key);

@@ -22,7 +22,7 @@ use Rattle.core_stretches.specs.Makes.{Makes}
 use Rattle.core_stretches.specs.Moments.{Has, Lacks, HoldsBetween}
 use Rattle.core_stretches.proofs.MakesAddUp.{makes_look}
 use Rattle.core_stretches.proofs.MakesTell.{makes_goes}
-use Rattle.core_stretches.proofs.VertexWords.{IsOfBucket, IsBefore, vertex_walks, vertex_words, link_leads}
+use Rattle.core_stretches.proofs.VertexWords.{IsInBucketOf, IsBefore, vertex_walks, vertex_words, link_leads}
 use Rattle.core_stretches.proofs.WordsLeadOn.{goes_sizes, kept_before, key_then, loads_make, low_at, low_passed}
 use Rattle.core_stretches.proofs.WordsLeadOn.{node_loaded, node_passed, word_here, word_leads, word_looks, word_opened}
 use Rattle.core_stretches.proofs.WordsLeadOn.{word_passes, word_rises, word_until}
@@ -35,8 +35,8 @@ use Rattle.vertex_list.proofs.PositionsGoOn.{position_words}
 
 -- the position of a walk, whose word leads to a node
 pub walk_leads : (v : View) (p : PositionValue) → IsLayout v.sizes → IsPosition false v p → index_of p.word ≢ nowhere
-    → IsOfBucket p.key v (index_of p.word)
-walk_leads v p z h some = word_leads (IsOfBucket p.key) (IsBefore p.key)
+    → IsInBucketOf p.key v (index_of p.word)
+walk_leads v p z h some = word_leads (IsInBucketOf p.key) (IsBefore p.key)
     (vertex_words p.key) p.place p.word p.moment v z (as_word false v p h) some
 
 pub step_leads : (passed : Bool) (v : View) (p : PositionValue) → IsLayout v.sizes → IsPosition passed v p
@@ -122,7 +122,7 @@ dead_step v w p passed found link s dead =
 -- a position whose word leads to none, or to a greater key, is a gap, and the key was missing at its moment
 lacks : (w : View) (p : PositionValue) → IsLayout w.sizes → IsPosition false w p
     → (index_of p.word ≢ nowhere → p.key < key_in w (index_of p.word)) → Lacks p.key p.moment
-lacks w p z h above = word_passes p.key (IsOfBucket p.key) (IsBefore p.key) (Lacks p.key)
+lacks w p z h above = word_passes p.key (IsInBucketOf p.key) (IsBefore p.key) (Lacks p.key)
     (vertex_walks p.key) p.place p.word p.moment w z (as_word false w p h) above
 
 until : (passed : Bool) (w : View) (p : PositionValue) → IsPosition passed w p → IsPrefix p.moment w.front
@@ -221,17 +221,17 @@ pub goes_nearer : (v w : View) (p : PositionValue) (found link place : ℕ) (mom
     → moment ≡ w.front → IsNearer w p (record { key = p.key; place = place; word = link; moment = moment })
 goes_nearer v w p found link place moment z z' kept h some s live below at same =
     let x = index_of p.word in
-    let node : IsLoadedNode (IsOfBucket p.key) x found link w =
+    let node : IsLoadedNode (IsInBucketOf p.key) x found link w =
     record { met = walk_leads w p z' s.position some; key_is = s.node.key_is; link_is = s.node.link_is } in
     let here = as_word false w p s.position in
     let laws = vertex_walks p.key in
     let opened = word_opened (IsBefore p.key) p.place p.word p.moment w here in
-    let next = node_passed p.key (IsOfBucket p.key) (IsBefore p.key)
+    let next = node_passed p.key (IsInBucketOf p.key) (IsBefore p.key)
     (Lacks p.key) laws w x found link kept opened node below live in
-    let low = low_passed p.key (IsOfBucket p.key) (IsBefore p.key) (Lacks p.key) laws w x found link node in
+    let low = low_passed p.key (IsInBucketOf p.key) (IsBefore p.key) (Lacks p.key) laws w x found link node in
     let rises : low_at w.sizes p.moment p.place ≤ found = subst
     (λ (k : ℕ). low_at w.sizes p.moment p.place ≤ k) s.node.key_is
-    (word_rises p.key (IsOfBucket p.key) (IsBefore p.key)
+    (word_rises p.key (IsInBucketOf p.key) (IsBefore p.key)
     (Lacks p.key) laws p.place p.word p.moment w z' here some) in
     let made : IsNearer w p (record { key = p.key; place = link_at w.sizes x; word = link; moment = w.front }) =
     record {

@@ -27,7 +27,8 @@ loop-caller-preserved c =
     let sizes : c.layout-layout.result ≡ v.sizes = c.layout-layout.ensures.sizes ∙ sym c.requires.table.sizes in
     let at : c.announce_at.result ≡ announce_at v.sizes c.loop-caller.caller = c.announce_at.ensures.place ∙ ap
     (λ (s : Sizes). announce_at s c.loop-caller.caller) sizes in
-    let clear : (c.load-word.result ≡ 0) ⊎ (c.load-epoch.result + 1 ≤ c.load-word.result) = elim c.else-word-ne0.branch [
+    let clear : (c.load-word.result ≡ 0) ⊎ (c.load-epoch.result + 1 ≤ c.load-word.result) =
+    elim c.else-word-ne0.branch [
       | else-word-ne0-via-then-word-ne0+else-word-epoch w ↦ inr (omega (arith, w.if-word-epoch.false))
       | else-word-ne0-via-else-word-ne0 w ↦ inl (omega (arith, w.if-word-ne0.false))
     ] in

@@ -1,7 +1,7 @@
 use Rattle.std.proofs.Common.{◌≡◌, ◌≢◌, ℕ, true, ap, sym, ◌∙◌, subst, arith}
 use Rattle.packed_link.specs.Link.{index_of, nowhere}
 use Rattle.packed_link.specs.Layout.{Sizes, bucket_at, link_at}
-use Rattle.limbo_calls.specs.Steady.{IsFirst}
+use Rattle.limbo_calls.specs.Steady.{LeadsToMet}
 use Rattle.limbo_calls.proofs.FirstIsFound.{first_there, first_found}
 use Rattle.limbo_calls.proofs.StaysSteady.{steady_look}
 use Rattle.limbo_calls.proofs.burying.find_first.Goals as goal
@@ -68,7 +68,7 @@ returns-clause-first c =
     let k = c.load-2.new.token.view in
     let place : c.link_at.result ≡ link_at v.sizes c.index-index.result = c.link_at.ensures.place ∙ ap
     (λ (y : Sizes). link_at y c.index-index.result) sizes in
-    subst (λ (t : ℕ). IsFirst k seen (record { index = c.index-index.result; tag = t })) (sym c.tag-tag.ensures.tag)
+    subst (λ (t : ℕ). LeadsToMet k seen (record { index = c.index-index.result; tag = t })) (sym c.tag-tag.ensures.tag)
     (first_found n v m c.bucket_at.result seen z c.requires.table.sound s c.load.ensures.looked at_is one some k
     c.link_at.result c.load-2.result c.index-index.result c.load.ensures.table.sound c.load-2.ensures.looked place
     c.index-index.ensures.index)
