@@ -1,6 +1,7 @@
 -- What a try to give a node back leaves of a caller at work.
 use Rattle.std.proofs.Common.{◌≡◌, ◌≢◌, ◌||◌, ℕ, ◌<◌, ◌≤◌, Bool, true, false, List, [], ◌∷◌, map, None}
 use Rattle.std.proofs.Common.{refl, sym, ap, ◌∙◌, subst, arith, length, ne_eqb}
+use Rattle.graph_kinds.specs.Levels.{stands_in}
 use Rattle.graph_kinds.specs.History.{Every}
 use Rattle.packed_link.specs.Layout.{Sizes, IsLayout, epoch_at}
 use Rattle.core_journal.specs.Machine.{word_at}
@@ -8,7 +9,7 @@ use Rattle.core_journal.proofs.Lists.{prefix_refl, prefix_trans}
 use Rattle.core_rule.specs.Plays.{IsSound, Looked}
 use Rattle.core_stretches.proofs.MakesAddUp.{makes_look}
 use Rattle.packed_link.specs.Link.{index_of}
-use Rattle.core_counts.specs.Spending.{GetsNone, is_among}
+use Rattle.core_counts.specs.Spending.{GetsNone}
 use Rattle.core_journal.specs.declared.event.Kind.TheVariants.{PushFree}
 use Rattle.core_journal.specs.declared.event.Event.{Event}
 use Rattle.core_journal.specs.State.{Free, Spent}
@@ -17,7 +18,8 @@ use Rattle.core_rule.specs.OwnEvents.{store_free_event, push_event}
 use Rattle.core_rule.specs.Retired.{IsRetired, IsShown}
 use Rattle.core_rule.specs.declared.view.View.{View}
 use Rattle.core_stretches.specs.Holdings.{HasNoPass}
-use Rattle.core_stretches.specs.Makes.{GivesOther, Makes}
+use Rattle.core_rule.specs.Stretches.{GivesOther}
+use Rattle.core_stretches.specs.Makes.{Makes}
 use Rattle.core_stretches.proofs.HoldingsStay.{makes_got, makes_retired}
 use Rattle.core_stretches.proofs.MakesTell.{makes_later}
 use Rattle.epoch_limbo.specs.Limbos.{AreRising, IsLimboOf, IsPutBack, IsRipeOut, LimboValue, index_in}
@@ -25,7 +27,7 @@ use Rattle.epoch_limbo.proofs.LimboStays.{limbo_room, limbo_still}
 use Rattle.graph_table.specs.Tokens.{RipeValue}
 use Rattle.graph_updates.specs.Burying.{IsIn}
 use Rattle.node_arena.specs.Giving.{IsGiven, IsGiveLost}
-use Rattle.free_list_rounds.specs.Rounds.{CountsGo, IsAtWork, SparesGo}
+use Rattle.free_list_rounds.specs.Rounds.{CountsGo, HasAllSpent, SparesGo}
 use Rattle.free_list_rounds.proofs.WorkGoesOn.{counts_go, every_as}
 use Rattle.free_list_rounds.proofs.WorkGoesOn.{got_none, old_spent, pass_goes, spares_go}
 use Rattle.free_list_rounds.proofs.WorkGoesOn.{still_room, still_there}
@@ -53,7 +55,7 @@ shown_now v w at found has s l at_is =
 
 -- a node is given back, or isn't
 module _ (old new : LimboValue) (v w : View) (epoch : ℕ) (r : RipeValue) (z : IsLayout v.sizes)
-    (out : IsRipeOut old new v epoch r) (h : IsAtWork old v) where
+    (out : IsRipeOut old new v epoch r) (h : HasAllSpent old v) where
   rest_others : (es : List Event) → Every (λ (e : Event). e.kind ≡ PushFree → e.life.index ≡ index_in r) es
       → Every (λ (q : RipeValue). Every (GivesOther (index_in q)) es) new.nodes
   rest_others es only = every_as (λ (q : RipeValue). index_in q ≢ index_in r)
@@ -74,13 +76,13 @@ module _ (old new : LimboValue) (v w : View) (epoch : ℕ) (r : RipeValue) (z : 
     in_rest : (y : ℕ) → IsIn old.nodes y → y ≢ index_in r → IsIn new.nodes y
     in_rest y is other =
         let all : IsIn (r ∷ new.nodes) y = subst (λ (ns : List RipeValue). IsIn ns y) out.nodes is in
-        subst (λ (b : Bool). (b || is_among (map index_in new.nodes) y) ≡ true)
+        subst (λ (b : Bool). (b || stands_in (map index_in new.nodes) y) ≡ true)
         (ne_eqb (index_in r) y (λ same. other (sym same))) all
 
     rest_room : w.sizes.nodes ≤ new.room
     rest_room = let s = still_room v w own z makes old.room h.room in let q = out.room in omega (arith, s, q)
 
-    given_work : (node_in w.sizes w.front (index_in r)).mode ≡ Free → IsAtWork new w
+    given_work : (node_in w.sizes w.front (index_in r)).mode ≡ Free → HasAllSpent new w
     given_work free = record {
       there = still_there v w own z makes h.there;
       limbo_of = rest_limbo;
@@ -101,7 +103,7 @@ module _ (old new : LimboValue) (v w : View) (epoch : ℕ) (r : RipeValue) (z : 
       (((λ is. absurd (cc)), (λ is. absurd (cc))), tt),
     )
 
-    pub done_work : IsAtWork new w
+    pub done_work : HasAllSpent new w
     done_work = given_work gave g.makes ((λ is. absurd (cc)), ((λ is. refl), tt)) (
       record { unlinks = refl; closes = λ is. absurd (cc); gives = λ b. absurd b },
       (record { unlinks = refl; closes = λ is. absurd (cc); gives = λ b. absurd b }, tt),
@@ -141,7 +143,7 @@ module _ (old new : LimboValue) (v w : View) (epoch : ℕ) (r : RipeValue) (z : 
         (record { unlinks = refl; closes = λ is. absurd (cc); gives = λ b. absurd b }, tt) in
         omega (arith, low, room)
 
-    pub lost_work : (back : LimboValue) → IsPutBack new back r → IsAtWork back w
+    pub lost_work : (back : LimboValue) → IsPutBack new back r → HasAllSpent back w
     lost_work back p = record {
       there = still_there v w stored z g.makes h.there;
       limbo_of = p.limbo None w lost_limbo lost_retired out.out

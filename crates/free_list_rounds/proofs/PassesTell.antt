@@ -14,13 +14,13 @@ use Rattle.free_list_rounds.specs.Rounds.{CountsGo, SparesGo, WorkGoes}
 use Rattle.free_list_rounds.proofs.WorkGoesOn.{counts_go, pass_goes, spares_go, work_goes}
 
 -- what each of these calls leaves
-pub record Leaves (moved : ℕ) (v w : View) : Type 0 where
+pub record LeavesWork (moved : ℕ) (v w : View) : Type 0 where
   pub numbered : v.numbered ≡ true → w.numbered ≡ true
   pub work : WorkGoes v w
   pub spares : SparesGo v w
   pub counts : CountsGo 0 moved v w
 
-pub opened : (v w : View) → IsLayout v.sizes → IsOpened v w → Leaves 0 v w
+pub opened : (v w : View) → IsLayout v.sizes → IsOpened v w → LeavesWork 0 v w
 opened v w z o =
     record {
       numbered = λ has. (makes_later v w (announce_event v o.epoch ∷ []) o.makes).numbered ∙ has;
@@ -35,7 +35,7 @@ opened v w z o =
       counts = counts_go v w (announce_event v o.epoch ∷ []) z o.makes 0 0 (omega arith) (omega arith);
     }
 
-pub closed : (v w : View) → IsLayout v.sizes → Makes v (withdraw_event v ∷ []) w → Leaves 0 v w
+pub closed : (v w : View) → IsLayout v.sizes → Makes v (withdraw_event v ∷ []) w → LeavesWork 0 v w
 closed v w z makes = record {
   numbered = λ has. (makes_later v w (withdraw_event v ∷ []) makes).numbered ∙ has;
   work = work_goes v w (withdraw_event v ∷ []) z makes (
@@ -49,7 +49,7 @@ closed v w z makes = record {
   counts = counts_go v w (withdraw_event v ∷ []) z makes 0 0 (omega arith) (omega arith);
 }
 
-nothing : (v w : View) → IsLayout v.sizes → Makes v [] w → Leaves 1 v w × (HasNoPass v → HasNoPass w)
+nothing : (v w : View) → IsLayout v.sizes → Makes v [] w → LeavesWork 1 v w × (HasNoPass v → HasNoPass w)
 nothing v w z makes = (
   record {
     numbered = λ has. (makes_later v w [] makes).numbered ∙ has;
@@ -61,7 +61,7 @@ nothing v w z makes = (
 )
 
 pub advanced : (r : Advanced) (v w : View) → IsLayout v.sizes → MatchAdvanced r v w
-    → Leaves 1 v w × (HasNoPass v → HasNoPass w)
+    → LeavesWork 1 v w × (HasNoPass v → HasNoPass w)
 advanced Moved v w z m = (
   record {
     numbered = λ has. (makes_later v w (move_event v m.epoch ∷ []) m.makes).numbered ∙ has;

@@ -3,10 +3,10 @@ use Rattle.std.proofs.Common.{◌≡◌, ◌≢◌, ◌||◌, ℕ, ◌<◌, ◌�
 use Rattle.std.proofs.Common.{refl, sym, ap, ◌∙◌, subst, arith, ⊎_elim, ◌⊎◌, inl, inr, ne_eqb}
 use mathlib.Core.Logic.{dite}
 use native.Mathlib.Decide.{ℕ_discrete}
+use Rattle.graph_kinds.specs.Levels.{stands_in}
 use Rattle.graph_kinds.specs.History.{Every}
 use Rattle.packed_link.specs.Layout.{IsLayout, link_at, second_at}
 use Rattle.packed_link.specs.declared.link.Life.{Life}
-use Rattle.core_counts.specs.Spending.{is_among}
 use Rattle.core_journal.specs.declared.event.Kind.TheVariants.{PopFree, Announce, Withdraw, FreezeHead, FreezeEdge}
 use Rattle.core_journal.specs.declared.event.Kind.{Kind}
 use Rattle.core_journal.specs.declared.event.Event.{Event}
@@ -32,7 +32,7 @@ use Rattle.vertex_list.specs.declared.changes.Marked.{Marked}
 use Rattle.vertex_list.specs.declared.changes.Marked.TheVariants.{Won, Was}
 use Rattle.vertex_list.specs.Positions.{IsGap, PositionValue}
 use Rattle.vertex_list.proofs.PositionsGoOn.{gap_makes, place_apart}
-use Rattle.free_list_rounds.specs.Rounds.{CountsGo, IsAtWork, SparesGo, WorkGoes}
+use Rattle.free_list_rounds.specs.Rounds.{CountsGo, HasAllSpent, SparesGo, WorkGoes}
 use Rattle.free_list_rounds.proofs.WorkGoesOn.{IsCalm, IsQuietEvent, Goes, chain, counts_go, every_as, goes, goes_look}
 use Rattle.free_list_rounds.proofs.WorkGoesOn.{got_none, no_kinds, pass_goes, spares_chain, spares_go}
 use Rattle.free_list_rounds.proofs.WorkGoesOn.{spares_look, spent_before, still_room, still_there, work_goes}
@@ -135,51 +135,51 @@ pub looks_spares : (u v w : View) → IsLayout u.sizes → IsLayout v.sizes → 
 looks_spares u v w z y a b = spares_chain u v w (spares_look u v z a) (spares_look v w y b)
 
 -- another number isn't among one
-in_one : (x y : ℕ) → x ≢ y → is_among (x ∷ []) y ≡ true → ⊥
+in_one : (x y : ℕ) → x ≢ y → stands_in (x ∷ []) y ≡ true → ⊥
 in_one x y apart is = absurd (let no : true ≡ false = sym is ∙ ap (λ (b : Bool). b || false) (ne_eqb x y apart) in cc)
 
 -- a vertex is unlinked: the limbo has all but it
 module _ (v w : View) (p q : PositionValue) (x : Life) (z : IsLayout v.sizes) (u : IsUnlinked p v w x q) where
-  abbrev unlinked : List Event
-  unlinked = unlink_vertex_event v p.place p.word u.next x ∷ []
+  abbrev unlink_events : List Event
+  unlink_events = unlink_vertex_event v p.place p.word u.next x ∷ []
 
   spent_then : (y : ℕ) → IsSpentWith w.sizes w.front w.number y → y ≢ x.index → (limbo : LimboValue)
-      → IsAtWork limbo v → IsSpentWith v.sizes v.front v.number y
+      → HasAllSpent limbo v → IsSpentWith v.sizes v.front v.number y
   spent_then y spent other limbo h =
-      let later = makes_later v w unlinked u.makes in
+      let later = makes_later v w unlink_events u.makes in
       let got = makes_got_unlink v w (unlink_vertex_event v p.place p.word u.next x) z v.front None [] refl u.makes
       (got_none limbo v h) in
       spent_before v w y later.sizes later.number
-      (⊎_elim (λ (a : IsSpentWith w.sizes v.front w.number y ⊎ (is_among (x.index ∷ []) y ≡ true)). ⊎_elim
+      (⊎_elim (λ (a : IsSpentWith w.sizes v.front w.number y ⊎ (stands_in (x.index ∷ []) y ≡ true)). ⊎_elim
       (λ (b : IsSpentWith w.sizes v.front w.number y). b)
-      (λ (b : is_among (x.index ∷ []) y ≡ true). absurd (dite (ℕ_discrete x.index y)
+      (λ (b : stands_in (x.index ∷ []) y ≡ true). absurd (dite (ℕ_discrete x.index y)
       (λ same. other (sym same)) (λ apart. in_one x.index y apart b)))
       a)
       (λ (a : ⊥). absurd a) (got.old y spent))
 
-  pub unlink_cuts : (limbo : LimboValue) → IsAtWork limbo v → (w.number < w.sizes.callers) × IsToBury limbo w x
+  pub unlink_cuts : (limbo : LimboValue) → HasAllSpent limbo v → (w.number < w.sizes.callers) × IsToBury limbo w x
   unlink_cuts limbo h = (
-    still_there v w unlinked z u.makes h.there,
+    still_there v w unlink_events z u.makes h.there,
     record {
       vertex = u.spent;
       unclosed = u.unclosed;
-      limbo_of = limbo_still_by_kind None v w unlinked z u.makes limbo.nodes ((λ is. absurd (cc)), tt) h.limbo_of;
+      limbo_of = limbo_still_by_kind None v w unlink_events z u.makes limbo.nodes ((λ is. absurd (cc)), tt) h.limbo_of;
       out = every_as (λ (r : RipeValue). IsRetired None v r.life r.stamp) (λ (r : RipeValue). index_in r ≢ x.index)
           (λ r ret is. u.new (subst (λ (k : ℕ). IsSpentWith v.sizes v.front v.number k) is ret.stamped.spent))
           limbo.nodes h.limbo_of.each;
       all = λ y spent other. h.all y (spent_then y spent other limbo h);
-      room = still_room v w unlinked z u.makes limbo.room h.room;
+      room = still_room v w unlink_events z u.makes limbo.room h.room;
     },
   )
 
   pub unlink_spares : SparesGo v w
-  unlink_spares = spares_go v w unlinked z u.makes (((λ is. absurd (cc)), refl), tt)
+  unlink_spares = spares_go v w unlink_events z u.makes (((λ is. absurd (cc)), refl), tt)
 
   pub unlink_counts : CountsGo 0 0 v w
-  unlink_counts = counts_go v w unlinked z u.makes 0 0 (omega arith) (omega arith)
+  unlink_counts = counts_go v w unlink_events z u.makes 0 0 (omega arith) (omega arith)
 
   pub unlink_pass : HasPass v → HasPass w
-  unlink_pass = pass_goes v w unlinked z u.makes true (((λ is. absurd (cc)), (λ is. absurd (cc))), tt)
+  unlink_pass = pass_goes v w unlink_events z u.makes true (((λ is. absurd (cc)), (λ is. absurd (cc))), tt)
 
 -- what became of marking a vertex
 pub marked_goes : (r : Marked) (x : Life) (v w : View) → IsLayout v.sizes → MatchMarked r x v w → Goes v w
@@ -195,7 +195,7 @@ freeze_quiet : (v : View) (x : Life) (edges : List ℕ) (e : Event) → FreezesO
     ⊎ (e.kind ≡ FreezeEdge)
 freeze_quiet v x edges e f = ⊎_elim
     (λ (h : (e.kind ≡ FreezeHead) × (e.place ≡ second_at v.sizes x.index)). inl h.0)
-    (λ (h : (e.kind ≡ FreezeEdge) × ((y : ℕ) × (is_among edges y ≡ true) × (e.place ≡ link_at v.sizes y))). inr h.0)
+    (λ (h : (e.kind ≡ FreezeEdge) × ((y : ℕ) × (stands_in edges y ≡ true) × (e.place ≡ link_at v.sizes y))). inr h.0)
     f
 
 not_kind : (e : Event) → (e.kind ≡ FreezeHead) ⊎ (e.kind ≡ FreezeEdge) → (k : Kind) → (FreezeHead ≡ k → ⊥)
@@ -232,7 +232,7 @@ module _ (old new : LimboValue) (v w : View) (x : Life) (z : IsLayout v.sizes) (
       (λ (e : Event). (e.kind ≢ PopFree) × (is_of_fresh e.kind ≡ false))
       (λ e f. (not_kind e f PopFree (λ is. absurd (cc)) (λ is. absurd (cc)), fails is_of_fresh e f refl refl)))
 
-  pub buried_work : v.number < v.sizes.callers → v.sizes.nodes ≤ old.room → IsAtWork new w
+  pub buried_work : v.number < v.sizes.callers → v.sizes.nodes ≤ old.room → HasAllSpent new w
   buried_work there room = record {
     there = still_there v w b.own z b.makes there;
     limbo_of = b.limbo_of;

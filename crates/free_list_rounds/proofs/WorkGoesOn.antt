@@ -3,9 +3,10 @@ use Rattle.std.proofs.Common.{◌≡◌, ◌≢◌, ◌||◌, ℕ, ◌+◌, ◌<
 use Rattle.std.proofs.Common.{refl, ap, ap₂, ◌∙◌, subst, arith, ⊎_elim, ◌⊎◌, ne_eqb}
 use mathlib.Core.Logic.{dite}
 use native.Mathlib.Decide.{ℕ_discrete}
+use Rattle.graph_kinds.specs.Levels.{stands_in}
 use Rattle.graph_kinds.specs.History.{Every}
 use Rattle.packed_link.specs.Layout.{Sizes, IsLayout}
-use Rattle.core_counts.specs.Spending.{AreFinished, GetsNone, is_among}
+use Rattle.core_counts.specs.Spending.{AreFinished, GetsNone}
 use Rattle.core_counts.proofs.KnownSpentNodes.{got_itself}
 use Rattle.core_journal.specs.declared.event.Kind.{Kind}
 use Rattle.core_journal.specs.declared.event.Kind.TheVariants.{PopFree, PushFree}
@@ -25,7 +26,7 @@ use Rattle.epoch_limbo.specs.Limbos.{LimboValue, index_in}
 use Rattle.epoch_limbo.proofs.LimboStays.{limbo_still_by_kind}
 use Rattle.graph_table.specs.Tokens.{RipeValue}
 use Rattle.graph_updates.specs.Burying.{IsIn}
-use Rattle.free_list_rounds.specs.Rounds.{CountsGo, IsAtWork, SparesGo, WorkGoes}
+use Rattle.free_list_rounds.specs.Rounds.{CountsGo, HasAllSpent, SparesGo, WorkGoes}
 
 pub every_as : {A : Type 0} (P Q : A → Type 0) → ((x : A) → P x → Q x) → (xs : List A) → Every P xs → Every Q xs
 every_as P Q f [] h = tt
@@ -38,10 +39,10 @@ in_limbo P [] h y is = absurd (cc)
 in_limbo P (r ∷ rs) h y is = dite (ℕ_discrete (index_in r) y)
     (λ same. subst P same h.0)
     (λ apart. in_limbo P rs h.1 y
-    (subst (λ (b : Bool). (b || is_among (map index_in rs) y) ≡ true) (ne_eqb (index_in r) y apart) is))
+    (subst (λ (b : Bool). (b || stands_in (map index_in rs) y) ≡ true) (ne_eqb (index_in r) y apart) is))
 
 -- each vertex that a token at work spent is frozen to its end
-pub finished : (limbo : LimboValue) (v : View) → IsAtWork limbo v → AreFinished v.sizes v.front v.number None
+pub finished : (limbo : LimboValue) (v : View) → HasAllSpent limbo v → AreFinished v.sizes v.front v.number None
 finished limbo v h = record {
   each = λ y _ spent closed. in_limbo
       (λ (k : ℕ). (node_in v.sizes v.front k).vertex ≡ true → IsFrozenToEnd v.sizes v.front k) limbo.nodes
@@ -52,7 +53,7 @@ finished limbo v h = record {
       (h.all y (record { spent = spent.spent; mine = spent.mine })) spent.vertex;
 }
 
-pub got_none : (limbo : LimboValue) (v : View) → IsAtWork limbo v → HasGotOnly v.front v None []
+pub got_none : (limbo : LimboValue) (v : View) → HasAllSpent limbo v → HasGotOnly v.front v None []
 got_none limbo v h = got_itself v.sizes v.front v.number None (finished limbo v h) tt
 
 -- an event by which a limbo keeps all
@@ -71,8 +72,8 @@ pub old_spent : (v w : View) (own : List Event) → Makes v own w → HasGotOnly
 old_spent v w own makes got y h =
     let later = makes_later v w own makes in
     spent_before v w y later.sizes later.number
-    (⊎_elim (λ (a : IsSpentWith w.sizes v.front w.number y ⊎ (is_among [] y ≡ true)). ⊎_elim
-    (λ (b : IsSpentWith w.sizes v.front w.number y). b) (λ (b : is_among [] y ≡ true). absurd (cc)) a)
+    (⊎_elim (λ (a : IsSpentWith w.sizes v.front w.number y ⊎ (stands_in [] y ≡ true)). ⊎_elim
+    (λ (b : IsSpentWith w.sizes v.front w.number y). b) (λ (b : stands_in [] y ≡ true). absurd (cc)) a)
     (λ (a : ⊥). absurd a) (got.old y h))
 
 module _ (v w : View) (own : List Event) (z : IsLayout v.sizes) (makes : Makes v own w) where

@@ -19,7 +19,7 @@ pub record CallerValue : Type 0 where
   pub rounds : ℕ
 
 -- the limbo is of the token, has every node that the token spent, and has room for all nodes
-pub record IsAtWork (limbo : LimboValue) (v : View) : Type 0 where
+pub record HasAllSpent (limbo : LimboValue) (v : View) : Type 0 where
   pub there : v.number < v.sizes.callers
   pub limbo_of : IsLimboOf None v limbo.nodes
   pub all : (y : ℕ) → IsSpentWith v.sizes v.front v.number y → IsIn limbo.nodes y
@@ -40,13 +40,13 @@ pub record HasMade (most_taken most_moved : ℕ) (v : View) : Type 0 where
 pub record IsBetweenRounds (c : CallerValue) : Type 0 where
   pub numbered : c.token.view.numbered ≡ true
   pub closed : HasNoPass c.token.view
-  pub work : IsAtWork c.limbo c.token.view
+  pub work : HasAllSpent c.limbo c.token.view
   pub spare : HoldsSpare c.spare c.token.view
   pub made : HasMade c.rounds c.rounds c.token.view
 
 -- a limbo that has all that the token spent has it still
 abbrev pub WorkGoes : View → View → Type 0
-WorkGoes v w = (limbo : LimboValue) → IsAtWork limbo v → IsAtWork limbo w
+WorkGoes v w = (limbo : LimboValue) → HasAllSpent limbo v → HasAllSpent limbo w
 
 -- the spare node is held still, or none
 abbrev pub SparesGo : View → View → Type 0
@@ -58,6 +58,7 @@ CountsGo takes shifts v w = (t m : ℕ) → HasMade t m v → HasMade (t + takes
 
 -- what a try to unlink came to: a limbo that had all that the token spent has all but the vertex, which is to be
 -- buried, or it has all still
-abbrev pub MatchCut : Option Life → View → View → Type 0
-MatchCut (Some x) v w = (limbo : LimboValue) → IsAtWork limbo v → (w.number < w.sizes.callers) × IsToBury limbo w x
-MatchCut None v w = WorkGoes v w
+abbrev pub MatchToBury : Option Life → View → View → Type 0
+MatchToBury (Some x) v w = (limbo : LimboValue) → HasAllSpent limbo v → (w.number < w.sizes.callers) ×
+    IsToBury limbo w x
+MatchToBury None v w = WorkGoes v w

@@ -5,7 +5,7 @@ ghost use Rattle.core_journal.specs.Event.{pops};
 ghost use Rattle.core_kept.specs.Counts.{made, most_pops};
 ghost use Rattle.core_rule.specs.Stretches.{HasPass};
 ghost use Rattle.core_stretches.specs.Holdings.{IsHeldFresh};
-ghost use Rattle.free_list_rounds.specs.Rounds.{CountsGo, HoldsSpare, IsAtWork, MatchCut, SparesGo, WorkGoes};
+ghost use Rattle.free_list_rounds.specs.Rounds.{CountsGo, HoldsSpare, HasAllSpent, MatchToBury, SparesGo, WorkGoes};
 ghost use Rattle.graph_table.specs.Tokens.{IsOf};
 
 use epoch_limbo::Limbo;
@@ -110,7 +110,7 @@ fn cut(table: &GraphTable, token: &mut Token, key: u32) -> Option<Spent>
     ensures number { token.new.view.numbered ≡ true }
     ensures pass { HasPass token.new.view }
     ensures spare { SparesGo token.old.view token.new.view }
-    ensures cut { MatchCut result token.old.view token.new.view }
+    ensures cut { MatchToBury result token.old.view token.new.view }
     ensures counts { CountsGo 0 0 token.old.view token.new.view }
 {
     let first = start(table, token, key);
@@ -129,12 +129,12 @@ pub fn clear(table: &GraphTable, token: &mut Token, limbo: &mut Limbo, key: u32)
     requires table { IsOf table.now token.old }
     requires number { token.old.view.numbered ≡ true }
     requires pass { HasPass token.old.view }
-    requires work { IsAtWork limbo.old token.old.view }
+    requires work { HasAllSpent limbo.old token.old.view }
     ensures table { IsOf table.now token.new }
     ensures number { token.new.view.numbered ≡ true }
     ensures pass { HasPass token.new.view }
     ensures spare { SparesGo token.old.view token.new.view }
-    ensures work { IsAtWork limbo.new token.new.view }
+    ensures work { HasAllSpent limbo.new token.new.view }
     ensures counts { CountsGo 0 0 token.old.view token.new.view }
 {
     mark_found(table, token, key);

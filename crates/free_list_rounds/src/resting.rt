@@ -5,7 +5,7 @@ ghost use Rattle.core_journal.specs.Event.{moves};
 ghost use Rattle.core_kept.specs.Counts.{made, most_moves};
 ghost use Rattle.core_rule.specs.Retired.{IsShown};
 ghost use Rattle.core_stretches.specs.Holdings.{HasNoPass};
-ghost use Rattle.free_list_rounds.specs.Rounds.{CountsGo, IsAtWork, SparesGo, WorkGoes};
+ghost use Rattle.free_list_rounds.specs.Rounds.{CountsGo, HasAllSpent, SparesGo, WorkGoes};
 ghost use Rattle.graph_table.specs.Tokens.{IsOf};
 
 use epoch_limbo::{Limbo, advance};
@@ -18,12 +18,12 @@ fn give_one(table: &GraphTable, token: &mut Token, limbo: &mut Limbo, epoch: u64
     requires table { IsOf table.now token.old }
     requires number { token.old.view.numbered ≡ true }
     requires closed { HasNoPass token.old.view }
-    requires work { IsAtWork limbo.old token.old.view }
+    requires work { HasAllSpent limbo.old token.old.view }
     requires shown { IsShown token.old.view epoch }
     ensures table { IsOf table.now token.new }
     ensures number { token.new.view.numbered ≡ true }
     ensures closed { HasNoPass token.new.view }
-    ensures work { IsAtWork limbo.new token.new.view }
+    ensures work { HasAllSpent limbo.new token.new.view }
     ensures shown { IsShown token.new.view epoch }
     ensures spare { SparesGo token.old.view token.new.view }
     ensures counts { CountsGo 0 0 token.old.view token.new.view }
@@ -46,11 +46,11 @@ fn give_ripe(table: &GraphTable, token: &mut Token, limbo: &mut Limbo)
     requires table { IsOf table.now token.old }
     requires number { token.old.view.numbered ≡ true }
     requires closed { HasNoPass token.old.view }
-    requires work { IsAtWork limbo.old token.old.view }
+    requires work { HasAllSpent limbo.old token.old.view }
     ensures table { IsOf table.now token.new }
     ensures number { token.new.view.numbered ≡ true }
     ensures closed { HasNoPass token.new.view }
-    ensures work { IsAtWork limbo.new token.new.view }
+    ensures work { HasAllSpent limbo.new token.new.view }
     ensures spare { SparesGo token.old.view token.new.view }
     ensures counts { CountsGo 0 0 token.old.view token.new.view }
 {
@@ -65,12 +65,12 @@ pub fn settle(table: &GraphTable, token: &mut Token, limbo: &mut Limbo)
     requires table { IsOf table.now token.old }
     requires number { token.old.view.numbered ≡ true }
     requires closed { HasNoPass token.old.view }
-    requires work { IsAtWork limbo.old token.old.view }
+    requires work { HasAllSpent limbo.old token.old.view }
     requires limit { made moves token.old.view.number token.old.view.front < most_moves }
     ensures table { IsOf table.now token.new }
     ensures number { token.new.view.numbered ≡ true }
     ensures closed { HasNoPass token.new.view }
-    ensures work { IsAtWork limbo.new token.new.view }
+    ensures work { HasAllSpent limbo.new token.new.view }
     ensures spare { SparesGo token.old.view token.new.view }
     ensures counts { CountsGo 0 1 token.old.view token.new.view }
 {

@@ -54,13 +54,14 @@ edge_above v w source key index at found z has s m l at_is below = record {
 }
 
 -- a filled node that may be linked in front of a list
-pub record IsReady (v : View) (source target : Life) (key place seen weight : ℕ) (x : Life) (t : View) : Type 0 where
-  pub building : IsBuilding t x
-  pub taken : taken_by t ≡ taken_by v
-  pub at : place ≡ second_at t.sizes source.index
-  pub may : MayLinkFilledEdge t place seen x
-  pub event_is : filled_edge_event t place seen x ≡ link_edge_event t place seen key source target weight x
-  pub grows : IsPrefix v.front t.front
+pub record MayGoInFront (v : View) (source target : Life) (key place seen weight : ℕ) (x : Life) (t : View) : Type 0
+  where
+    pub building : IsBuilding t x
+    pub taken : taken_by t ≡ taken_by v
+    pub at : place ≡ second_at t.sizes source.index
+    pub may : MayLinkFilledEdge t place seen x
+    pub event_is : filled_edge_event t place seen x ≡ link_edge_event t place seen key source target weight x
+    pub grows : IsPrefix v.front t.front
 
 may_prepend : (v : View) → IsLayout v.sizes → (place seen key : ℕ) (source target : Life) (weight : ℕ) (x : Life)
     → IsHolding v x → MetVertex v source → MetVertex v target → place ≡ second_at v.sizes source.index
@@ -88,7 +89,7 @@ pub ready : (v m u t : View) (x source target : Life) (key at place seen weight 
     → (index_of seen ≢ nowhere → IsEdgeAbove u source key (index_of seen))
     → Makes u (edge_stores u x key (index_of seen) target weight) t → IsFilledAsEdge t key
     (index_of seen) target weight x
-    → place ≡ second_at t.sizes source.index → IsReady v source target key place seen weight x t
+    → place ≡ second_at t.sizes source.index → MayGoInFront v source target key place seen weight x t
 ready v m u t x source target key at place seen weight z zu zt s b from to l at_is mu live behind mt f place_is =
     let has = b.holding.numbered in
     let all : Makes v [] u = makes_chain v m u [] [] (makes_look v m at key has s l) mu in

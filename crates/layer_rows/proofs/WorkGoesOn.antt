@@ -1,6 +1,7 @@
 -- What a token knows between the calls of a row stays over what it makes.
 use Rattle.std.proofs.Common.{◌≡◌, ◌≢◌, ℕ, ◌+◌, ◌<◌, true, false, List, [], ◌∷◌, ◌++◌, None, Bool, ◌||◌, eqb, eqb-true}
 use Rattle.std.proofs.Common.{refl, sym, ap, ap₂, ◌∙◌, subst, arith, ⊎_elim}
+use Rattle.graph_kinds.specs.Levels.{stands_in}
 use Rattle.graph_kinds.specs.History.{Every}
 use Rattle.packed_link.specs.Layout.{Sizes, IsLayout}
 use Rattle.packed_link.specs.declared.link.Life.{Life}
@@ -10,7 +11,7 @@ use Rattle.core_journal.specs.Event.{pops, unlinks}
 use Rattle.core_journal.specs.Reuse.{pass_in}
 use Rattle.core_journal.specs.State.{Pass}
 use Rattle.core_kept.specs.Nodes.{IsSpentWith}
-use Rattle.core_counts.specs.Spending.{GetsNone, is_among}
+use Rattle.core_counts.specs.Spending.{GetsNone}
 use Rattle.core_kept.specs.Counts.{made}
 use Rattle.core_kept.specs.Kept.{IsKept}
 use Rattle.core_counts.specs.Spending.{acts}
@@ -168,7 +169,7 @@ only_one v w e z h is m y spent =
     (λ (old : IsSpentWith w.sizes v.front w.number y). absurd (h.none y
     (subst (λ (s : Sizes). IsSpentWith s v.front v.number y) l.sizes
     (subst (λ (n : ℕ). IsSpentWith w.sizes v.front n y) l.number old))))
-    (λ (among : is_among (e.life.index ∷ []) y ≡ true). first e.life.index (eqb e.life.index y) refl among) known)
+    (λ (among : stands_in (e.life.index ∷ []) y ≡ true). first e.life.index (eqb e.life.index y) refl among) known)
     (λ part. absurd part) (got.old y spent)
   where
     first : (i : ℕ) (b : Bool) → eqb i y ≡ b → (b || false) ≡ true → y ≡ i

@@ -1,7 +1,7 @@
 use Rattle.std.proofs.Common.{◌≡◌, true, length}
 use Rattle.core_rule.specs.Retired.{IsShown}
 use Rattle.core_stretches.specs.Holdings.{HasNoPass}
-use Rattle.free_list_rounds.specs.Rounds.{CountsGo, IsAtWork, SparesGo}
+use Rattle.free_list_rounds.specs.Rounds.{CountsGo, HasAllSpent, SparesGo}
 use Rattle.graph_table.specs.Tokens.{IsOf}
 use Rattle.free_list_rounds.proofs.resting.give_ripe.Given as goal
 
@@ -10,7 +10,7 @@ invariant-loop l = record {
   of : IsOf l.fn.table l.token;
   number : l.token.view.numbered ≡ true;
   closed : HasNoPass l.token.view;
-  work : IsAtWork l.limbo l.token.view;
+  work : HasAllSpent l.limbo l.token.view;
   shown : IsShown l.token.view l.epoch;
   spare : SparesGo l.fn.token.view l.token.view;
   counts : CountsGo 0 0 l.fn.token.view l.token.view;
