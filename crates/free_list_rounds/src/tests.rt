@@ -10,8 +10,10 @@ use packed_link::{Layout, Link};
 // The index that leads to no node.
 const NOWHERE: u32 = 16_777_215;
 
-// How many nodes each of two callers takes and gives back on its thread, and the rounds after which it stops anyway.
+// How many nodes each of two callers takes and gives back on its thread.
 const GOAL: u32 = 1000;
+
+// The rounds after which it stops anyway.
 const LIMIT: u32 = 1 << 26;
 
 /// The nodes of the free list as bits, from loads while no other caller changes it, and where the last one leads.

@@ -64,12 +64,12 @@ returns-clause-between c =
     c.close_pass.ensures.makes in
     let k = c.caller.inside in
     let counts = counts_chain k.token.view c.close_pass.new.token.view c.settle-gave.new.token.view
-        (counts_same k.token.view c.clear.new.token.view c.close_pass.new.token.view
-        (counts_same k.token.view c.build-spare.new.token.view c.clear.new.token.view
-        (counts_chain k.token.view c.open_pass.new.token.view c.build-spare.new.token.view o.counts
-        c.build-spare.ensures.counts c.build-spare.result.1 0 0 (omega arith) (omega arith) (omega arith))
-        c.clear.ensures.counts) s.counts) c.settle-gave.ensures.counts
-        c.build-spare.result.1 c.settle-gave.result 1 (omega arith) (omega arith) (omega arith) in
+    (counts_same k.token.view c.clear.new.token.view c.close_pass.new.token.view
+    (counts_same k.token.view c.build-spare.new.token.view c.clear.new.token.view
+    (counts_chain k.token.view c.open_pass.new.token.view c.build-spare.new.token.view o.counts
+    c.build-spare.ensures.counts c.build-spare.result.1 0 0 (omega arith) (omega arith) (omega arith))
+    c.clear.ensures.counts) s.counts) c.settle-gave.ensures.counts
+    c.build-spare.result.1 c.settle-gave.result 1 (omega arith) (omega arith) (omega arith) in
     let taken = counts.taken in
     let given = counts.given in
     let moved = counts.moved in

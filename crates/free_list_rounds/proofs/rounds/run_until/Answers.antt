@@ -1,4 +1,4 @@
-use Rattle.std.proofs.Common.{◌≡◌, ap, arith, refl}
+use Rattle.std.proofs.Common.{ap, arith, refl}
 use Rattle.free_list_rounds.specs.Rounds.{CallerValue}
 use Rattle.free_list_rounds.proofs.rounds.run_until.Goals as goal
 
