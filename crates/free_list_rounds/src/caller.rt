@@ -8,8 +8,8 @@ use epoch_limbo::Limbo;
 use graph_table::{Fresh, GraphTable, Token};
 use std::marker::Model;
 
-/// A caller: its token, the nodes that it spent, the node that it took and didn't link yet, how many rounds it has made,
-/// and how many nodes it has taken from the free list and given back.
+/// A caller: its token, the nodes that it spent, the node that it took and didn't link yet, how many rounds it has
+/// made, and how many nodes it has taken from the free list and given back.
 #[derive(Drop)]
 pub struct Caller {
     pub(crate) token: Token,

@@ -65,7 +65,8 @@ fn grow(table: &GraphTable, token: &mut Token, key: u32, fresh: Fresh) -> Option
 }
 
 /// Takes a node, where the caller has no spare one, and links it as a vertex of this key, in an open pass: O(1 + the
-/// vertices before it). The node that isn't linked is handed back as the spare one. Answers also how many nodes it took.
+/// vertices before it). The node that isn't linked is handed back as the spare one. Answers also how many nodes it
+/// took.
 pub fn build(
     table: &GraphTable,
     token: &mut Token,
