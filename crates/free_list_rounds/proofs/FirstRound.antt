@@ -5,7 +5,7 @@ use Rattle.packed_link.specs.Layout.{Sizes}
 use Rattle.core_journal.specs.declared.event.Kind.{Kind}
 use Rattle.core_journal.specs.declared.event.Kind.TheVariants.{DrawNumber}
 use Rattle.core_journal.specs.declared.event.Event.{Event}
-use Rattle.core_journal.specs.Event.{pops, moves}
+use Rattle.core_journal.specs.Event.{pops, pushes, moves}
 use Rattle.core_journal.specs.Reuse.{pass_in}
 use Rattle.core_kept.specs.Counts.{made}
 use Rattle.core_kept.specs.Kept.{IsKept}
@@ -45,17 +45,23 @@ module _ (v w : View) (found : ℕ) (d : Drew v found w) where
 
   pub entered : (t : TokenValue) (limbo : LimboValue) → t.view ≡ stays w → limbo.nodes ≡ []
       → v.drawn < v.sizes.callers → v.sizes.nodes ≤ limbo.room
-      → IsBetweenRounds (record { token = t; limbo = limbo; spare = None; rounds = 0 })
+      → IsBetweenRounds (record { token = t; limbo = limbo; spare = None; rounds = 0; taken = 0; given = 0 })
   entered t limbo kept empty left room =
       let sizes : w.sizes ≡ v.sizes = ap (λ (u : View). u.sizes) d.view in
       let callers = ap (λ (z : Sizes). z.callers) sizes in
       let nodes = ap (λ (z : Sizes). z.nodes) sizes in
       let next = d.next in
       let number = number_is in
-      let taken = none_made pops refl in
       let moved = none_made moves refl in
       subst (λ (u : View). IsBetweenRounds
-      (record { token = record { table = t.table; view = u }; limbo = limbo; spare = None; rounds = 0 })) (sym kept)
+      (record {
+        token = record { table = t.table; view = u };
+        limbo = limbo;
+        spare = None;
+        rounds = 0;
+        taken = 0;
+        given = 0;
+      })) (sym kept)
       (record {
         numbered = ap (λ (u : View). u.numbered) d.view;
         closed = no_pass;
@@ -67,5 +73,11 @@ module _ (v w : View) (found : ℕ) (d : Drew v found w) where
           room = omega (arith, nodes, room);
         };
         spare = record { none = λ y low fresh. none_fresh y fresh };
-        made = record { taken = omega (arith, taken); moved = omega (arith, moved) };
+        made = record {
+          taken = none_made pops refl;
+          given = none_made pushes refl;
+          moved = omega (arith, moved);
+        };
+        few_taken = omega arith;
+        few_given = omega arith;
       })

@@ -27,7 +27,7 @@ use Rattle.epoch_limbo.proofs.LimboStays.{limbo_room, limbo_still}
 use Rattle.graph_table.specs.Tokens.{RipeValue}
 use Rattle.graph_updates.specs.Burying.{IsIn}
 use Rattle.node_arena.specs.Giving.{IsGiven, IsGiveLost}
-use Rattle.free_list_rounds.specs.Rounds.{CountsGo, HasAllSpent, SparesGo}
+use Rattle.free_list_rounds.specs.Rounds.{CountsGo, LimboHoldsAll, SparesGo}
 use Rattle.free_list_rounds.proofs.WorkGoesOn.{counts_go, every_as}
 use Rattle.free_list_rounds.proofs.WorkGoesOn.{got_none, old_spent, pass_goes, spares_go}
 use Rattle.free_list_rounds.proofs.WorkGoesOn.{still_room, still_there}
@@ -55,7 +55,7 @@ shown_now v w at found has s l at_is =
 
 -- a node is given back, or isn't
 module _ (old new : LimboValue) (v w : View) (epoch : ℕ) (r : RipeValue) (z : IsLayout v.sizes)
-    (out : IsRipeOut old new v epoch r) (h : HasAllSpent old v) where
+    (out : IsRipeOut old new v epoch r) (h : LimboHoldsAll old v) where
   rest_others : (es : List Event) → Every (λ (e : Event). e.kind ≡ PushFree → e.life.index ≡ index_in r) es
       → Every (λ (q : RipeValue). Every (GivesOther (index_in q)) es) new.nodes
   rest_others es only = every_as (λ (q : RipeValue). index_in q ≢ index_in r)
@@ -82,7 +82,7 @@ module _ (old new : LimboValue) (v w : View) (epoch : ℕ) (r : RipeValue) (z : 
     rest_room : w.sizes.nodes ≤ new.room
     rest_room = let s = still_room v w own z makes old.room h.room in let q = out.room in omega (arith, s, q)
 
-    given_work : (node_in w.sizes w.front (index_in r)).mode ≡ Free → HasAllSpent new w
+    given_work : (node_in w.sizes w.front (index_in r)).mode ≡ Free → LimboHoldsAll new w
     given_work free = record {
       there = still_there v w own z makes h.there;
       limbo_of = rest_limbo;
@@ -103,7 +103,7 @@ module _ (old new : LimboValue) (v w : View) (epoch : ℕ) (r : RipeValue) (z : 
       (((λ is. absurd (cc)), (λ is. absurd (cc))), tt),
     )
 
-    pub done_work : HasAllSpent new w
+    pub done_work : LimboHoldsAll new w
     done_work = given_work gave g.makes ((λ is. absurd (cc)), ((λ is. refl), tt)) (
       record { unlinks = refl; closes = λ is. absurd (cc); gives = λ b. absurd b },
       (record { unlinks = refl; closes = λ is. absurd (cc); gives = λ b. absurd b }, tt),
@@ -116,8 +116,8 @@ module _ (old new : LimboValue) (v w : View) (epoch : ℕ) (r : RipeValue) (z : 
     pub done_spares : SparesGo v w
     done_spares = spares_go v w gave z g.makes (((λ is. absurd (cc)), refl), (((λ is. absurd (cc)), refl), tt))
 
-    pub done_counts : CountsGo 0 0 v w
-    done_counts = counts_go v w gave z g.makes 0 0 (omega arith) (omega arith)
+    pub done_counts : CountsGo 0 1 0 v w
+    done_counts = counts_go v w gave z g.makes 0 1 0 refl refl (omega arith)
 
   -- another caller changed the list
   module _ (g : IsGiveLost v w r.life) where
@@ -143,7 +143,7 @@ module _ (old new : LimboValue) (v w : View) (epoch : ℕ) (r : RipeValue) (z : 
         (record { unlinks = refl; closes = λ is. absurd (cc); gives = λ b. absurd b }, tt) in
         omega (arith, low, room)
 
-    pub lost_work : (back : LimboValue) → IsPutBack new back r → HasAllSpent back w
+    pub lost_work : (back : LimboValue) → IsPutBack new back r → LimboHoldsAll back w
     lost_work back p = record {
       there = still_there v w stored z g.makes h.there;
       limbo_of = p.limbo None w lost_limbo lost_retired out.out
@@ -161,5 +161,5 @@ module _ (old new : LimboValue) (v w : View) (epoch : ℕ) (r : RipeValue) (z : 
     pub lost_spares : SparesGo v w
     lost_spares = spares_go v w stored z g.makes (((λ is. absurd (cc)), refl), tt)
 
-    pub lost_counts : CountsGo 0 0 v w
-    lost_counts = counts_go v w stored z g.makes 0 0 (omega arith) (omega arith)
+    pub lost_counts : CountsGo 0 0 0 v w
+    lost_counts = counts_go v w stored z g.makes 0 0 0 refl refl (omega arith)

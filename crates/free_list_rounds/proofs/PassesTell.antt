@@ -18,7 +18,7 @@ pub record LeavesWork (moved : ℕ) (v w : View) : Type 0 where
   pub numbered : v.numbered ≡ true → w.numbered ≡ true
   pub work : WorkGoes v w
   pub spares : SparesGo v w
-  pub counts : CountsGo 0 moved v w
+  pub counts : CountsGo 0 0 moved v w
 
 pub opened : (v w : View) → IsLayout v.sizes → IsOpened v w → LeavesWork 0 v w
 opened v w z o =
@@ -32,7 +32,7 @@ opened v w z o =
         tt,
       );
       spares = spares_go v w (announce_event v o.epoch ∷ []) z o.makes (((λ is. absurd (cc)), refl), tt);
-      counts = counts_go v w (announce_event v o.epoch ∷ []) z o.makes 0 0 (omega arith) (omega arith);
+      counts = counts_go v w (announce_event v o.epoch ∷ []) z o.makes 0 0 0 refl refl (omega arith);
     }
 
 pub closed : (v w : View) → IsLayout v.sizes → Makes v (withdraw_event v ∷ []) w → LeavesWork 0 v w
@@ -46,7 +46,7 @@ closed v w z makes = record {
     tt,
   );
   spares = spares_go v w (withdraw_event v ∷ []) z makes (((λ is. absurd (cc)), refl), tt);
-  counts = counts_go v w (withdraw_event v ∷ []) z makes 0 0 (omega arith) (omega arith);
+  counts = counts_go v w (withdraw_event v ∷ []) z makes 0 0 0 refl refl (omega arith);
 }
 
 nothing : (v w : View) → IsLayout v.sizes → Makes v [] w → LeavesWork 1 v w × (HasNoPass v → HasNoPass w)
@@ -55,7 +55,7 @@ nothing v w z makes = (
     numbered = λ has. (makes_later v w [] makes).numbered ∙ has;
     work = work_goes v w [] z makes tt;
     spares = spares_go v w [] z makes tt;
-    counts = counts_go v w [] z makes 0 1 (omega arith) (omega arith);
+    counts = counts_go v w [] z makes 0 0 1 refl refl (omega arith);
   },
   pass_goes v w [] z makes false tt,
 )
@@ -73,7 +73,7 @@ advanced Moved v w z m = (
       tt,
     );
     spares = spares_go v w (move_event v m.epoch ∷ []) z m.makes (((λ is. absurd (cc)), refl), tt);
-    counts = counts_go v w (move_event v m.epoch ∷ []) z m.makes 0 1 (omega arith) (omega arith);
+    counts = counts_go v w (move_event v m.epoch ∷ []) z m.makes 0 0 1 refl refl (omega arith);
   },
   pass_goes v w (move_event v m.epoch ∷ []) z m.makes false (((λ is. absurd (cc)), (λ is. absurd (cc))), tt),
 )

@@ -10,7 +10,7 @@ use Rattle.packed_link.specs.declared.link.Life.{Life}
 use Rattle.core_journal.specs.declared.event.Kind.TheVariants.{PopFree, Announce, Withdraw, FreezeHead, FreezeEdge}
 use Rattle.core_journal.specs.declared.event.Kind.{Kind}
 use Rattle.core_journal.specs.declared.event.Event.{Event}
-use Rattle.core_journal.specs.Event.{pops, moves}
+use Rattle.core_journal.specs.Event.{pops, pushes, moves}
 use Rattle.core_kept.specs.Nodes.{IsSpentWith}
 use Rattle.core_rule.specs.OwnEvents.{pop_event, store_event, link_vertex_event, mark_vertex_event}
 use Rattle.core_rule.specs.OwnEvents.{unlink_vertex_event}
@@ -18,7 +18,7 @@ use Rattle.core_rule.specs.Retired.{IsRetired}
 use Rattle.core_rule.specs.Stretches.{HasPass, is_of_fresh}
 use Rattle.core_rule.specs.declared.view.View.{View}
 use Rattle.core_stretches.specs.Holdings.{IsHeldFresh}
-use Rattle.core_stretches.specs.Makes.{Makes, StaysInPass}
+use Rattle.core_stretches.specs.Makes.{Makes, StaysInPass, of_kinds}
 use Rattle.core_stretches.proofs.HoldingsStay.{makes_got_unlink}
 use Rattle.core_stretches.proofs.MakesTell.{makes_later}
 use Rattle.epoch_limbo.specs.Limbos.{LimboValue, index_in}
@@ -32,7 +32,7 @@ use Rattle.vertex_list.specs.declared.changes.Marked.{Marked}
 use Rattle.vertex_list.specs.declared.changes.Marked.TheVariants.{Won, Was}
 use Rattle.vertex_list.specs.Positions.{IsGap, PositionValue}
 use Rattle.vertex_list.proofs.PositionsGoOn.{gap_makes, place_apart}
-use Rattle.free_list_rounds.specs.Rounds.{CountsGo, HasAllSpent, SparesGo, WorkGoes}
+use Rattle.free_list_rounds.specs.Rounds.{CountsGo, LimboHoldsAll, SparesGo, WorkGoes}
 use Rattle.free_list_rounds.proofs.WorkGoesOn.{IsCalm, IsQuietEvent, Goes, chain, counts_go, every_as, goes, goes_look}
 use Rattle.free_list_rounds.proofs.WorkGoesOn.{got_none, no_kinds, pass_goes, spares_chain, spares_go}
 use Rattle.free_list_rounds.proofs.WorkGoesOn.{spares_look, spent_before, still_room, still_there, work_goes}
@@ -54,8 +54,8 @@ module _ (v w : View) (x : Life) (z : IsLayout v.sizes) (t : IsTaken v w x) wher
   pub took_work : WorkGoes v w
   took_work = work_goes v w (pop_event v t.seen t.next ∷ []) z t.makes (took_calm v t.seen t.next, tt)
 
-  pub took_counts : CountsGo 1 0 v w
-  took_counts = counts_go v w (pop_event v t.seen t.next ∷ []) z t.makes 1 0 (omega arith) (omega arith)
+  pub took_counts : CountsGo 1 0 0 v w
+  took_counts = counts_go v w (pop_event v t.seen t.next ∷ []) z t.makes 1 0 0 refl refl (omega arith)
 
 -- quiet events
 store_quiet : (v : View) (x : Life) (field word : ℕ) → IsQuietEvent (store_event v x field word)
@@ -66,6 +66,7 @@ store_quiet v x field word = record {
   };
   stays = ((λ is. absurd (cc)), (λ is. absurd (cc)));
   pops = refl;
+  pushes = refl;
   moves = refl;
 }
 
@@ -77,6 +78,7 @@ link_quiet v place seen key x = record {
   };
   stays = ((λ is. absurd (cc)), (λ is. absurd (cc)));
   pops = refl;
+  pushes = refl;
   moves = refl;
 }
 
@@ -88,6 +90,7 @@ mark_quiet v x found = record {
   };
   stays = ((λ is. absurd (cc)), (λ is. absurd (cc)));
   pops = refl;
+  pushes = refl;
   moves = refl;
 }
 
@@ -144,7 +147,7 @@ module _ (v w : View) (p q : PositionValue) (x : Life) (z : IsLayout v.sizes) (u
   unlink_events = unlink_vertex_event v p.place p.word u.next x ∷ []
 
   spent_then : (y : ℕ) → IsSpentWith w.sizes w.front w.number y → y ≢ x.index → (limbo : LimboValue)
-      → HasAllSpent limbo v → IsSpentWith v.sizes v.front v.number y
+      → LimboHoldsAll limbo v → IsSpentWith v.sizes v.front v.number y
   spent_then y spent other limbo h =
       let later = makes_later v w unlink_events u.makes in
       let got = makes_got_unlink v w (unlink_vertex_event v p.place p.word u.next x) z v.front None [] refl u.makes
@@ -157,7 +160,7 @@ module _ (v w : View) (p q : PositionValue) (x : Life) (z : IsLayout v.sizes) (u
       a)
       (λ (a : ⊥). absurd a) (got.old y spent))
 
-  pub unlink_cuts : (limbo : LimboValue) → HasAllSpent limbo v → (w.number < w.sizes.callers) × IsToBury limbo w x
+  pub unlink_cuts : (limbo : LimboValue) → LimboHoldsAll limbo v → (w.number < w.sizes.callers) × IsToBury limbo w x
   unlink_cuts limbo h = (
     still_there v w unlink_events z u.makes h.there,
     record {
@@ -175,8 +178,8 @@ module _ (v w : View) (p q : PositionValue) (x : Life) (z : IsLayout v.sizes) (u
   pub unlink_spares : SparesGo v w
   unlink_spares = spares_go v w unlink_events z u.makes (((λ is. absurd (cc)), refl), tt)
 
-  pub unlink_counts : CountsGo 0 0 v w
-  unlink_counts = counts_go v w unlink_events z u.makes 0 0 (omega arith) (omega arith)
+  pub unlink_counts : CountsGo 0 0 0 v w
+  unlink_counts = counts_go v w unlink_events z u.makes 0 0 0 refl refl (omega arith)
 
   pub unlink_pass : HasPass v → HasPass w
   unlink_pass = pass_goes v w unlink_events z u.makes true (((λ is. absurd (cc)), (λ is. absurd (cc))), tt)
@@ -220,19 +223,20 @@ module _ (old new : LimboValue) (v w : View) (x : Life) (z : IsLayout v.sizes) (
         not_kind e f Withdraw (λ is. absurd (cc)) (λ is. absurd (cc)),
       )))
 
-  pub buried_counts : CountsGo 0 0 v w
-  buried_counts = counts_go v w b.own z b.makes 0 0
-      (let k = no_kinds pops b.own (each_freeze (λ (e : Event). pops e.kind ≡ false)
-      (λ e f. fails pops e f refl refl)) in omega (arith, k))
-      (let k = no_kinds moves b.own (each_freeze (λ (e : Event). moves e.kind ≡ false)
-      (λ e f. fails moves e f refl refl)) in omega (arith, k))
+  none_of : (test : Kind → Bool) → test FreezeHead ≡ false → test FreezeEdge ≡ false → of_kinds test b.own ≡ 0
+  none_of test head edge = no_kinds test b.own (each_freeze (λ (e : Event). test e.kind ≡ false)
+      (λ e f. fails test e f head edge))
+
+  pub buried_counts : CountsGo 0 0 0 v w
+  buried_counts = counts_go v w b.own z b.makes 0 0 0 (none_of pops refl refl) (none_of pushes refl refl)
+      (let k = none_of moves refl refl in omega (arith, k))
 
   pub buried_spares : SparesGo v w
   buried_spares = spares_go v w b.own z b.makes (each_freeze
       (λ (e : Event). (e.kind ≢ PopFree) × (is_of_fresh e.kind ≡ false))
       (λ e f. (not_kind e f PopFree (λ is. absurd (cc)) (λ is. absurd (cc)), fails is_of_fresh e f refl refl)))
 
-  pub buried_work : v.number < v.sizes.callers → v.sizes.nodes ≤ old.room → HasAllSpent new w
+  pub buried_work : v.number < v.sizes.callers → v.sizes.nodes ≤ old.room → LimboHoldsAll new w
   buried_work there room = record {
     there = still_there v w b.own z b.makes there;
     limbo_of = b.limbo_of;

@@ -11,7 +11,7 @@ use Rattle.core_counts.proofs.KnownSpentNodes.{got_itself}
 use Rattle.core_journal.specs.declared.event.Kind.{Kind}
 use Rattle.core_journal.specs.declared.event.Kind.TheVariants.{PopFree, PushFree}
 use Rattle.core_journal.specs.declared.event.Event.{Event}
-use Rattle.core_journal.specs.Event.{pops, moves}
+use Rattle.core_journal.specs.Event.{pops, pushes, moves}
 use Rattle.core_journal.specs.Reuse.{pass_in}
 use Rattle.core_journal.specs.State.{Pass}
 use Rattle.core_kept.specs.Nodes.{node_in, IsFrozenToEnd, IsSpentWith}
@@ -26,7 +26,7 @@ use Rattle.epoch_limbo.specs.Limbos.{LimboValue, index_in}
 use Rattle.epoch_limbo.proofs.LimboStays.{limbo_still_by_kind}
 use Rattle.graph_table.specs.Tokens.{RipeValue}
 use Rattle.graph_updates.specs.Burying.{IsIn}
-use Rattle.free_list_rounds.specs.Rounds.{CountsGo, HasAllSpent, SparesGo, WorkGoes}
+use Rattle.free_list_rounds.specs.Rounds.{CountsGo, LimboHoldsAll, SparesGo, WorkGoes}
 
 pub every_as : {A : Type 0} (P Q : A → Type 0) → ((x : A) → P x → Q x) → (xs : List A) → Every P xs → Every Q xs
 every_as P Q f [] h = tt
@@ -42,7 +42,7 @@ in_limbo P (r ∷ rs) h y is = dite (ℕ_discrete (index_in r) y)
     (subst (λ (b : Bool). (b || stands_in (map index_in rs) y) ≡ true) (ne_eqb (index_in r) y apart) is))
 
 -- each vertex that a token at work spent is frozen to its end
-pub finished : (limbo : LimboValue) (v : View) → HasAllSpent limbo v → AreFinished v.sizes v.front v.number None
+pub finished : (limbo : LimboValue) (v : View) → LimboHoldsAll limbo v → AreFinished v.sizes v.front v.number None
 finished limbo v h = record {
   each = λ y _ spent closed. in_limbo
       (λ (k : ℕ). (node_in v.sizes v.front k).vertex ≡ true → IsFrozenToEnd v.sizes v.front k) limbo.nodes
@@ -53,7 +53,7 @@ finished limbo v h = record {
       (h.all y (record { spent = spent.spent; mine = spent.mine })) spent.vertex;
 }
 
-pub got_none : (limbo : LimboValue) (v : View) → HasAllSpent limbo v → HasGotOnly v.front v None []
+pub got_none : (limbo : LimboValue) (v : View) → LimboHoldsAll limbo v → HasGotOnly v.front v None []
 got_none limbo v h = got_itself v.sizes v.front v.number None (finished limbo v h) tt
 
 -- an event by which a limbo keeps all
@@ -110,13 +110,17 @@ module _ (v w : View) (own : List Event) (z : IsLayout v.sizes) (makes : Makes v
       (λ (e : Event). (e.kind ≢ PopFree) × (is_of_fresh e.kind ≡ false)) (λ (e : Event). is_of_fresh e.kind ≡ false)
       (λ e c. c.1) own plain) makes h).0
 
-  pub counts_go : (a b : ℕ) → of_kinds pops own ≤ a → of_kinds moves own ≤ b → CountsGo a b v w
-  counts_go a b less few t m h =
+  pub counts_go : (takes gives shifts : ℕ) → of_kinds pops own ≡ takes → of_kinds pushes own ≡ gives
+      → of_kinds moves own ≤ shifts → CountsGo takes gives shifts v w
+  counts_go takes gives shifts takes_are gives_are few =
       let p = makes_counts pops v w own makes in
-      let q = makes_counts moves v w own makes in
-      let taken = h.taken in
-      let moved = h.moved in
-      record { taken = omega (arith, p, taken, less); moved = omega (arith, q, moved, few) }
+      let q = makes_counts pushes v w own makes in
+      let r = makes_counts moves v w own makes in
+      record {
+        taken = omega (arith, p, takes_are);
+        given = omega (arith, q, gives_are);
+        moved = omega (arith, r, few);
+      }
 
   pub pass_goes : (b : Bool) → Every StaysInPass own → (pass_in v.sizes v.front v.number).is_open ≡ b
       → (pass_in w.sizes w.front w.number).is_open ≡ b
@@ -135,13 +139,14 @@ pub record Goes (v w : View) : Type 0 where
   pub pass : HasPass v → HasPass w
   pub closed : HasNoPass v → HasNoPass w
   pub work : WorkGoes v w
-  pub counts : CountsGo 0 0 v w
+  pub counts : CountsGo 0 0 0 v w
 
 -- an event that leaves all of this
 pub record IsQuietEvent (e : Event) : Type 0 where
   pub calm : IsCalm e
   pub stays : StaysInPass e
   pub pops : pops e.kind ≡ false
+  pub pushes : pushes e.kind ≡ false
   pub moves : moves e.kind ≡ false
 
 pub no_kinds : (test : Kind → Bool) (own : List Event) → Every (λ (e : Event). test e.kind ≡ false) own
@@ -158,9 +163,9 @@ goes v w own z makes q = record {
   pass = pass_goes v w own z makes true (every_as IsQuietEvent StaysInPass (λ e c. c.stays) own q);
   closed = pass_goes v w own z makes false (every_as IsQuietEvent StaysInPass (λ e c. c.stays) own q);
   work = work_goes v w own z makes (every_as IsQuietEvent IsCalm (λ e c. c.calm) own q);
-  counts = counts_go v w own z makes 0 0
-      (let k = no_kinds pops own (every_as IsQuietEvent (λ (e : Event). pops e.kind ≡ false) (λ e c. c.pops) own q) in
-      omega (arith, k))
+  counts = counts_go v w own z makes 0 0 0
+      (no_kinds pops own (every_as IsQuietEvent (λ (e : Event). pops e.kind ≡ false) (λ e c. c.pops) own q))
+      (no_kinds pushes own (every_as IsQuietEvent (λ (e : Event). pushes e.kind ≡ false) (λ e c. c.pushes) own q))
       (let k = no_kinds moves own (every_as IsQuietEvent (λ (e : Event). moves e.kind ≡ false) (λ e c. c.moves) own q)
       in omega (arith, k));
 }
@@ -171,13 +176,25 @@ goes_look v w z makes = goes v w [] z makes tt
 pub spares_look : (v w : View) → IsLayout v.sizes → Makes v [] w → SparesGo v w
 spares_look v w z makes = spares_go v w [] z makes tt
 
-pub counts_chain : (a b a' b' : ℕ) (u v w : View) → CountsGo a b u v → CountsGo a' b' v w → CountsGo (a + a')
-    (b + b') u w
-counts_chain a b a' b' u v w g h t m x =
-    let y = h (t + a) (m + b) (g t m x) in
-    let taken = y.taken in
-    let moved = y.moved in
-    record { taken = omega (arith, taken); moved = omega (arith, moved) }
+pub counts_chain : {a b c x y z : ℕ} (u v w : View) → CountsGo a b c u v → CountsGo x y z v w
+    → (takes gives shifts : ℕ) → a + x ≡ takes → b + y ≡ gives → c + z ≤ shifts → CountsGo takes gives shifts u w
+counts_chain u v w first then takes gives shifts takes_are gives_are few =
+    let p = first.taken in
+    let q = first.given in
+    let r = first.moved in
+    let s = then.taken in
+    let t = then.given in
+    let m = then.moved in
+    record {
+      taken = omega (arith, p, s, takes_are);
+      given = omega (arith, q, t, gives_are);
+      moved = omega (arith, r, m, few);
+    }
+
+-- what moves no count
+pub counts_same : {a b c : ℕ} (u v w : View) → CountsGo a b c u v → CountsGo 0 0 0 v w → CountsGo a b c u w
+counts_same {a} {b} {c} u v w first then =
+    counts_chain u v w first then a b c (omega arith) (omega arith) (omega arith)
 
 pub chain : (u v w : View) → Goes u v → Goes v w → Goes u w
 chain u v w g h = record {
@@ -185,7 +202,7 @@ chain u v w g h = record {
   pass = λ x. h.pass (g.pass x);
   closed = λ x. h.closed (g.closed x);
   work = λ l x. h.work l (g.work l x);
-  counts = counts_chain 0 0 0 0 u v w g.counts h.counts;
+  counts = counts_same u v w g.counts h.counts;
 }
 
 pub spares_chain : (u v w : View) → SparesGo u v → SparesGo v w → SparesGo u w

@@ -1,6 +1,6 @@
 //! A caller between two of its rounds.
 
-ghost use Rattle.std.specs.Prelude.{◌≡◌, ◌+◌, ◌<◌, ◌≤◌, ◌^◌, [], true, false};
+ghost use Rattle.std.specs.Prelude.{◌≡◌, ◌+◌, ◌<◌, ◌≤◌, ◌^◌, ◌↔◌, [], true, false, IsTrue};
 ghost use Rattle.free_list_rounds.specs.Rounds.{IsBetweenRounds};
 ghost use Rattle.graph_table.specs.Tokens.{IsOf};
 
@@ -8,14 +8,16 @@ use epoch_limbo::Limbo;
 use graph_table::{Fresh, GraphTable, Token};
 use std::marker::Model;
 
-/// A caller: its token, the nodes that it spent, the node that it took and didn't link yet, and how many rounds it has
-/// made.
+/// A caller: its token, the nodes that it spent, the node that it took and didn't link yet, how many rounds it has
+/// made, and how many nodes it has taken from the free list and given back.
 #[derive(Drop)]
 pub struct Caller {
     pub(crate) token: Token,
     pub(crate) limbo: Limbo,
     pub(crate) spare: Option<Fresh>,
     pub(crate) rounds: u32,
+    pub(crate) taken: u32,
+    pub(crate) given: u64,
 }
 
 impl Model for Caller {
@@ -23,7 +25,14 @@ impl Model for Caller {
 
     ghost Value = { CallerValue };
 
-    ghost view = { λ c. record { token = c.token; limbo = c.limbo; spare = c.spare; rounds = c.rounds } };
+    ghost view = { λ c. record {
+      token = c.token;
+      limbo = c.limbo;
+      spare = c.spare;
+      rounds = c.rounds;
+      taken = c.taken;
+      given = c.given;
+    } };
 }
 
 impl Caller {
@@ -36,6 +45,27 @@ impl Caller {
             None => 0,
         };
         u64::from(self.limbo.len()) + spare
+    }
+
+    /// How many nodes it has taken from the free list, in O(1).
+    pub fn taken(&self) -> u32
+        ensures taken { result ≡ self.now.taken }
+    {
+        self.taken
+    }
+
+    /// How many nodes it has given back, in O(1).
+    pub fn given(&self) -> u64
+        ensures given { result ≡ self.now.given }
+    {
+        self.given
+    }
+
+    /// Whether it has taken so many nodes, and given back so many.
+    pub(crate) fn has_turned_over(&self, taken: u64, given: u64) -> bool
+        ensures reached { IsTrue result ↔ (taken ≤ self.now.taken) × (given ≤ self.now.given) }
+    {
+        taken <= u64::from(self.taken) && given <= self.given
     }
 }
 
@@ -51,6 +81,8 @@ pub fn enter(table: &GraphTable, token: Token, limbo: Limbo) -> (Caller, Token)
     ensures table { IsOf table.now result.0.token }
     ensures between { IsBetweenRounds result.0 }
     ensures rounds { result.0.rounds ≡ 0 }
+    ensures taken { result.0.taken ≡ 0 }
+    ensures given { result.0.given ≡ 0 }
     ensures other { IsOf table.now result.1 }
     ensures right { result.1.view.draws ≡ true }
     ensures none { result.1.view.numbered ≡ false }
@@ -64,6 +96,8 @@ pub fn enter(table: &GraphTable, token: Token, limbo: Limbo) -> (Caller, Token)
         limbo,
         spare: None,
         rounds: 0,
+        taken: 0,
+        given: 0,
     };
     (caller, other)
 }

@@ -1,11 +1,11 @@
 //! The first part of a round, in an open pass: a vertex is linked, marked, unlinked and buried.
 
-ghost use Rattle.std.specs.Prelude.{◌≡◌, ◌<◌, ◌+◌, true};
+ghost use Rattle.std.specs.Prelude.{◌≡◌, ◌<◌, ◌≤◌, ◌+◌, true};
 ghost use Rattle.core_journal.specs.Event.{pops};
 ghost use Rattle.core_kept.specs.Counts.{made, most_pops};
 ghost use Rattle.core_rule.specs.Stretches.{HasPass};
 ghost use Rattle.core_stretches.specs.Holdings.{IsHeldFresh};
-ghost use Rattle.free_list_rounds.specs.Rounds.{CountsGo, HoldsSpare, HasAllSpent, MatchToBury, SparesGo, WorkGoes};
+ghost use Rattle.free_list_rounds.specs.Rounds.{CountsGo, HoldsSpare, LimboHoldsAll, MatchToBury, SparesGo, WorkGoes};
 ghost use Rattle.graph_table.specs.Tokens.{IsOf};
 
 use epoch_limbo::Limbo;
@@ -15,7 +15,8 @@ use node_arena::{Taken, fill_vertex, take};
 use vertex_list::{Found, Linked, Unlinked, link, mark, start, unlink, walk};
 
 /// The spare node, or else one that this call takes; none where the free list was empty or another caller changed it.
-fn supply(table: &GraphTable, token: &mut Token, spare: Option<Fresh>) -> Option<Fresh>
+/// Answers also how many nodes it took.
+fn supply(table: &GraphTable, token: &mut Token, spare: Option<Fresh>) -> (Option<Fresh>, u32)
     requires table { IsOf table.now token.old }
     requires number { token.old.view.numbered ≡ true }
     requires pass { HasPass token.old.view }
@@ -24,16 +25,17 @@ fn supply(table: &GraphTable, token: &mut Token, spare: Option<Fresh>) -> Option
     ensures table { IsOf table.now token.new }
     ensures number { token.new.view.numbered ≡ true }
     ensures pass { HasPass token.new.view }
-    ensures spare { HoldsSpare result token.new.view }
+    ensures spare { HoldsSpare result.0 token.new.view }
     ensures work { WorkGoes token.old.view token.new.view }
-    ensures counts { CountsGo 1 0 token.old.view token.new.view }
+    ensures counts { CountsGo result.1 0 0 token.old.view token.new.view }
+    ensures few { result.1 ≤ 1 }
 {
     match spare {
-        Some(fresh) => Some(fresh),
+        Some(fresh) => (Some(fresh), 0),
         None => match take(table, token) {
-            Taken::Node(fresh) => Some(fresh),
-            Taken::Empty => None,
-            Taken::Lost => None,
+            Taken::Node(fresh) => (Some(fresh), 1),
+            Taken::Empty => (None, 0),
+            Taken::Lost => (None, 0),
         },
     }
 }
@@ -49,7 +51,7 @@ fn grow(table: &GraphTable, token: &mut Token, key: u32, fresh: Fresh) -> Option
     ensures pass { HasPass token.new.view }
     ensures spare { HoldsSpare result token.new.view }
     ensures work { WorkGoes token.old.view token.new.view }
-    ensures counts { CountsGo 0 0 token.old.view token.new.view }
+    ensures counts { CountsGo 0 0 0 token.old.view token.new.view }
 {
     let first = start(table, token, key);
     let Found::Gone(gap) = walk(table, token, first) else {
@@ -63,8 +65,14 @@ fn grow(table: &GraphTable, token: &mut Token, key: u32, fresh: Fresh) -> Option
 }
 
 /// Takes a node, where the caller has no spare one, and links it as a vertex of this key, in an open pass: O(1 + the
-/// vertices before it). The node that isn't linked is handed back as the spare one.
-pub fn build(table: &GraphTable, token: &mut Token, spare: Option<Fresh>, key: u32) -> Option<Fresh>
+/// vertices before it). The node that isn't linked is handed back as the spare one. Answers also how many nodes it
+/// took.
+pub fn build(
+    table: &GraphTable,
+    token: &mut Token,
+    spare: Option<Fresh>,
+    key: u32,
+) -> (Option<Fresh>, u32)
     requires table { IsOf table.now token.old }
     requires number { token.old.view.numbered ≡ true }
     requires pass { HasPass token.old.view }
@@ -73,13 +81,15 @@ pub fn build(table: &GraphTable, token: &mut Token, spare: Option<Fresh>, key: u
     ensures table { IsOf table.now token.new }
     ensures number { token.new.view.numbered ≡ true }
     ensures pass { HasPass token.new.view }
-    ensures spare { HoldsSpare result token.new.view }
+    ensures spare { HoldsSpare result.0 token.new.view }
     ensures work { WorkGoes token.old.view token.new.view }
-    ensures counts { CountsGo 1 0 token.old.view token.new.view }
+    ensures counts { CountsGo result.1 0 0 token.old.view token.new.view }
+    ensures few { result.1 ≤ 1 }
 {
-    match supply(table, token, spare) {
-        Some(fresh) => grow(table, token, key, fresh),
-        None => None,
+    let (spare, taken) = supply(table, token, spare);
+    match spare {
+        Some(fresh) => (grow(table, token, key, fresh), taken),
+        None => (None, taken),
     }
 }
 
@@ -93,7 +103,7 @@ fn mark_found(table: &GraphTable, token: &mut Token, key: u32)
     ensures pass { HasPass token.new.view }
     ensures spare { SparesGo token.old.view token.new.view }
     ensures work { WorkGoes token.old.view token.new.view }
-    ensures counts { CountsGo 0 0 token.old.view token.new.view }
+    ensures counts { CountsGo 0 0 0 token.old.view token.new.view }
 {
     let first = start(table, token, key);
     if let Found::Here(sighting) = walk(table, token, first) {
@@ -111,7 +121,7 @@ fn cut(table: &GraphTable, token: &mut Token, key: u32) -> Option<Spent>
     ensures pass { HasPass token.new.view }
     ensures spare { SparesGo token.old.view token.new.view }
     ensures cut { MatchToBury result token.old.view token.new.view }
-    ensures counts { CountsGo 0 0 token.old.view token.new.view }
+    ensures counts { CountsGo 0 0 0 token.old.view token.new.view }
 {
     let first = start(table, token, key);
     let Found::Dead(before) = walk(table, token, first) else {
@@ -129,13 +139,13 @@ pub fn clear(table: &GraphTable, token: &mut Token, limbo: &mut Limbo, key: u32)
     requires table { IsOf table.now token.old }
     requires number { token.old.view.numbered ≡ true }
     requires pass { HasPass token.old.view }
-    requires work { HasAllSpent limbo.old token.old.view }
+    requires work { LimboHoldsAll limbo.old token.old.view }
     ensures table { IsOf table.now token.new }
     ensures number { token.new.view.numbered ≡ true }
     ensures pass { HasPass token.new.view }
     ensures spare { SparesGo token.old.view token.new.view }
-    ensures work { HasAllSpent limbo.new token.new.view }
-    ensures counts { CountsGo 0 0 token.old.view token.new.view }
+    ensures work { LimboHoldsAll limbo.new token.new.view }
+    ensures counts { CountsGo 0 0 0 token.old.view token.new.view }
 {
     mark_found(table, token, key);
     if let Some(spent) = cut(table, token, key) {

@@ -14,4 +14,4 @@ mod tests;
 pub use caller::{Caller, enter};
 pub use growing::{build, clear};
 pub use resting::settle;
-pub use rounds::{rest, round, run, run_both};
+pub use rounds::{rest, round, run, run_both, run_until};

@@ -1,7 +1,7 @@
 //! Rounds of a caller, one after another.
 
 ghost use Rattle.std.specs.Prelude.{◌≡◌, ◌<◌, ◌≤◌, ◌+◌, ◌^◌, true, false};
-ghost use Rattle.free_list_rounds.specs.Rounds.{IsBetweenRounds};
+ghost use Rattle.free_list_rounds.specs.Rounds.{HasTurnedOver, IsBetweenRounds};
 ghost use Rattle.graph_table.specs.Tokens.{IsOf};
 
 use crate::caller::Caller;
@@ -27,17 +27,21 @@ pub fn round(table: &GraphTable, caller: Caller, key: u32) -> Caller
         mut limbo,
         spare,
         rounds,
+        taken,
+        given,
     } = caller;
     open_pass(table, &mut token);
-    let spare = build(table, &mut token, spare, key);
+    let (spare, took) = build(table, &mut token, spare, key);
     clear(table, &mut token, &mut limbo, key);
     close_pass(table, &mut token);
-    settle(table, &mut token, &mut limbo);
+    let gave = settle(table, &mut token, &mut limbo);
     Caller {
         token,
         limbo,
         spare,
         rounds: rounds + 1,
+        taken: taken + took,
+        given: given + u64::from(gave),
     }
 }
 
@@ -56,13 +60,17 @@ pub fn rest(table: &GraphTable, caller: Caller) -> Caller
         mut limbo,
         spare,
         rounds,
+        taken,
+        given,
     } = caller;
-    settle(table, &mut token, &mut limbo);
+    let gave = settle(table, &mut token, &mut limbo);
     Caller {
         token,
         limbo,
         spare,
         rounds: rounds + 1,
+        taken,
+        given: given + u64::from(gave),
     }
 }
 
@@ -84,30 +92,54 @@ pub fn run(table: &GraphTable, caller: Caller, key: u32, rounds: u32) -> Caller
     caller
 }
 
-/// So many rounds of each of two callers, on threads of their own, on the keys 0 and 1.
+/// Rounds until the caller has taken so many nodes more, and given back so many more, or has made all the rounds of a
+/// limit.
+pub fn run_until(table: &GraphTable, caller: Caller, key: u32, goal: u32, limit: u32) -> Caller
+    requires table { IsOf table.now caller.token }
+    requires between { IsBetweenRounds caller }
+    requires left { caller.rounds + limit < 2 ^ 32 }
+    ensures table { IsOf table.now result.token }
+    ensures between { IsBetweenRounds result }
+    ensures turned_over { HasTurnedOver goal limit caller result }
+{
+    let taken = u64::from(caller.taken) + u64::from(goal);
+    let given = caller.given + u64::from(goal);
+    let mut caller = caller;
+    for _ in 0..limit {
+        if caller.has_turned_over(taken, given) {
+            return caller;
+        }
+        caller = round(table, caller, key);
+    }
+    caller
+}
+
+/// Rounds of two callers, on threads of their own, on the keys 0 and 1: each goes on until it has taken so many nodes
+/// more, and given back so many more, or has made all the rounds of a limit.
 pub fn run_both<R: Threads + Sync>(
     rt: &R,
     table: &GraphTable,
     one: Caller,
     two: Caller,
-    rounds: u32,
+    goal: u32,
+    limit: u32,
 ) -> (Caller, Caller)
     requires table { IsOf table.now one.token }
     requires between { IsBetweenRounds one }
-    requires left { one.rounds + rounds < 2 ^ 32 }
+    requires left { one.rounds + limit < 2 ^ 32 }
     requires other { IsOf table.now two.token }
     requires other_between { IsBetweenRounds two }
-    requires other_left { two.rounds + rounds < 2 ^ 32 }
+    requires other_left { two.rounds + limit < 2 ^ 32 }
     ensures table { IsOf table.now result.0.token }
     ensures between { IsBetweenRounds result.0 }
-    ensures rounds { result.0.rounds ≡ one.rounds + rounds }
+    ensures turned_over { HasTurnedOver goal limit one result.0 }
     ensures other { IsOf table.now result.1.token }
     ensures other_between { IsBetweenRounds result.1 }
-    ensures other_rounds { result.1.rounds ≡ two.rounds + rounds }
+    ensures other_turned_over { HasTurnedOver goal limit two result.1 }
 {
     thread::join(
         rt,
-        move || run(table, one, 0, rounds),
-        move || run(table, two, 1, rounds),
+        move || run_until(table, one, 0, goal, limit),
+        move || run_until(table, two, 1, goal, limit),
     )
 }

@@ -1,5 +1,5 @@
 use Rattle.free_list_rounds.proofs.StagesTell.{buried_counts, buried_numbered, buried_pass, buried_spares, buried_work}
-use Rattle.free_list_rounds.proofs.WorkGoesOn.{counts_chain, spares_chain}
+use Rattle.free_list_rounds.proofs.WorkGoesOn.{counts_same, spares_chain}
 use Rattle.free_list_rounds.proofs.growing.clear.Goals as goal
 
 pub returns-in-Some-clause-number : goal.returns-in-Some-clause-number
@@ -32,7 +32,11 @@ returns-in-Some-clause-counts c =
     let v = c.args.token.now.view in
     let m = c.mark_found.new.token.view in
     let w = c.cut.new.token.view in
-    counts_chain 0 0 0 0 v w c.bury.new.token.view
-    (counts_chain 0 0 0 0 v m w c.mark_found.ensures.counts c.cut.ensures.counts)
+    counts_same v w c.bury.new.token.view
+    (counts_same v m w c.mark_found.ensures.counts c.cut.ensures.counts)
     (buried_counts c.args.limbo.now c.bury.new.limbo c.cut.new.token.view c.bury.new.token.view c.in-Some.spent
     c.cut.ensures.table.layout c.bury.ensures.buried)
+
+pub returns-in_default-clause-counts : goal.returns-in_default-clause-counts
+returns-in_default-clause-counts c = counts_same c.args.token.now.view c.mark_found.new.token.view
+    c.cut.new.token.view c.mark_found.ensures.counts c.cut.ensures.counts

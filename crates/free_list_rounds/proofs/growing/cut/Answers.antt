@@ -1,6 +1,6 @@
 use Rattle.free_list_rounds.proofs.StagesTell.{looks_go, looks_spares, unlink_counts, unlink_cuts, unlink_pass}
 use Rattle.free_list_rounds.proofs.StagesTell.{unlink_spares}
-use Rattle.free_list_rounds.proofs.WorkGoesOn.{chain, counts_chain, goes_look, spares_chain, spares_look}
+use Rattle.free_list_rounds.proofs.WorkGoesOn.{chain, counts_same, goes_look, spares_chain, spares_look}
 use Rattle.free_list_rounds.proofs.growing.cut.Goals as goal
 
 pub returns-in_default : goal.returns-in_default
@@ -66,7 +66,7 @@ returns-in-Done-clause-counts c =
     c.walk.ensures.makes in
     let s = looks_spares v m w c.requires.table.layout c.start-first.ensures.table.layout c.start-first.ensures.makes
     c.walk.ensures.makes in
-    counts_chain 0 0 0 0 v w c.unlink.new.token.view g.counts
+    counts_same v w c.unlink.new.token.view g.counts
     (unlink_counts w c.unlink.new.token.view _ _ _ c.walk.ensures.table.layout c.in-Done.ensures.unlinked)
 
 pub returns-in-Lost-clause-pass : goal.returns-in-Lost-clause-pass

@@ -1,4 +1,4 @@
-use Rattle.std.proofs.Common.{[], None, subst, arith}
+use Rattle.std.proofs.Common.{[], None, refl, subst, arith}
 use Rattle.free_list_rounds.specs.Rounds.{HoldsSpare}
 use Rattle.free_list_rounds.proofs.StagesTell.{took_work, took_pass, took_counts}
 use Rattle.free_list_rounds.proofs.WorkGoesOn.{counts_go, goes_look, spares_look}
@@ -31,7 +31,7 @@ returns-in-Empty-clause-work c = (goes_look c.args.token.now.view c.take.new.tok
 
 pub returns-in-Empty-clause-counts : goal.returns-in-Empty-clause-counts
 returns-in-Empty-clause-counts c = counts_go c.args.token.now.view c.take.new.token.view [] c.requires.table.layout
-    c.in-Empty.ensures.taken.makes 1 0 (omega arith) (omega arith)
+    c.in-Empty.ensures.taken.makes 0 0 0 refl refl (omega arith)
 
 pub returns-in-Lost-clause-pass : goal.returns-in-Lost-clause-pass
 returns-in-Lost-clause-pass c = (goes_look c.args.token.now.view c.take.new.token.view c.requires.table.layout
@@ -48,4 +48,4 @@ returns-in-Lost-clause-work c = (goes_look c.args.token.now.view c.take.new.toke
 
 pub returns-in-Lost-clause-counts : goal.returns-in-Lost-clause-counts
 returns-in-Lost-clause-counts c = counts_go c.args.token.now.view c.take.new.token.view [] c.requires.table.layout
-    c.in-Lost.ensures.taken.makes 1 0 (omega arith) (omega arith)
+    c.in-Lost.ensures.taken.makes 0 0 0 refl refl (omega arith)

@@ -1,3 +1,4 @@
+use Rattle.std.proofs.Common.{arith}
 use Rattle.free_list_rounds.proofs.PassesTell.{advanced}
 use Rattle.free_list_rounds.proofs.WorkGoesOn.{counts_chain, spares_chain}
 use Rattle.free_list_rounds.proofs.resting.settle.Goals as goal
@@ -20,7 +21,7 @@ returns-clause-spare c = spares_chain c.args.token.now.view c.advance.new.token.
     c.requires.table.layout c.advance.ensures.advanced).0.spares c.give_ripe.ensures.spare
 
 pub returns-clause-counts : goal.returns-clause-counts
-returns-clause-counts c = counts_chain 0 1 0 0 c.args.token.now.view c.advance.new.token.view
-    c.give_ripe.new.token.view
+returns-clause-counts c = counts_chain c.args.token.now.view c.advance.new.token.view c.give_ripe.new.token.view
     (advanced c.advance.result c.args.token.now.view c.advance.new.token.view
     c.requires.table.layout c.advance.ensures.advanced).0.counts c.give_ripe.ensures.counts
+    0 c.give_ripe.result 1 (omega arith) (omega arith) (omega arith)

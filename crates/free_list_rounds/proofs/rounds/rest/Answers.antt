@@ -5,19 +5,30 @@ use Rattle.free_list_rounds.proofs.rounds.rest.Goals as goal
 pub returns-clause-between : goal.returns-clause-between
 returns-clause-between c =
     let between = subst IsBetweenRounds (sym c.caller.view_is) c.requires.between in
-    let end = c.settle.ensures.counts c.caller.inside.rounds c.caller.inside.rounds between.made in
+    let k = c.caller.inside in
+    let end = c.settle-gave.ensures.counts in
     let taken = end.taken in
+    let given = end.given in
     let moved = end.moved in
+    let made = between.made in
+    let few_taken = between.few_taken in
+    let few_given = between.few_given in
     record {
-      numbered = c.settle.ensures.number;
-      closed = c.settle.ensures.closed;
-      work = c.settle.ensures.work;
-      spare = c.settle.ensures.spare c.caller.inside.spare between.spare;
-      made = record { taken = omega (arith, taken); moved = omega (arith, moved) };
+      numbered = c.settle-gave.ensures.number;
+      closed = c.settle-gave.ensures.closed;
+      work = c.settle-gave.ensures.work;
+      spare = c.settle-gave.ensures.spare k.spare between.spare;
+      made = record {
+        taken = omega (arith, taken, made);
+        given = omega (arith, given, made);
+        moved = omega (arith, moved, made);
+      };
+      few_taken = omega (arith, few_taken);
+      few_given = omega (arith, few_given);
     }
 
-pub settle-requires-clause-limit : goal.settle-requires-clause-limit
-settle-requires-clause-limit c =
+pub settle-gave-requires-clause-limit : goal.settle-gave-requires-clause-limit
+settle-gave-requires-clause-limit c =
     let between = subst IsBetweenRounds (sym c.caller.view_is) c.requires.between in
     let k = between.made.moved in
     let left = c.requires.left in
