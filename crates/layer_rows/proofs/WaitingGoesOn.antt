@@ -1,6 +1,6 @@
 -- A token that waits does so over what it makes, and burying begins it.
-use Rattle.std.proofs.Common.{◌≡◌, ◌≢◌, ℕ, ◌+◌, ◌≤◌, Bool, true, false, List, [], ◌∷◌, Option, Some, None, refl, ap, sym}
-use Rattle.std.proofs.Common.{subst, arith, ⊎_elim, map, ◌∙◌}
+use Rattle.std.proofs.Common.{◌≡◌, ◌≢◌, ℕ, ◌+◌, ◌≤◌, Bool, true, false, List, [], ◌∷◌, Option, Some, None, refl}
+use Rattle.std.proofs.Common.{ap, sym, subst, arith, ⊎_elim, map, ◌∙◌}
 use Rattle.graph_kinds.specs.History.{Every}
 use Rattle.graph_kinds.specs.Levels.{stands_in}
 use Rattle.packed_link.specs.Layout.{IsLayout, link_at, second_at}

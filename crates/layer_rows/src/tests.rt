@@ -1,7 +1,8 @@
-//! A vertex with three edges is removed, and its list is frozen edge by edge; and a removed vertex is ripe two epochs on.
+//! A vertex with three edges is removed, and its list is frozen edge by edge; and a vertex that was buried is ripe two
+//! epochs on.
 //!
-//! In the first two the table has one caller, 16 nodes and one bucket. Vertices 1, 2 and 3 are nodes 0, 1 and 2; the edges from vertex 1
-//! to vertices 3, 2 and 1 are nodes 3, 4 and 5, each in front of those before it.
+//! In the first two tests the table has one caller, 16 nodes and one bucket. Vertices 1, 2 and 3 are nodes 0, 1 and 2;
+//! the edges from vertex 1 to vertices 3, 2 and 1 are nodes 3, 4 and 5, each in front of those before it.
 
 ghost use Rattle.std.specs.Prelude.{◌≡◌, true, false};
 ghost use Rattle.graph_table.specs.Tokens.{IsOf};

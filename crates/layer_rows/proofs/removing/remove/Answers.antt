@@ -4,7 +4,8 @@ use Rattle.core_stretches.proofs.MakesTell.{makes_later}
 use Rattle.vertex_calls.proofs.Causes.{came_to_none}
 use Rattle.core_rule.specs.OwnEvents.{mark_vertex_event, unlink_vertex_event}
 use Rattle.layer_rows.proofs.CausesTell.{lost_word, not_dead, was_marked}
-use Rattle.layer_rows.proofs.WorkGoesOn.{gets_none, number_on, only_one, pass_on, there_on, unmoved_on, unspent_on, walked_here}
+use Rattle.layer_rows.proofs.WorkGoesOn.{gets_none, number_on, only_one, pass_on, there_on}
+use Rattle.layer_rows.proofs.WorkGoesOn.{unmoved_on, unspent_on, walked_here}
 use Rattle.layer_rows.proofs.removing.remove.Goals as goal
 
 pub look_for-requires-2-clause-pass : goal.look_for-requires-2-clause-pass
