@@ -37,8 +37,7 @@ pub record IsHeadClosed (x : Life) (v w : View) (f : FrozenValue) : Type 0 where
   pub freezing : IsFreezing w f
 
 -- the next edge was frozen, by an event where the link that was found had no mark, and is spent with the token: the
--- last
--- frozen word leads to it, and its link is the next one. It's an edge of the list
+-- last frozen word leads to it, and its link is the next one. It's an edge of the list
 pub record IsHandedTo (old : FrozenValue) (v w : View) (x : Life) (new : FrozenValue) : Type 0 where
   pub from : new.from ≡ old.from
   pub leads : index_of (word_at w.sizes w.front old.place) ≡ x.index

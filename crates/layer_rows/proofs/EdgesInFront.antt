@@ -32,7 +32,7 @@ use Rattle.table_calls.specs.Resting.{IsHolding}
 use Rattle.table_calls.proofs.Loaded.{loaded, loaded_goes, loaded_sizes}
 use Rattle.layer_rows.specs.Rows.{IsBuilding, IsEdgeAdded, IsNoFront, IsPrepended, taken_by}
 use Rattle.layer_rows.proofs.WorkGoesOn.{building_loads, building_on, gets_none, store_gets, store_stays, taken_loads}
-use Rattle.layer_rows.proofs.WorkGoesOn.{unspent_on}
+use Rattle.layer_rows.proofs.WorkGoesOn.{unmoved_on, unspent_on}
 
 -- the key word of a node that was loaded
 pub key_loaded : (v w : View) (index at found : ℕ) → Looked v at found w → at ≡ key_at v.sizes index
@@ -117,8 +117,8 @@ ready v m u t x source target key at place seen weight z zu zt s b from to l at_
     ) in
     let g3 = makes_goes u t stores stays mt in
     let g = goes_further v u t (makes_goes v u [] tt all) g3 in
-    let building = building_on u t stores x zu stays gets mt b'.holding.numbered b'.holding.there b'.holding.pass
-    b'.unspent f.held in
+    let building = building_on u t stores x zu stays gets refl mt b'.holding.numbered b'.holding.there
+    b'.holding.pass b'.unspent b'.unmoved f.held in
     let g1 : GoesOn v m = loaded_goes v m has s (loaded v at key m l) in
     let key_is : key_in t target.index ≡ key = key_still v t z g target.index to.life.there to.met
     ∙ (sym (key_still v m z g1 target.index to.life.there to.met) ∙ sym (key_loaded v m target.index at key l at_is)) in
@@ -154,6 +154,7 @@ edge_added v u w from to source target life x weight taken source_at target_at s
       work = record {
         resting = p.held;
         unspent = unspent_on p.then w (e ∷ []) p.layout (gets_none e refl (λ y. absurd (cc)), tt) m p.building.unspent;
+        unmoved = unmoved_on p.then w (e ∷ []) refl m p.building.unmoved;
       };
       taken = omega (arith, c, d, taken);
       event = e;

@@ -1,3 +1,5 @@
+mod CausesTell
 mod EdgesInFront
 mod VerticesInGaps
+mod WaitingGoesOn
 mod WorkGoesOn

@@ -18,7 +18,7 @@ use Rattle.vertex_list.specs.Positions.{IsGap, PositionValue}
 use Rattle.vertex_list.proofs.PositionsGoOn.{gap_makes, place_apart}
 use Rattle.layer_rows.specs.Rows.{IsBuilding, IsVertexAdded, taken_by}
 use Rattle.layer_rows.proofs.WorkGoesOn.{building_on, gets_none, number_on, pass_on, store_gets, store_stays, there_on}
-use Rattle.layer_rows.proofs.WorkGoesOn.{unspent_on}
+use Rattle.layer_rows.proofs.WorkGoesOn.{unmoved_on, unspent_on}
 
 pub stores_stay : (v : View) (x : Life) (key next : ℕ) → Every StaysInPass (vertex_stores v x key next)
 stores_stay v x key next = (
@@ -62,8 +62,8 @@ pub building_filled : (v w : View) (x : Life) (key next : ℕ) → IsLayout v.si
     → IsHeldFresh w x → IsBuilding v x → IsBuilding w x × (taken_by w ≡ taken_by v)
 building_filled v w x key next z m f b =
     let c = makes_counts pops v w (vertex_stores v x key next) m in (
-      building_on v w (vertex_stores v x key next) x z (stores_stay v x key next) (stores_get v x key next) m
-          b.holding.numbered b.holding.there b.holding.pass b.unspent f,
+      building_on v w (vertex_stores v x key next) x z (stores_stay v x key next) (stores_get v x key next) refl m
+          b.holding.numbered b.holding.there b.holding.pass b.unspent b.unmoved f,
       c ∙ omega arith,
     )
 
@@ -82,6 +82,7 @@ vertex_added v u w p x z b taken l =
           bare = l.none;
         };
         unspent = unspent_on u w (e ∷ []) z (gets_none e refl (λ y. absurd (cc)), tt) l.makes b.unspent;
+        unmoved = unmoved_on u w (e ∷ []) refl l.makes b.unmoved;
       };
       taken = omega (arith, c, taken);
       event = e;

@@ -7,7 +7,7 @@ use Rattle.packed_link.specs.Layout.{Sizes, IsLayout}
 use Rattle.packed_link.specs.declared.link.Life.{Life}
 use Rattle.core_journal.specs.declared.event.Kind.TheVariants.{FreezeHead, PopFree}
 use Rattle.core_journal.specs.declared.event.Event.{Event}
-use Rattle.core_journal.specs.Event.{pops, unlinks}
+use Rattle.core_journal.specs.Event.{pops, moves, unlinks}
 use Rattle.core_journal.specs.Reuse.{pass_in}
 use Rattle.core_journal.specs.State.{Pass}
 use Rattle.core_kept.specs.Nodes.{IsSpentWith}
@@ -17,13 +17,12 @@ use Rattle.core_kept.specs.Kept.{IsKept}
 use Rattle.core_counts.specs.Spending.{acts}
 use Rattle.core_counts.proofs.IdleCallers.{has_nothing}
 use Rattle.core_lists.proofs.NewNumbers.{new_made}
-use Rattle.core_rule.specs.OwnEvents.{announce_event, pop_event, store_event}
+use Rattle.core_rule.specs.OwnEvents.{pop_event, store_event}
 use Rattle.core_rule.specs.Plays.{Drew, draw_event}
-use Rattle.epoch_limbo.specs.Passes.{IsOpened}
 use Rattle.core_rule.specs.Stretches.{HasPass}
 use Rattle.core_rule.specs.declared.view.View.{View}
 use Rattle.core_stretches.specs.Holdings.{HasGotOnly, IsHeldFresh}
-use Rattle.core_stretches.specs.Makes.{Makes, StaysInPass}
+use Rattle.core_stretches.specs.Makes.{Makes, StaysInPass, of_kinds}
 use Rattle.core_stretches.proofs.HoldingsStay.{makes_fresh_by_kind, makes_got, makes_got_unlink, makes_none}
 use Rattle.core_stretches.proofs.MakesTell.{makes_counts, makes_goes, makes_later}
 use Rattle.core_stretches.specs.Moments.{Has, HoldsBetween}
@@ -32,7 +31,8 @@ use Rattle.core_journal.proofs.Lists.{prefix_trans}
 use Rattle.vertex_list.specs.declared.walks.Found.TheVariants.{Here}
 use Rattle.vertex_list.specs.declared.walks.Sighting.{Sighting}
 use Rattle.table_calls.specs.Resting.{IsResting}
-use Rattle.layer_rows.specs.Rows.{HasSpentNone, IsAtWork, IsBuilding, IsWalked, taken_by}
+use Rattle.layer_rows.specs.Rows.{HasSpentNone, IsAtWork, IsBuilding, IsIdle, moved_by, taken_by}
+use Rattle.vertex_calls.specs.Causes.{IsWalked}
 
 pub number_on : (v w : View) (own : List Event) → Makes v own w → v.numbered ≡ true → w.numbered ≡ true
 number_on v w own m has = (makes_later v w own m).numbered ∙ has
@@ -75,24 +75,16 @@ unspent_on v w own z every m h =
           (λ part. absurd part) (got.old y spent);
     }
 
--- the token rests on behind loads and events that take no node
-pub work_on : (v w : View) (own : List Event) → IsLayout v.sizes → Every StaysInPass own
-    → Every (λ (e : Event). e.kind ≢ PopFree) own → Every (GetsNone None) own → Makes v own w → IsAtWork v → IsAtWork w
-work_on v w own z stays takes gets m h = record {
-  resting = record {
-    numbered = number_on v w own m h.resting.numbered;
-    there = there_on v w own m h.resting.there;
-    pass = pass_on v w own stays m h.resting.pass;
-    bare = makes_none v w own z takes m h.resting.bare;
-  };
-  unspent = unspent_on v w own z gets m h.unspent;
-}
+-- a token that never moved the epoch on
+pub unmoved_on : (v w : View) (own : List Event) → of_kinds moves own ≡ 0 → Makes v own w → moved_by v ≡ 0
+    → moved_by w ≡ 0
+unmoved_on v w own none m is = let c = makes_counts moves v w own m in omega (arith, c, none, is)
 
 -- a node that is held now is the token's own
 pub building_on : (v w : View) (own : List Event) (x : Life) → IsLayout v.sizes → Every StaysInPass own
-    → Every (GetsNone None) own → Makes v own w → v.numbered ≡ true → v.number < v.sizes.callers → HasPass v
-    → HasSpentNone v → IsHeldFresh w x → IsBuilding w x
-building_on v w own x z stays gets m has there pass unspent held = record {
+    → Every (GetsNone None) own → of_kinds moves own ≡ 0 → Makes v own w → v.numbered ≡ true
+    → v.number < v.sizes.callers → HasPass v → HasSpentNone v → moved_by v ≡ 0 → IsHeldFresh w x → IsBuilding w x
+building_on v w own x z stays gets none m has there pass unspent unmoved held = record {
   holding = record {
     numbered = number_on v w own m has;
     there = there_on v w own m there;
@@ -100,6 +92,7 @@ building_on v w own x z stays gets m has there pass unspent held = record {
     held = record { life = held.life; fresh = held.fresh };
   };
   unspent = unspent_on v w own z gets m unspent;
+  unmoved = unmoved_on v w own none m unmoved;
 }
 
 -- taking a node begins building
@@ -108,8 +101,8 @@ pub building_begins : (v w : View) (seen next : ℕ) (x : Life) → IsLayout v.s
     → IsHeldFresh w x → IsAtWork v → IsBuilding w x × (taken_by w ≡ taken_by v + 1)
 building_begins v w seen next x z m held h = (
   building_on v w (pop_event v seen next ∷ []) x z (((λ y. absurd (cc)), (λ y. absurd (cc))), tt)
-      (gets_none (pop_event v seen next) refl (λ y. absurd (cc)), tt) m h.resting.numbered h.resting.there
-      h.resting.pass h.unspent held,
+      (gets_none (pop_event v seen next) refl (λ y. absurd (cc)), tt) refl m h.resting.numbered h.resting.there
+      h.resting.pass h.unspent h.unmoved held,
   makes_counts pops v w (pop_event v seen next ∷ []) m,
 )
 
@@ -117,7 +110,7 @@ building_begins v w seen next x z m held h = (
 pub building_loads : (v w : View) (x : Life) → IsLayout v.sizes → Makes v [] w → IsBuilding v x → IsBuilding w x
 building_loads v w x z m b =
     let f : IsHeldFresh v x = record { life = b.holding.held.life; fresh = b.holding.held.fresh } in
-    building_on v w [] x z tt tt m b.holding.numbered b.holding.there b.holding.pass b.unspent
+    building_on v w [] x z tt tt refl m b.holding.numbered b.holding.there b.holding.pass b.unspent b.unmoved
     (makes_fresh_by_kind v w [] z x tt m f).0
 
 pub taken_loads : (v w : View) → Makes v [] w → taken_by w ≡ taken_by v
@@ -140,23 +133,32 @@ begins_unspent v w found z d =
     ∙ new_made w.sizes d.grown e kept refl acts refl in
     record { none = λ x spent. (has_nothing w.sizes z w.front d.sound.kept w.number none).spent x spent }
 
--- and is at work behind the opening of its pass
-pub opened_work : (v w : View) → IsLayout v.sizes → IsResting false v → HasSpentNone v → IsOpened v w
-    → IsAtWork w × (taken_by w ≡ taken_by v)
-opened_work v w z h unspent o =
-    let e = announce_event v o.epoch in
-    let c = makes_counts pops v w (e ∷ []) o.makes in (
-      record {
-        resting = record {
-          numbered = number_on v w (e ∷ []) o.makes h.numbered;
-          there = there_on v w (e ∷ []) o.makes h.there;
-          pass = o.opened;
-          bare = makes_none v w (e ∷ []) z ((λ y. absurd (cc)), tt) o.makes h.bare;
-        };
-        unspent = unspent_on v w (e ∷ []) z (gets_none e refl (λ y. absurd (cc)), tt) o.makes unspent;
-      },
-      omega (arith, c),
-    )
+-- an event that takes no node leaves a token resting, in a pass or not
+pub rests_on : (was now : Bool) (v w : View) (e : Event) → IsLayout v.sizes → e.kind ≢ PopFree → Makes v (e ∷ []) w
+    → (pass_in w.sizes w.front w.number).is_open ≡ now → IsResting was v → IsResting now w
+rests_on was now v w e z takes m pass h = record {
+  numbered = number_on v w (e ∷ []) m h.numbered;
+  there = there_on v w (e ∷ []) m h.there;
+  pass = pass;
+  bare = makes_none v w (e ∷ []) z (takes, tt) m h.bare;
+}
+
+-- and idle, where it gets it no node and moves no epoch
+pub idle_on : (v w : View) (e : Event) → IsLayout v.sizes → GetsNone None e → of_kinds pops (e ∷ []) ≡ 0
+    → of_kinds moves (e ∷ []) ≡ 0 → Makes v (e ∷ []) w → IsIdle v w
+idle_on v w e z gets no_pop no_move m = record {
+  unspent = unspent_on v w (e ∷ []) z (gets, tt) m;
+  taken = let c = makes_counts pops v w (e ∷ []) m in omega (arith, c, no_pop);
+  moved = let c = makes_counts moves v w (e ∷ []) m in omega (arith, c, no_move);
+}
+
+-- a token that rests in its pass and is idle is at work where it was
+pub work_idle : (v w : View) → IsResting true w → IsIdle v w → HasSpentNone v → moved_by v ≡ 0 → IsAtWork w
+work_idle v w h idle unspent unmoved = record {
+  resting = h;
+  unspent = idle.unspent unspent;
+  unmoved = idle.moved ∙ unmoved;
+}
 
 -- an own unlink is the only thing that the token spent
 pub only_one : (v w : View) (e : Event) → IsLayout v.sizes → HasSpentNone v → unlinks e.kind ≡ true

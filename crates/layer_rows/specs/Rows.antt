@@ -1,58 +1,63 @@
 -- What a token knows between the calls of a worked row, and what these tell.
-use Rattle.std.specs.Prelude.{◌≡◌, ◌≢◌, ◌⊎◌, ℕ, ◌+◌, ◌≤◌, true, false, List, []}
+use Rattle.std.specs.Prelude.{◌≡◌, ◌≢◌, ◌⊎◌, ℕ, ◌+◌, ◌<◌, ◌≤◌, Bool, true, false, List, [], Option, None}
 use Rattle.graph_kinds.specs.declared.call.Call.TheVariants.{AddVertex}
-use Rattle.packed_link.specs.Layout.{IsLayout, second_at}
+use Rattle.packed_link.specs.Layout.{IsLayout, epoch_at, second_at}
 use Rattle.packed_link.specs.Link.{index_of, mark_of, nowhere}
 use Rattle.packed_link.specs.declared.link.Life.{Life}
 use Rattle.core_journal.specs.declared.event.Kind.TheVariants.{LinkEdge}
 use Rattle.core_journal.specs.declared.event.Event.{Event}
-use Rattle.core_journal.specs.Event.{pops}
+use Rattle.core_journal.specs.Event.{pops, moves}
 use Rattle.core_journal.specs.Machine.{word_at}
 use Rattle.core_journal.specs.Prefix.{IsPrefix}
+use Rattle.core_journal.specs.Reuse.{pass_in}
 use Rattle.core_journal.specs.State.{state}
 use Rattle.core_kept.specs.Counts.{made}
 use Rattle.core_kept.specs.Nodes.{IsSpentWith}
 use Rattle.core_rule.specs.Fronts.{key_in}
 use Rattle.core_rule.specs.OwnEvents.{link_edge_event}
 use Rattle.core_rule.specs.Plays.{IsSound}
+use Rattle.core_rule.specs.Stretches.{HasPass}
 use Rattle.core_rule.specs.declared.view.View.{View}
 use Rattle.core_stretches.specs.Holdings.{IsUnlinkedVertex}
 use Rattle.core_stretches.specs.Makes.{Makes}
 use Rattle.core_stretches.specs.Moments.{Carries, EndsBy, Has, HoldsBetween}
+use Rattle.epoch_limbo.specs.Limbos.{IsLimboOf, LimboValue, MatchRipe}
 use Rattle.graph_table.specs.Filled.{MayLinkFilledEdge, filled_edge_event}
 use Rattle.graph_table.specs.Table.{MatchLink}
+use Rattle.graph_table.specs.Tokens.{RipeValue}
 use Rattle.graph_table.specs.declared.answers.LinkTried.{LinkTried}
 use Rattle.table_calls.specs.Resting.{IsHolding, IsResting}
 use Rattle.table_calls.specs.Vertices.{MatchHeld}
-use Rattle.vertex_list.specs.Positions.{PositionValue}
-use Rattle.vertex_list.specs.Walks.{MatchFound}
-use Rattle.vertex_list.specs.declared.walks.Found.{Found}
 
 -- how many nodes the token took
 abbrev pub taken_by : View → ℕ
 taken_by v = made pops v.number v.front
 
+-- how often the token moved the epoch on
+abbrev pub moved_by : View → ℕ
+moved_by v = made moves v.number v.front
+
 -- no node is spent with the token
 pub record HasSpentNone (v : View) : Type 0 where
   pub none : (x : ℕ) → IsSpentWith v.sizes v.front v.number x → ⊥
 
--- the token has a number and an open pass, and holds no fresh node and no spent one
+-- the token has a number and an open pass, holds no fresh node and no spent one, and never moved the epoch on
 pub record IsAtWork (v : View) : Type 0 where
   pub resting : IsResting true v
   pub unspent : HasSpentNone v
+  pub unmoved : moved_by v ≡ 0
 
--- the token has a number and an open pass, and holds this fresh node and no spent one
+-- the token has a number and an open pass, holds this fresh node and no spent one, and never moved the epoch on
 pub record IsBuilding (v : View) (x : Life) : Type 0 where
   pub holding : IsHolding v x
   pub unspent : HasSpentNone v
+  pub unmoved : moved_by v ≡ 0
 
--- a walk for a key from its bucket's word, which was loaded since the old front, came to this
-pub record IsWalked (key : ℕ) (r : Found) (v w : View) : Type 0 where
-  pub from : PositionValue
-  pub key_is : from.key ≡ key
-  pub since : IsPrefix v.front from.moment
-  pub makes : Makes v [] w
-  pub found : MatchFound r from w
+-- the token took no node, moved no epoch, and holds no spent node where it held none
+pub record IsIdle (v w : View) : Type 0 where
+  pub unspent : HasSpentNone v → HasSpentNone w
+  pub taken : taken_by w ≡ taken_by v
+  pub moved : moved_by w ≡ moved_by v
 
 -- a node was taken and linked as a vertex of this key by the last event of the front, which adds the key to the graph
 pub record IsVertexAdded (key : ℕ) (v w : View) (x : Life) : Type 0 where
@@ -103,9 +108,26 @@ pub record IsEdgeAdded (from to weight : ℕ) (v w : View) (x : Life) : Type 0 w
   pub target : HoldsBetween v.front w.front (Has to event.target) target_at
   pub last : EndsBy event w
 
--- the token unlinked a vertex, whose list is open at its head, and spent no other node
+-- in its open pass the token unlinked a vertex, whose list is open at its head; it spent no other node, and never moved
+-- the epoch on
 pub record IsRemoved (v : View) (x : Life) : Type 0 where
   pub numbered : v.numbered ≡ true
+  pub there : v.number < v.sizes.callers
+  pub pass : HasPass v
   pub vertex : IsUnlinkedVertex v x
   pub unclosed : (state v.sizes v.front).frozen x.index ≡ false
   pub only : (y : ℕ) → IsSpentWith v.sizes v.front v.number y → y ≡ x.index
+  pub unmoved : moved_by v ≡ 0
+
+-- the token has a number, its pass is open or not, it moved the epoch on at most so often, and the limbo is its own
+pub record IsWaiting (opened : Bool) (moves : ℕ) (v : View) (nodes : List RipeValue) : Type 0 where
+  pub numbered : v.numbered ≡ true
+  pub there : v.number < v.sizes.callers
+  pub pass : (pass_in v.sizes v.front v.number).is_open ≡ opened
+  pub moved : moved_by v ≤ moves
+  pub limbo : IsLimboOf None v nodes
+
+-- the limbo was asked for a ripe node with the epoch at the new front
+pub record IsAskedFor (r : Option RipeValue) (old new : LimboValue) (v w : View) : Type 0 where
+  pub loads : Makes v [] w
+  pub ripe : MatchRipe r old new w (word_at w.sizes w.front (epoch_at w.sizes))

@@ -6,6 +6,7 @@ ghost use Rattle.core_kept.specs.Counts.{most_pops};
 ghost use Rattle.core_rule.specs.Fronts.{IsEdgeAbove, MetVertex, key_in};
 ghost use Rattle.core_stretches.specs.Makes.{Makes};
 ghost use Rattle.graph_table.specs.Tokens.{IsOf};
+ghost use Rattle.layer_rows.specs.Causes.{IsNoEdgeAdded};
 ghost use Rattle.layer_rows.specs.Rows.{IsAtWork, IsBuilding, IsEdgeAdded, IsNoFront, IsPrepended, taken_by};
 
 use crate::vertices::look_for;
@@ -75,8 +76,8 @@ pub fn prepend_edge(
 }
 
 /// Takes a node, walks to the vertices of two keys, and links the node as an edge from one to the other, in front of
-/// the list. `None` comes where no node was taken, a walk came to no vertex of its key, the list has an edge of that
-/// key or a smaller one, or another caller changed the word.
+/// the list. `None` comes only where no node was taken, a walk came to no vertex of its key, the list is closed or has
+/// an edge of that key or a smaller one, or another caller changed its word.
 pub fn add_edge(
     table: &GraphTable,
     token: &mut Token,
@@ -90,6 +91,7 @@ pub fn add_edge(
     requires some { 1 ≤ weight }
     ensures table { IsOf table.now token.new }
     ensures added { IfSome result (λ life. IsEdgeAdded from to weight token.old.view token.new.view life) }
+    ensures none { IsNone result → IsNoEdgeAdded from to weight token.old.view token.new.view }
 {
     let Taken::Node(fresh) = take(table, token) else {
         return None;
@@ -100,15 +102,9 @@ pub fn add_edge(
     let Found::Here(target) = look_for(table, token, to) else {
         return None;
     };
-    let Some(LinkTried::Won(life)) = prepend_edge(
-        table,
-        token,
-        fresh,
-        source.life,
-        target.life,
-        weight,
-    ) else {
-        return None;
-    };
-    Some(life)
+    match prepend_edge(table, token, fresh, source.life, target.life, weight) {
+        Some(LinkTried::Won(life)) => Some(life),
+        Some(LinkTried::Lost(..)) => None,
+        None => None,
+    }
 }

@@ -6,11 +6,15 @@
 #![tactic(auto)]
 
 mod edges;
+mod epochs;
+mod passes;
 mod removing;
 #[cfg(test)]
 mod tests;
 mod vertices;
 
 pub use edges::{add_edge, prepend_edge, see_front};
+pub use epochs::{leave, move_on, take_ripe};
+pub use passes::{begin_pass, end_pass, renew};
 pub use removing::{bury_alone, remove};
 pub use vertices::{add_vertex, begin, look_for};

@@ -1,12 +1,14 @@
 //! A token begins, looks for vertices, and adds them.
 
-ghost use Rattle.std.specs.Prelude.{◌≡◌, ◌<◌, true, false, IfSome};
+ghost use Rattle.std.specs.Prelude.{◌≡◌, ◌<◌, true, false, IfSome, IsNone};
 ghost use Rattle.core_kept.specs.Counts.{most_pops};
 ghost use Rattle.core_rule.specs.Stretches.{HasPass};
 ghost use Rattle.graph_table.specs.Tokens.{IsOf};
-ghost use Rattle.layer_rows.specs.Rows.{IsAtWork, IsVertexAdded, IsWalked, taken_by};
+ghost use Rattle.layer_rows.specs.Causes.{IsNoVertexAdded};
+ghost use Rattle.layer_rows.specs.Rows.{IsAtWork, IsVertexAdded, taken_by};
+ghost use Rattle.vertex_calls.specs.Causes.{IsWalked};
 
-use epoch_limbo::open_pass;
+use crate::passes::begin_pass;
 use graph_table::{GraphTable, Token};
 use node_arena::{Taken, fill_vertex, take};
 use packed_link::Life;
@@ -24,7 +26,7 @@ pub fn begin(table: &GraphTable, token: &mut Token)
     ensures taken { taken_by token.new.view ≡ 0 }
 {
     enter(table, token);
-    open_pass(table, token);
+    begin_pass(table, token);
 }
 
 /// Walks to a key from the word of its bucket.
@@ -40,7 +42,7 @@ pub fn look_for(table: &GraphTable, token: &mut Token, key: u32) -> Found
 }
 
 /// Takes a node, walks to the position at which the key is missing, and links the node there as a vertex. `None` comes
-/// where no node was taken, the walk came to a vertex of the key or to a marked one, or another caller changed the
+/// only where no node was taken, the walk came to a vertex of the key or to a marked one, or another caller changed the
 /// word.
 pub fn add_vertex(table: &GraphTable, token: &mut Token, key: u32) -> Option<Life>
     requires table { IsOf table.now token.old }
@@ -48,6 +50,7 @@ pub fn add_vertex(table: &GraphTable, token: &mut Token, key: u32) -> Option<Lif
     requires few { taken_by token.old.view < most_pops }
     ensures table { IsOf table.now token.new }
     ensures added { IfSome result (λ life. IsVertexAdded key token.old.view token.new.view life) }
+    ensures none { IsNone result → IsNoVertexAdded key token.old.view token.new.view }
 {
     let Taken::Node(fresh) = take(table, token) else {
         return None;

@@ -22,6 +22,7 @@ use Rattle.core_stretches.specs.Holdings.{IsUnlinkedVertex}
 use Rattle.core_stretches.specs.Makes.{Makes}
 use Rattle.core_stretches.proofs.MakesAddUp.{makes_chain, makes_look, makes_won}
 use Rattle.core_stretches.proofs.MakesTell.{makes_goes, makes_later}
+use Rattle.limbo_calls.specs.Causes.{LostMark}
 use Rattle.limbo_calls.specs.Steady.{LeadsToMet, IsSteady}
 use Rattle.limbo_calls.proofs.FirstIsLinked.{only_unmarked}
 use Rattle.limbo_calls.proofs.StaysSteady.{pass_by, steady_on}
@@ -117,6 +118,25 @@ module _ (n : ℕ) (v m k : View) (x : Life) (seen place found at dead : ℕ) (z
         dead = ap mark_of (sym word) ∙ marked;
         next_is = next_is ∙ ap index_of word;
       }
+
+-- a link that was loaded behind the own mark, and has none
+pub lost_mark : (v m k : View) (x : Life) (place found at dead : ℕ) → v.numbered ≡ true → IsSound v
+    → Won v place found (mark_vertex_event v x found) m → IsSound m → Looked m at dead k
+    → at ≡ link_at v.sizes x.index → mark_of dead ≡ 0 → LostMark x v k
+lost_mark v m k x place found at dead has sound won sound_m l at_is unmarked =
+    let e = mark_vertex_event v x found in
+    let mark : Makes v (e ∷ []) m = makes_won v m place found e has sound refl won in
+    let first = makes_later v m (e ∷ []) mark in
+    let look = makes_look m k at dead (first.numbered ∙ has) sound_m l in
+    let same = (makes_later m k [] look).sizes in
+    let word : dead ≡ word_at k.sizes k.front (link_at k.sizes x.index) = l.word ∙
+    (ap (word_at m.sizes k.front) (at_is ∙ ap (λ (y : Sizes). link_at y x.index) (sym first.sizes)) ∙ ap
+    (λ (y : Sizes). word_at y k.front (link_at y x.index)) (sym same)) in
+    record {
+      found = found;
+      makes = makes_chain v m k (e ∷ []) [] mark look;
+      unmarked = ap mark_of (sym word) ∙ unmarked;
+    }
 
 -- it was unlinked
 module _ (n : ℕ) (v w : View) (x : Life) (place found bucket seen next : ℕ) (z : IsLayout v.sizes) (sound : IsSound v)

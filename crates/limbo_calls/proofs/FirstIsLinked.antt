@@ -25,6 +25,9 @@ use Rattle.core_stretches.proofs.MakesTell.{makes_later}
 use Rattle.epoch_limbo.specs.Passes.{IsOpened}
 use Rattle.node_arena.specs.Filling.{vertex_stores}
 use Rattle.node_arena.specs.Taking.{IsTaken}
+use Rattle.limbo_calls.specs.Causes.{IsFirstLost, LinksOne}
+use Rattle.graph_table.specs.Table.{Missed}
+use Rattle.core_journal.proofs.Lists.{prefix_trans}
 use Rattle.limbo_calls.specs.Steady.{IsSteady}
 use Rattle.limbo_calls.proofs.StaysSteady.{pass_by, steady_more}
 
@@ -107,6 +110,28 @@ module _ (n key : ℕ) (v0 v1 v2 : View) (x : Life) (z : IsLayout v0.sizes) (s :
           filled = subst (λ (i : ℕ). IsFilledVertex v4.sizes v4.front x.index key i) (sym none) now;
         })
 
+    -- another word stood there when the vertex was to be linked
+    pub first_lost : (v5 : View) (found : ℕ) → IsSound v4 → Missed v4 at seen found v5 → IsFirstLost v0 v5
+    first_lost v5 found sound4 missed =
+        let first = makes_later v0 v3 _ opened in
+        let has = (makes_later v3 v4 [] look).numbered ∙ (first.numbered ∙ s.numbered) in
+        let same = (makes_later v4 v5 [] (makes_look v4 v5 at found has sound4 missed.looked)).sizes in
+        let place : at ≡ bucket_at v4.sizes 0 = at_is ∙ ap (λ (y : Sizes). bucket_at y 0) (sym sizes) in
+        let word : found ≡ word_at v5.sizes v5.front (bucket_at v5.sizes 0) = missed.looked.word ∙
+        (ap (word_at v4.sizes v5.front) place ∙ ap (λ (y : Sizes). word_at y v5.front (bucket_at y 0)) (sym same)) in
+        record {
+          seen = seen;
+          moment = v4.front;
+          found = record {
+            since = prefix_trans v0.front v3.front v4.front first.grows (makes_later v3 v4 [] look).grows;
+            until = missed.looked.grows;
+            holds = sym (l.word ∙ (ap (word_at v3.sizes v4.front) at_is ∙ ap
+                (λ (y : Sizes). word_at y v4.front (bucket_at v0.sizes 0)) first.sizes));
+          };
+          empty = none;
+          other = λ is. missed.other (word ∙ is);
+        }
+
     module _ (v5 : View) (place found : ℕ) (sound4 : IsSound v4)
         (won : Won v4 place found (link_vertex_event v4 at seen (key_in v4 x.index) x) v5) where
       has_number : v4.numbered ≡ true
@@ -131,6 +156,14 @@ module _ (n key : ℕ) (v0 v1 v2 : View) (x : Life) (z : IsLayout v0.sizes) (s :
             none = λ y there f. h y there
                 (subst (λ (j : List Event). IsFreshWith v4.sizes j v4.number y) g.front f);
           })
+
+      pub links_one : (v6 : View) → Makes v5 (withdraw_event v5 ∷ []) v6 → LinksOne v0 v6
+      links_one v6 closing =
+          let a = makes_chain v0 v3 v4 (pop_event v0 t.seen t.next ∷
+          (vertex_stores v1 x key nowhere ++ announce_event v2 o.epoch ∷ [])) [] opened look in
+          let b = makes_chain v0 v4 v5 (pop_event v0 t.seen t.next ∷
+          (vertex_stores v1 x key nowhere ++ announce_event v2 o.epoch ∷ [])) (event ∷ []) a linked in
+          record { own = _; makes = makes_chain v0 v5 v6 _ (withdraw_event v5 ∷ []) b closing; one = refl }
 
       pub steady_added : (v6 : View) → Makes v5 (withdraw_event v5 ∷ []) v6 → HasNoPass v6 → IsSteady false (n + 1) v6
       steady_added v6 closing closed =

@@ -1,9 +1,12 @@
 //! A pass is opened and closed, and a vertex is added as the first of the only bucket.
 
-ghost use Rattle.std.specs.Prelude.{◌≡◌, ◌<◌, ◌≤◌, ◌+◌, ◌∷◌, [], true, false, IfSome};
-ghost use Rattle.core_rule.specs.OwnEvents.{withdraw_event};
+ghost use Rattle.std.specs.Prelude.{◌≡◌, ℕ, ◌<◌, ◌≤◌, ◌+◌, ◌∷◌, [], true, false, IfSome, IsNone};
+ghost use Rattle.packed_link.specs.Link.{nowhere};
+ghost use Rattle.core_rule.specs.OwnEvents.{announce_event, withdraw_event};
+ghost use Rattle.core_stretches.specs.Holdings.{IsFilledAsEdge};
 ghost use Rattle.core_stretches.specs.Makes.{Makes};
 ghost use Rattle.graph_table.specs.Tokens.{IsOf};
+ghost use Rattle.limbo_calls.specs.Causes.{IsNoneAdded, LinksOne, TookNone};
 ghost use Rattle.limbo_calls.specs.Steady.{IsSteady};
 
 use epoch_limbo::{close_pass, open_pass};
@@ -17,6 +20,7 @@ pub fn open(table: &GraphTable, token: &mut Token, _steps: u32)
     requires steady { IsSteady false _steps token.old.view }
     ensures table { IsOf table.now token.new }
     ensures steady { IsSteady true _steps token.new.view }
+    ensures makes { (epoch : ℕ) × Makes token.old.view (announce_event token.old.view epoch ∷ []) token.new.view }
 {
     open_pass(table, token);
 }
@@ -33,7 +37,7 @@ pub fn close(table: &GraphTable, token: &mut Token, _steps: u32)
 }
 
 /// Takes a node, fills it as a vertex of this key, and links it in a pass as the first of the only bucket, where that
-/// is empty.
+/// is empty. It answers no only where no node was taken, the bucket has a vertex, or another caller changed its word.
 pub fn add_first(table: &GraphTable, token: &mut Token, key: u32, _steps: u32) -> bool
     requires table { IsOf table.now token.old }
     requires steady { IsSteady false _steps token.old.view }
@@ -41,6 +45,8 @@ pub fn add_first(table: &GraphTable, token: &mut Token, key: u32, _steps: u32) -
     requires few { _steps < 1000 }
     ensures table { IsOf table.now token.new }
     ensures steady { result ≡ true → IsSteady false (_steps + 1) token.new.view }
+    ensures links { result ≡ true → LinksOne token.old.view token.new.view }
+    ensures none { result ≡ false → IsNoneAdded token.old.view token.new.view }
 {
     let layout = table.layout();
     let Taken::Node(fresh) = take(table, token) else {
@@ -61,7 +67,7 @@ pub fn add_first(table: &GraphTable, token: &mut Token, key: u32, _steps: u32) -
     true
 }
 
-/// Takes a node and fills it as an edge.
+/// Takes a node and fills it as an edge. `None` comes only where no node was taken.
 pub fn take_edge(
     table: &GraphTable,
     token: &mut Token,
@@ -77,6 +83,8 @@ pub fn take_edge(
     requires tag { target.tag < 1000 }
     requires weight { 1 ≤ weight }
     ensures table { IsOf table.now token.new }
+    ensures filled { IfSome result (λ fresh. IsFilledAsEdge token.new.view key nowhere target weight fresh) }
+    ensures none { IsNone result → TookNone token.old.view token.new.view }
 {
     let Taken::Node(fresh) = take(table, token) else {
         return None;

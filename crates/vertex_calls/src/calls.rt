@@ -1,12 +1,14 @@
 //! A pass is opened; in it a vertex is prepared for its bucket, found, marked and unlinked, and its list stepped
 //! through.
 
-ghost use Rattle.std.specs.Prelude.{◌≡◌, ◌<◌, ◌+◌, true, false, IfSome};
+ghost use Rattle.std.specs.Prelude.{◌≡◌, ◌<◌, ◌+◌, ◌⊎◌, true, false, IfSome, IsNone};
 ghost use Rattle.core_rule.specs.Fronts.{MetVertex};
 ghost use Rattle.graph_table.specs.Tokens.{IsOf};
 ghost use Rattle.table_calls.specs.Resting.{IsResting, uses_of};
-ghost use Rattle.vertex_list.specs.Positions.{IsAnyPosition, IsPosition, LeadsToDead, PositionValue};
+ghost use Rattle.vertex_list.specs.Changes.{IsLost, MatchLinked, MatchMarked};
+ghost use Rattle.vertex_list.specs.Positions.{IsAnyPosition, IsPosition, LeadsToDead};
 ghost use Rattle.vertex_list.specs.Walks.{MatchFound, MatchStepped};
+ghost use Rattle.vertex_calls.specs.Causes.{CameToNoGap, IsWalked, TookNone};
 ghost use Rattle.vertex_calls.specs.Ready.{IsInPass, IsPrepared, IsReady, is_done};
 
 use epoch_limbo::open_pass;
@@ -72,11 +74,13 @@ pub fn remove(table: &GraphTable, token: &mut Token, life: Life, _taken: u32) ->
     ensures table { IsOf table.now token.new }
     ensures ready { IsReady _taken token.new.view }
     ensures vertex { MetVertex token.new.view life }
+    ensures marked { MatchMarked result life token.old.view token.new.view }
 {
     mark(table, token, life)
 }
 
-/// Unlinks the marked vertex to which a position leads: the position goes on.
+/// Unlinks the marked vertex to which a position leads: the position goes on. `None` comes only where another caller
+/// changed the word since the position's load.
 pub fn pass_by(
     table: &GraphTable,
     token: &mut Token,
@@ -90,6 +94,8 @@ pub fn pass_by(
     ensures table { IsOf table.now token.new }
     ensures ready { IsReady _taken token.new.view }
     ensures position { IfSome result (λ next. IsPosition false token.new.view next) }
+    ensures key { IfSome result (λ next. next.key ≡ position.key) }
+    ensures none { IsNone result → IsLost position token.old.view token.new.view }
 {
     match unlink(table, token, position) {
         Unlinked::Done(_, next) => Some(next),
@@ -97,7 +103,8 @@ pub fn pass_by(
     }
 }
 
-/// Takes a node and fills it as a vertex for the position at which its key is missing.
+/// Takes a node and fills it as a vertex for the position at which its key is missing. `None` comes only where the walk
+/// came to no such position, or no node was taken behind it.
 pub fn prepare(
     table: &GraphTable,
     token: &mut Token,
@@ -109,6 +116,9 @@ pub fn prepare(
     requires few { _taken < 1000 }
     ensures table { IsOf table.now token.new }
     ensures prepared { IfSome result (λ both. IsPrepared (_taken + 1) token.new.view both.0 both.1) }
+    ensures key { IfSome result (λ both. both.0.key ≡ key) }
+    ensures none { IsNone result
+        → CameToNoGap key token.old.view token.new.view ⊎ TookNone token.old.view token.new.view }
 {
     let position = start(table, token, key);
     let Found::Gone(position) = walk(table, token, position) else {
@@ -135,6 +145,7 @@ pub fn add(
     ensures table { IsOf table.now token.new }
     ensures pass { IsInPass token.new.view }
     ensures ready { is_done result ≡ true → IsReady _taken token.new.view }
+    ensures linked { MatchLinked result position fresh token.old.view token.new.view }
 {
     link(table, token, position, fresh)
 }
@@ -145,7 +156,7 @@ pub fn look_again(table: &GraphTable, token: &mut Token, key: u32) -> Found
     requires pass { IsInPass token.old.view }
     ensures table { IsOf table.now token.new }
     ensures pass { IsInPass token.new.view }
-    ensures found { (position : PositionValue) × (position.key ≡ key) × MatchFound result position token.new.view }
+    ensures walked { IsWalked key result token.old.view token.new.view }
 {
     let position = start(table, token, key);
     walk(table, token, position)

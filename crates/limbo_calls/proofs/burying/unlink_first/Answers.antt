@@ -1,9 +1,9 @@
-use Rattle.std.proofs.Common.{◌≡◌, false, true, refl, ap, sym, ◌∙◌, subst}
+use Rattle.std.proofs.Common.{◌≡◌, false, true, refl, ap, sym, ◌∙◌, subst, inl, inr}
 use Rattle.packed_link.specs.Link.{mark_of}
 use Rattle.packed_link.specs.Layout.{Sizes, bucket_at, link_at}
 use Rattle.packed_link.specs.declared.link.Life.{Life}
 use Rattle.core_stretches.specs.Holdings.{IsUnlinkedVertex}
-use Rattle.limbo_calls.proofs.FirstIsFound.{may_unlink, steady_marked, steady_cut, is_unlinked}
+use Rattle.limbo_calls.proofs.FirstIsFound.{lost_mark, may_unlink, steady_marked, steady_cut, is_unlinked}
 use Rattle.limbo_calls.proofs.StaysSteady.{low_mark}
 use Rattle.limbo_calls.proofs.burying.unlink_first.Goals as goal
 
@@ -88,3 +88,20 @@ returns-in-Won-clause-unlinked c =
     subst (λ (y : Life). IsUnlinkedVertex w y) (sym c.in-Won.ensures.tried.0)
     (is_unlinked n k w x _ _ c.bucket_at-place.result seen c.index-next.result c.load.ensures.table.layout
     c.load.ensures.table.sound s may.vertex.life c.in-Won.ensures.tried.1)
+
+pub returns-then-not-marked-clause-none : goal.returns-then-not-marked-clause-none
+returns-then-not-marked-clause-none c = λ _.
+    let v = c.args.token.now.view in
+    let m = c.mark_vertex.new.token.view in
+    let x = c.args.life in
+    let found = c.mark_vertex.result in
+    let sizes : c.layout-layout.result ≡ v.sizes = c.layout-layout.ensures.sizes ∙ sym c.requires.table.sizes in
+    let unmarked : mark_of found ≡ 0 = low_mark found (λ one. let t : false ≡ true = c.if-marked.ensures.1 one in absurd
+    (cc)) in
+    let at_is : c.link_at.result ≡ link_at v.sizes x.index = c.link_at.ensures.place ∙ ap
+    (λ (y : Sizes). link_at y x.index) sizes in
+    let none : mark_of c.load.result ≡ 0 = low_mark c.load.result (λ one.
+    let t : false ≡ true = c.if-not-marked.ensures.1 one in absurd (cc)) in
+    inr (inl (lost_mark v m c.load.new.token.view x _ found c.link_at.result c.load.result c.requires.steady.numbered
+    c.requires.table.sound (c.mark_vertex.ensures.marked.won unmarked) c.mark_vertex.ensures.table.sound
+    c.load.ensures.looked at_is none))
