@@ -24,7 +24,7 @@ use Rattle.core_stretches.proofs.MakesTell.{makes_later}
 use Rattle.epoch_limbo.specs.Limbos.{LimboValue, index_in}
 use Rattle.epoch_limbo.proofs.LimboStays.{limbo_still_by_kind}
 use Rattle.graph_table.specs.Tokens.{RipeValue}
-use Rattle.graph_updates.specs.Burying.{FreezesOf, IsBuried, IsToBury}
+use Rattle.graph_updates.specs.Burying.{FreezesOf, HasAllSpentBut, IsBuried, IsToBury}
 use Rattle.node_arena.specs.Filling.{vertex_stores}
 use Rattle.node_arena.specs.Taking.{IsTaken}
 use Rattle.vertex_list.specs.Changes.{IsMarked, IsUnlinked, MatchMarked}
@@ -160,7 +160,8 @@ module _ (v w : View) (p q : PositionValue) (x : Life) (z : IsLayout v.sizes) (u
       a)
       (λ (a : ⊥). absurd a) (got.old y spent))
 
-  pub unlink_cuts : (limbo : LimboValue) → LimboHoldsAll limbo v → (w.number < w.sizes.callers) × IsToBury limbo w x
+  pub unlink_cuts : (limbo : LimboValue) → LimboHoldsAll limbo v
+      → (w.number < w.sizes.callers) × IsToBury limbo w x × HasAllSpentBut x.index w limbo.nodes
   unlink_cuts limbo h = (
     still_there v w unlink_events z u.makes h.there,
     record {
@@ -170,9 +171,9 @@ module _ (v w : View) (p q : PositionValue) (x : Life) (z : IsLayout v.sizes) (u
       out = every_as (λ (r : RipeValue). IsRetired None v r.life r.stamp) (λ (r : RipeValue). index_in r ≢ x.index)
           (λ r ret is. u.new (subst (λ (k : ℕ). IsSpentWith v.sizes v.front v.number k) is ret.stamped.spent))
           limbo.nodes h.limbo_of.each;
-      all = λ y spent other. h.all y (spent_then y spent other limbo h);
       room = still_room v w unlink_events z u.makes limbo.room h.room;
     },
+    (λ y spent other. h.all y (spent_then y spent other limbo h)),
   )
 
   pub unlink_spares : SparesGo v w
@@ -236,11 +237,12 @@ module _ (old new : LimboValue) (v w : View) (x : Life) (z : IsLayout v.sizes) (
       (λ (e : Event). (e.kind ≢ PopFree) × (is_of_fresh e.kind ≡ false))
       (λ e f. (not_kind e f PopFree (λ is. absurd (cc)) (λ is. absurd (cc)), fails is_of_fresh e f refl refl)))
 
-  pub buried_work : v.number < v.sizes.callers → v.sizes.nodes ≤ old.room → LimboHoldsAll new w
-  buried_work there room = record {
+  pub buried_work : v.number < v.sizes.callers → v.sizes.nodes ≤ old.room → HasAllSpentBut x.index v old.nodes
+      → LimboHoldsAll new w
+  buried_work there room but = record {
     there = still_there v w b.own z b.makes there;
     limbo_of = b.limbo_of;
-    all = b.all;
+    all = b.all but;
     room = let r = b.room in let s = still_room v w b.own z b.makes old.room room in omega (arith, r, s);
   }
 

@@ -9,7 +9,7 @@ use Rattle.core_rule.specs.declared.view.View.{View}
 use Rattle.core_stretches.specs.Holdings.{HasNoPass, IsHeldFresh}
 use Rattle.epoch_limbo.specs.Limbos.{LimboValue, IsLimboOf}
 use Rattle.graph_table.specs.Tokens.{TokenValue}
-use Rattle.graph_updates.specs.Burying.{IsIn, IsToBury}
+use Rattle.graph_updates.specs.Burying.{HasAllSpentBut, IsIn, IsToBury}
 
 -- a caller: its token, the nodes that it spent, the one that it took and didn't link, how many rounds it has made, and
 -- how many nodes it has taken from the free list and given back
@@ -75,6 +75,6 @@ pub record HasTurnedOver (goal limit : ℕ) (before after : CallerValue) : Type 
 -- what a try to unlink came to: a limbo that had all that the token spent has all but the vertex, which is to be
 -- buried, or it has all still
 abbrev pub MatchToBury : Option Life → View → View → Type 0
-MatchToBury (Some x) v w = (limbo : LimboValue) → LimboHoldsAll limbo v → (w.number < w.sizes.callers) ×
-    IsToBury limbo w x
+MatchToBury (Some x) v w = (limbo : LimboValue) → LimboHoldsAll limbo v
+    → (w.number < w.sizes.callers) × IsToBury limbo w x × HasAllSpentBut x.index w limbo.nodes
 MatchToBury None v w = WorkGoes v w

@@ -45,7 +45,7 @@ use Rattle.edge_list.proofs.HandedEdges.{all_handed, next_is_new, one_list}
 use Rattle.epoch_limbo.specs.Limbos.{LimboValue, IsLimboOf, IsOut, IsRetiredInto, index_in}
 use Rattle.epoch_limbo.proofs.LimboStays.{limbo_but, limbo_room, limbo_still_by_kind, limbo_to_end}
 use Rattle.graph_table.specs.Tokens.{RipeValue}
-use Rattle.graph_updates.specs.Burying.{FreezesOf, IsBuried, IsIn, IsToBury}
+use Rattle.graph_updates.specs.Burying.{FreezesOf, HasAllSpentBut, IsBuried, IsIn, IsToBury}
 use Rattle.graph_updates.proofs.BurialLists.{among_first, among_left, among_right, contains_among, every_both}
 use Rattle.graph_updates.proofs.BurialLists.{every_map, in_left, in_right, out_of}
 
@@ -66,7 +66,7 @@ pub record IsBurying (v : View) (x : Life) (old now : LimboValue) (t : View) (f 
   pub nodes : now.nodes ≡ old.nodes ++ edges
   pub room : now.room ≡ old.room
   pub limbo_of : IsLimboOf (Some x.index) t now.nodes
-  pub got : HasGotOnly v.front t (Some x.index) []
+  pub got : HasAllSpentBut x.index v old.nodes → HasGotOnly v.front t (Some x.index) []
 
 pub record Buries (v : View) (x : Life) (old now : LimboValue) (t : View) (f : FrozenValue) : Type 0 where
   pub edges : List RipeValue
@@ -147,14 +147,15 @@ buries_first v m x old f z h c =
     let own = marking (freeze_head_event v x) c.found in
     let gives : Every GivesNone own = of_mark GivesNone (freeze_head_event v x) c.found
     (gives_none (freeze_head_event v x c.found) (inl refl)) in
-    let finished : AreFinished v.sizes v.front v.number None = record {
+    let finished : HasAllSpentBut x.index v old.nodes → AreFinished v.sizes v.front v.number None = λ all. record {
       each = λ y _ spent closed. dite (ℕ_discrete y x.index)
           (λ is. absurd (let n = h.unclosed in let m : (state v.sizes v.front).frozen x.index ≡ true = ap
           (state v.sizes v.front).frozen (sym is) ∙ closed in cc))
-          (λ ne. retired_list y ne spent);
+          (λ ne. retired_list all y ne spent);
     } in
-    let got = got_begins v.sizes v.front v.front v.number x.index []
-    (got_itself v.sizes v.front v.number None finished tt) h.vertex.spent in
+    let got : HasAllSpentBut x.index v old.nodes → HasGotOnly v.front v (Some x.index) [] = λ all.
+    got_begins v.sizes v.front v.front v.number x.index []
+    (got_itself v.sizes v.front v.number None (finished all) tt) h.vertex.spent in
     record {
       edges = [];
       own = own;
@@ -170,8 +171,8 @@ buries_first v m x old f z h c =
         limbo_of = limbo_still_by_kind (Some x.index) v m own z c.makes old.nodes
             (every_map GivesNone (λ (e : Event). e.kind ≢ PushFree) no_push own gives)
             (limbo_but (Some x.index) v old.nodes h.limbo_of);
-        got = makes_got v m own z v.front (Some x.index) [] (of_mark (GetsNone (Some x.index))
-            (freeze_head_event v x) c.found (gets_head v x c.found)) c.makes got;
+        got = λ all. makes_got v m own z v.front (Some x.index) [] (of_mark (GetsNone (Some x.index))
+            (freeze_head_event v x) c.found (gets_head v x c.found)) c.makes (got all);
       };
     }
   where
@@ -187,8 +188,9 @@ buries_first v m x old f z h c =
             ≡ true
         later ne i = subst (λ (b : Bool). (b || stands_in (map index_in rs) y) ≡ true) (ne_eqb (index_in r) y ne) i
 
-    retired_list : (y : ℕ) → y ≢ x.index → IsSpentVertex v.sizes v.front v.number y → IsFrozenToEnd v.sizes v.front y
-    retired_list y ne s = find y old.nodes (h.all y (record { spent = s.spent; mine = s.mine }) ne) h.limbo_of.each s
+    retired_list : HasAllSpentBut x.index v old.nodes → (y : ℕ) → y ≢ x.index
+        → IsSpentVertex v.sizes v.front v.number y → IsFrozenToEnd v.sizes v.front y
+    retired_list all y ne s = find y old.nodes (all y (record { spent = s.spent; mine = s.mine }) ne) h.limbo_of.each s
 
 -- no node of the limbo at the beginning is an edge that is handed over: such an edge stood on the list then, and the
 -- list
@@ -354,8 +356,8 @@ buries_next v t m u x y old now new f g z zt zm zu h b d look r =
             (ripe ∷ []));
         room = r.room ∙ s.room;
         limbo_of = r.limbo (Some x.index) ready.limbo_of retirable ready.out;
-        got = makes_got m u [] zm v.front (Some x.index) [] tt look
-            (makes_got t m step zt v.front (Some x.index) [] gets d.makes s.got);
+        got = λ all. makes_got m u [] zm v.front (Some x.index) [] tt look
+            (makes_got t m step zt v.front (Some x.index) [] gets d.makes (s.got all));
       };
     }
 
@@ -420,11 +422,11 @@ got_all from u but [] g = g
 got_all from u but (y ∷ ys) g = got_more u.sizes from u.front u.number y but ys (got_all from u but ys g)
 
 -- a node that is spent with the token is in the limbo: it was before, or it's one of the edges, or the vertex
-in_limbo : (v u : View) (x : Life) (old : LimboValue) (edges : List RipeValue) (ripe : RipeValue) → IsToBury old v x
-    → u.sizes ≡ v.sizes → u.number ≡ v.number → ripe.life ≡ x → (y : ℕ) →
+in_limbo : (v u : View) (x : Life) (old : LimboValue) (edges : List RipeValue) (ripe : RipeValue)
+    → HasAllSpentBut x.index v old.nodes → u.sizes ≡ v.sizes → u.number ≡ v.number → ripe.life ≡ x → (y : ℕ) →
     (IsSpentWith u.sizes v.front u.number y ⊎ (stands_in (map index_in edges) y ≡ true)) ⊎ ⊥ → IsIn
     (old.nodes ++ (edges ++ ripe ∷ [])) y
-in_limbo v u x old edges ripe h sizes number is y k = ⊎_elim
+in_limbo v u x old edges ripe all sizes number is y k = ⊎_elim
     (λ (a : IsSpentWith u.sizes v.front u.number y ⊎ (stands_in (map index_in edges) y ≡ true)). ⊎_elim
     (λ (b : IsSpentWith u.sizes v.front u.number y).
     let b' : IsSpentWith v.sizes v.front v.number y = subst (λ (s : Sizes). IsSpentWith s v.front v.number y) sizes
@@ -433,7 +435,7 @@ in_limbo v u x old edges ripe h sizes number is y k = ⊎_elim
     (λ same. in_right old.nodes (edges ++ ripe ∷ []) y (in_right edges (ripe ∷ []) y
     (subst (λ (i : ℕ). stands_in (index_in ripe ∷ []) i ≡ true) (ap (λ (l : Life). l.index) is ∙ sym same)
     (among_first [] (index_in ripe)))))
-    (λ ne. in_left old.nodes (edges ++ ripe ∷ []) y (h.all y b' ne)))
+    (λ ne. in_left old.nodes (edges ++ ripe ∷ []) y (all y b' ne)))
     (λ (c : stands_in (map index_in edges) y ≡ true). in_right old.nodes (edges ++ ripe ∷ []) y
     (in_left edges (ripe ∷ []) y c))
     a)
@@ -465,11 +467,13 @@ buried v t m u x old now new f g z zt zm zu h b d look r =
     (λ (l : Life). IsFreezing t (record { from = l; place = f.place })) s.from s.freezing)).0 in
     let leads_u : index_of (word_at u.sizes u.front f.place) ≡ nowhere = ap index_of
     (frozen_u.each f.place freezing_m).1 ∙ d.leads in
-    let got_m = makes_got t m [] zt v.front (Some x.index) [] tt d.makes s.got in
-    let got_u = makes_got m u [] zm v.front (Some x.index) [] tt look got_m in
-    let known : GotOnly u.sizes v.front u.front u.number None
-    (map index_in edges) = got_done u.sizes v.front u.front u.number x.index (map index_in edges)
-    (got_all v.front u (Some x.index) (map index_in edges) got_u) whole_u
+    let got_m : HasAllSpentBut x.index v old.nodes → HasGotOnly v.front m (Some x.index) [] = λ all.
+    makes_got t m [] zt v.front (Some x.index) [] tt d.makes (s.got all) in
+    let got_u : HasAllSpentBut x.index v old.nodes → HasGotOnly v.front u (Some x.index) [] = λ all.
+    makes_got m u [] zm v.front (Some x.index) [] tt look (got_m all) in
+    let known : HasAllSpentBut x.index v old.nodes → GotOnly u.sizes v.front u.front u.number None
+    (map index_in edges) = λ all. got_done u.sizes v.front u.front u.number x.index (map index_in edges)
+    (got_all v.front u (Some x.index) (map index_in edges) (got_u all)) whole_u
     (λ y on. contains_among (map index_in edges) y (all_handed u.sizes zu u.front third.kept x.index vertex_u.list
     (map index_in edges) f.place path_u leads_u y on)) in
     let ripe : RipeValue = record { life = x; stamp = word_at u.sizes u.front (epoch_at u.sizes) } in
@@ -488,7 +492,7 @@ buried v t m u x old now new f g z zt zm zu h b d look r =
       makes = makes_chain v t u own ([] ++ []) s.makes (makes_chain t m u [] [] d.makes look);
       frozen = whole_u;
       limbo_of = r.limbo None last.limbo_of last.retirable last.out;
-      all = λ y spent. subst (λ (l : List RipeValue). IsIn l y) (sym nodes)
-          (in_limbo v u x old edges ripe h to_u.sizes to_u.number refl y (known.old y spent));
+      all = λ all y spent. subst (λ (l : List RipeValue). IsIn l y) (sym nodes)
+          (in_limbo v u x old edges ripe all to_u.sizes to_u.number refl y ((known all).old y spent));
       room = r.room ∙ s.room;
     }

@@ -18,14 +18,13 @@ use Rattle.epoch_limbo.specs.Limbos.{LimboValue, IsLimboOf, IsOut, index_in}
 abbrev pub IsIn : List RipeValue → ℕ → Type 0
 IsIn nodes y = stands_in (map index_in nodes) y ≡ true
 
--- the token unlinked the vertex, whose list is open at its head; the limbo is of the token, has every other node that
--- the token spent, and room for all nodes
+-- the token unlinked the vertex, whose list is open at its head; the limbo is of the token, doesn't have the vertex, and
+-- has room for all nodes
 pub record IsToBury (limbo : LimboValue) (v : View) (x : Life) : Type 0 where
   pub vertex : IsUnlinkedVertex v x
   pub unclosed : (state v.sizes v.front).frozen x.index ≡ false
   pub limbo_of : IsLimboOf None v limbo.nodes
   pub out : IsOut x.index limbo.nodes
-  pub all : (y : ℕ) → IsSpentWith v.sizes v.front v.number y → y ≢ x.index → IsIn limbo.nodes y
   pub room : v.sizes.nodes ≤ limbo.room
 
 -- the event closes the vertex's list at its head, or freezes one of these edges
@@ -34,8 +33,13 @@ FreezesOf v x edges e =
     ((e.kind ≡ FreezeHead) × (e.place ≡ second_at v.sizes x.index))
     ⊎ ((e.kind ≡ FreezeEdge) × ((y : ℕ) × (stands_in edges y ≡ true) × (e.place ≡ link_at v.sizes y)))
 
+-- the limbo has every node that the token spent, but perhaps this one
+abbrev pub HasAllSpentBut : ℕ → View → List RipeValue → Type 0
+HasAllSpentBut x v nodes = (y : ℕ) → IsSpentWith v.sizes v.front v.number y → y ≢ x → IsIn nodes y
+
 -- the vertex's list is frozen to its end; its edges and then the vertex were put behind the others in the limbo, which
--- is of the token and has every node that the token spent; and the token made no other events than those of freezing
+-- is of the token; where it had every other node that the token spent, it has every one; and the token made no other
+-- events than those of freezing
 pub record IsBuried (old new : LimboValue) (v w : View) (x : Life) : Type 0 where
   pub edges : List RipeValue
   pub stamp : ℕ
@@ -46,5 +50,5 @@ pub record IsBuried (old new : LimboValue) (v w : View) (x : Life) : Type 0 wher
   pub makes : Makes v own w
   pub frozen : IsFrozenToEnd w.sizes w.front x.index
   pub limbo_of : IsLimboOf None w new.nodes
-  pub all : (y : ℕ) → IsSpentWith w.sizes w.front w.number y → IsIn new.nodes y
+  pub all : HasAllSpentBut x.index v old.nodes → (y : ℕ) → IsSpentWith w.sizes w.front w.number y → IsIn new.nodes y
   pub room : new.room ≡ old.room

@@ -25,7 +25,7 @@ pub returns-in-Some-clause-work : goal.returns-in-Some-clause-work
 returns-in-Some-clause-work c =
     let t = c.in-Some.ensures.cut c.args.limbo.now (c.mark_found.ensures.work c.args.limbo.now c.requires.work) in
     buried_work c.args.limbo.now c.bury.new.limbo c.cut.new.token.view c.bury.new.token.view c.in-Some.spent
-    c.cut.ensures.table.layout c.bury.ensures.buried t.0 t.1.room
+    c.cut.ensures.table.layout c.bury.ensures.buried t.0 t.1.room t.2
 
 pub returns-in-Some-clause-counts : goal.returns-in-Some-clause-counts
 returns-in-Some-clause-counts c =
