@@ -47,7 +47,7 @@ fn copied(alloc: Global, outcome: Outcome, scan: &Scan) -> Result<Answer, Memory
 }
 
 impl PlainGraph {
-    /// Answers a call, and makes its change. O(log V + log d); `RemoveVertex` costs O((1 + degree) log V), in-edges
+    /// Answers a call, and makes its change. O(log V); `RemoveVertex` costs O((1 + degree) log V), in-edges
     /// counted. `Reach`, `Levels` and `Cheapest` cost O(part · log V) for the vertices and edges that are reached. A
     /// cost that is answered is below 2^48.
     ///

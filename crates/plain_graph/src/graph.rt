@@ -102,7 +102,7 @@ impl PlainGraph {
         self.vertices.contains_key(&key)
     }
 
-    /// The weight of the edge between two keys, if there is one. O(log V + log E).
+    /// The weight of the edge between two keys, if there is one. O(log V).
     pub fn weight(&self, from: u32, to: u32) -> Option<u32>
         ensures { result ≡ weight_of self.now from to }
     {
@@ -112,8 +112,7 @@ impl PlainGraph {
         }
     }
 
-    /// The weight of the edge between two keys, if there is one; `None` where the source is no vertex.
-    /// O(log V + log E).
+    /// The weight of the edge between two keys, if there is one; `None` where the source is no vertex. O(log V).
     pub(crate) fn weight_from(&self, from: u32, to: u32) -> Option<Option<u32>>
         ensures { result ≡ cond (has self.now from) (Some (weight_of self.now from to)) None }
     {
@@ -146,7 +145,7 @@ impl PlainGraph {
         maps::enter_vertex(&mut self.vertices, self.alloc, key)
     }
 
-    /// Puts the edge between two vertices, or gives the one that is there its new weight. O(log V + log E).
+    /// Puts the edge between two vertices, or gives the one that is there its new weight. O(log V).
     ///
     /// # Errors
     /// `Memory` where there is no room for it; the graph is unchanged then.
@@ -163,7 +162,7 @@ impl PlainGraph {
     }
 
     /// Puts the edge to a vertex, or gives the one that is there its new weight, and answers the weight before; `None`
-    /// where the source is no vertex. O(log V + log E).
+    /// where the source is no vertex. O(log V).
     ///
     /// # Errors
     /// `Memory` where there is no room for it; the graph is unchanged then.
@@ -210,7 +209,7 @@ impl PlainGraph {
     }
 
     /// Takes out the edge between two keys, if there is one, and answers its weight; `None` where the source is no
-    /// vertex. O(log V + log E).
+    /// vertex. O(log V).
     pub(crate) fn cut_edge(&mut self, from: u32, to: u32) -> Option<Option<u32>>
         ensures cut { self.new ≡ change self.old (Call.RemoveEdge from to) }
         ensures was { result ≡ cond (has self.old from) (Some (weight_of self.old from to)) None }

@@ -15,7 +15,7 @@ use graph_kinds::Memory;
 use std::alloc::Global;
 
 /// Puts an edge between two vertices, or its new weight, and answers the weight before; `None` where the source isn't
-/// there. O(log V + log E).
+/// there. O(log V).
 ///
 /// # Errors
 /// `Memory` where there is no room for it; all look-ups are as before then.
@@ -52,7 +52,7 @@ pub fn insert_edge(
     }
 }
 
-/// Takes out an edge, if there is one, and answers its weight; `None` where the source isn't there. O(log V + log E).
+/// Takes out an edge, if there is one, and answers its weight; `None` where the source isn't there. O(log V).
 pub fn remove_edge(
     vertices: &mut Vertices,
     sources: &mut Vertices,

@@ -48,7 +48,7 @@ pub fn enter_vertex(vertices: &mut Vertices, alloc: Global, key: u32) -> Result<
 }
 
 /// Puts an edge out of a vertex, or its new weight, and answers the weight before; `None` where the vertex isn't there.
-/// O(log V + log E).
+/// O(log V).
 ///
 /// # Errors
 /// `Memory` where there is no room for it; all look-ups are as before then.
@@ -78,7 +78,7 @@ pub fn insert_edge(
 }
 
 /// Puts an edge out of a vertex, or its new weight, and answers the weight before; where the vertex isn't there, it's
-/// put without edges before. O(log V + log E).
+/// put without edges before. O(log V).
 ///
 /// # Errors
 /// `Memory` where there is no room for it; the weights are as before then.
@@ -105,7 +105,7 @@ pub fn insert_edge_anywhere(
     }
 }
 
-/// The weight of an edge, if there is one; `None` where its source isn't there. O(log V + log E).
+/// The weight of an edge, if there is one; `None` where its source isn't there. O(log V).
 pub fn weight_from(vertices: &Vertices, from: u32, to: u32) -> Option<Option<u32>>
     ensures { result ≡ cond (holds vertices.now from) (Some (weight_held vertices.now from to)) None }
 {
@@ -115,7 +115,7 @@ pub fn weight_from(vertices: &Vertices, from: u32, to: u32) -> Option<Option<u32
     }
 }
 
-/// Takes out an edge, if there is one, and answers its weight; `None` where its source isn't there. O(log V + log E).
+/// Takes out an edge, if there is one, and answers its weight; `None` where its source isn't there. O(log V).
 pub fn remove_edge(vertices: &mut Vertices, from: u32, to: u32) -> Option<Option<u32>>
     requires { Rises vertices.old }
     ensures rises { Rises vertices.new }
@@ -149,7 +149,7 @@ pub fn remove_edges(vertices: &mut Vertices, named: &Edges, key: u32) -> usize
     count
 }
 
-/// Takes out an edge, if there is one, and tells how many it took out, one or none. O(log V + log E).
+/// Takes out an edge, if there is one, and tells how many it took out, one or none. O(log V).
 fn remove_counted(vertices: &mut Vertices, from: u32, to: u32) -> usize
     requires { Rises vertices.old }
     ensures rises { Rises vertices.new }
