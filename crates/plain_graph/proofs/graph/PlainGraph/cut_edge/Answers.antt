@@ -19,7 +19,8 @@ invariant_of-self c =
       kept = kept-cut_edge c.self.inside.vertices c.remove_edge.new.vertices c.args.self.now c.self.view_is
           c.self.invariant.kept e.rises c.args.from c.args.to e.keys e.weights _
           (sym (ap (λ (o : Option ℕ). cond (is_some o) (c.self.inside.edges - 1) c.self.inside.edges)
-          (told_weight c.self.inside.vertices c.args.from c.args.to c.in-Some-Some.field-0 e.before ∙ c.in-Some-Some.field-0-is)));
+          (told_weight c.self.inside.vertices c.args.from c.args.to c.in-Some-Some.field-0 e.before
+          ∙ c.in-Some-Some.field-0-is)));
     }
 
 pub returns-in-Some-Some-clause-cut : goal.returns-in-Some-Some-clause-cut
@@ -43,7 +44,8 @@ invariant_of-self-in-Some-None c =
       kept = kept-cut_edge c.self.inside.vertices c.remove_edge.new.vertices c.args.self.now c.self.view_is
           c.self.invariant.kept e.rises c.args.from c.args.to e.keys e.weights _
           (sym (ap (λ (o : Option ℕ). cond (is_some o) (c.self.inside.edges - 1) c.self.inside.edges)
-          (told_weight c.self.inside.vertices c.args.from c.args.to c.in-Some-None.field-0 e.before ∙ c.in-Some-None.field-0-is)));
+          (told_weight c.self.inside.vertices c.args.from c.args.to c.in-Some-None.field-0 e.before
+          ∙ c.in-Some-None.field-0-is)));
     }
 
 pub returns-in-Some-None-clause-cut : goal.returns-in-Some-None-clause-cut
