@@ -3,7 +3,7 @@
 //! The index is a second map of the same form, with each edge the other way round (`IsMirror` of
 //! `specs/Kept.antt`). So the sources of a vertex are found without a look at any other vertex. A vertex comes into the
 //! index with the first edge that leads to it. All functions leave the maps mirrored; what they leave is said by
-//! look-ups in the first map.
+//! look-ups in the first map, and how many edges a removal takes out by the graph that it holds.
 
 ghost use Rattle.std.specs.Prelude.{◌≡◌, ℕ, ◌+◌, ◌==◌, ◌&&◌, ◌||◌, true, false, cond, IfOk, OnOk, OnErr};
 ghost use Rattle.std.specs.Prelude.{Some, None, IfSome, is_some};

@@ -1,7 +1,8 @@
 //! A map of vertices: of each the map of its edges, which has the weight of each by the key of its other end.
 //!
 //! A plain graph has two of them, which `index` keeps alike. What the functions leave is said by look-ups (`holds`
-//! and `weight_held` of `specs/Kept.antt`); all of them keep `Rises`.
+//! and `weight_held` of `specs/Kept.antt`), and how many edges a removal takes out by the graph that the maps hold; all
+//! of them keep `Rises`.
 
 ghost use Rattle.std.specs.Prelude.{◌≡◌, ℕ, ◌+◌, ◌≤◌, ◌==◌, ◌&&◌, true, false, cond, not, IfOk, OnOk, OnErr};
 ghost use Rattle.std.specs.Prelude.{Some, None, IsSome, IfSome, IfNone};
