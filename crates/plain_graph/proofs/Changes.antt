@@ -1,6 +1,6 @@
 -- What a change of the graph leaves at each key and at each pair, how it counts, and that it leaves a graph.
-use Rattle.std.proofs.Common.{◌≡◌, ℕ, zero, suc, ◌+◌, ◌-◌, ◌<◌, ◌≤◌, ◌==◌, ◌&&◌, ◌||◌, not, Bool, true, false, cond}
-use Rattle.std.proofs.Common.{Option, Some, None, is_some, true≢false, refl, sym, ap, ap₂, subst, ◌∙◌, arith, eqb-true}
+use Rattle.std.proofs.Common.{◌≡◌, ℕ, zero, suc, ◌+◌, ◌-◌, ◌≤◌, ◌==◌, ◌&&◌, ◌||◌, not, Bool, true, false, cond}
+use Rattle.std.proofs.Common.{Option, Some, None, is_some, true≢false, refl, sym, ap, ap₂, ◌∙◌, arith, eqb-true}
 use Rattle.std.specs.Cmp.{nat_cmp_total, nat_eq_equiv}
 use Rattle.std.specs.FinMap as finite_map
 use Rattle.std.specs.FinSet as finite_set
@@ -42,7 +42,7 @@ weight-without g k a b =
     by false false = refl
 
 -- where no pair has the key, none is lost with it
-pub weight-bare : (g : Graph) (k : ℕ) → ((a : ℕ) → weight_of g a k ≡ None) → ((b : ℕ) → weight_of g k b ≡ None) →
+weight-bare : (g : Graph) (k : ℕ) → ((a : ℕ) → weight_of g a k ≡ None) → ((b : ℕ) → weight_of g k b ≡ None) →
     (a b : ℕ) → weight_of (without g k) a b ≡ weight_of g a b
 weight-bare g k no_source no_target a b = weight-without g k a b ∙ by (k == a) (k == b) refl refl
   where
@@ -50,25 +50,6 @@ weight-bare g k no_source no_target a b = weight-without g k a b ∙ by (k == a)
     by true t p q = sym (ap (λ x. weight_of g x b) (sym (eqb-true k a p)) ∙ no_target b)
     by false true p q = sym (ap (weight_of g a) (sym (eqb-true k b q)) ∙ no_source a)
     by false false p q = refl
-
-pub pairs-bare : (g : Graph) (k : ℕ) → ((a : ℕ) → weight_of g a k ≡ None) → ((b : ℕ) → weight_of g k b ≡ None)
-    → pair_count (without g k) ≡ pair_count g
-pairs-bare g k no_source no_target = ap pair_count (same_graph (without g k) (record (without g k) { pairs = g.pairs })
-    (λ q. refl) (weight-bare g k no_source no_target))
-
--- a graph without the pairs of a key loses no more with it
-pub without-cut : (g h : Graph) (k : ℕ) → ((q : ℕ) → has h q ≡ has g q) →
-    ((a b : ℕ) → weight_of h a b ≡ cond (k == a) None (cond (k == b) None (weight_of g a b)))
-    → without h k ≡ without g k
-without-cut g h k keys weights = same_graph (without h k) (without g k)
-    (λ q. has-without h k q ∙ (ap (cond (k == q) false) (keys q) ∙ sym (has-without g k q)))
-    (λ a b. weight-without h k a b ∙ (ap (cond ((k == a) || (k == b)) None) (weights a b) ∙
-    (by (k == a) (k == b) (weight_of g a b) ∙ sym (weight-without g k a b))))
-  where
-    by : (s t : Bool) (w : Option ℕ) → cond (s || t) None (cond s None (cond t None w)) ≡ cond (s || t) None w
-    by true t w = refl
-    by false true w = refl
-    by false false w = refl
 
 -- a key that is no vertex takes nothing with it
 pub without-absent : (g : Graph) (k : ℕ) → IsGraph g → has g k ≡ false → without g k ≡ g
@@ -117,16 +98,6 @@ absent-cut_edge g x y none = same_graph _ g (λ q. refl) (λ a b. weight-cut g x
     by a b true true p q = sym none ∙ ap₂ (weight_of g) (eqb-true x a p) (eqb-true y b q)
     by a b true false p q = refl
     by a b false t p q = refl
-
--- where an edge is taken out that leads to another key, or from another one, the weight stays
-pub weight-cut_to : (g : Graph) (x y a b : ℕ) → (y == b) ≡ false → weight_of
-    (change g (RemoveEdge x y)) a b ≡ weight_of g a b
-weight-cut_to g x y a b other = weight-cut g x y a b ∙ (ap (λ t. cond ((x == a) && t) None (weight_of g a b)) other
-    ∙ elim (x == a) as (λ s. cond (s && false) None (weight_of g a b) ≡ weight_of g a b) [ true ↦ refl | false ↦ refl ])
-
-pub weight-cut_from : (g : Graph) (x y a b : ℕ) → (x == a) ≡ false → weight_of
-    (change g (RemoveEdge x y)) a b ≡ weight_of g a b
-weight-cut_from g x y a b other = weight-cut g x y a b ∙ ap (λ s. cond (s && (y == b)) None (weight_of g a b)) other
 
 -- what makes a graph sound, pair by pair
 pub record IsSoundPair (g : Graph) (a b w : ℕ) : Type 0 where
@@ -251,14 +222,6 @@ some_pair g a b there = by (pair_count g) refl
         (finite_map.empty_of_len g.pairs (sym e)) ∙ finite_map.get-empty pair_cmp (a, b) in
         absurd (true≢false (sym there ∙ ap is_some nothing))
     by (suc count) e = omega arith
-
--- a pair that is taken out is one less
-pub fewer_pairs : (g h : Graph) (a b : ℕ) → h ≡ change g (RemoveEdge a b) → is_some (weight_of g a b) ≡ true
-    → pair_count h < pair_count g
-fewer_pairs g h a b is there =
-    let less : pair_count (change g (RemoveEdge a b)) ≡ pair_count g - 1 = finite_map.len-remove pair_total g.pairs
-    (a, b) ∙ ap (λ t. cond t (pair_count g - 1) (pair_count g)) there in
-    subst (λ (k : Graph). pair_count k < pair_count g) (sym is) (omega (arith, some_pair g a b there, less))
 
 pub count-cut_edge : (g : Graph) (a b : ℕ) → count_of (change g (RemoveEdge a b)) ≤ count_of g
 count-cut_edge g a b = omega (

@@ -6,4 +6,5 @@ pub mod Replays
 pub mod Steps
 pub mod Texts
 pub mod Collects
+pub mod Cuts
 pub mod Numbering

@@ -124,6 +124,14 @@ pub source_gone : (t : Bool) (x : Option ℕ) (r : Option (Option ℕ)) → r �
 source_gone true x r e f = let no : None ≡ Some x = sym f ∙ e in absurd (cc)
 source_gone false x r e f = refl
 
+-- no edge leads from a key that isn't there
+pub no_edge_from : (g : Graph) (a b : ℕ) → IsGraph g → has g a ≡ false → weight_of g a b ≡ None
+no_edge_from g a b sound gone = by (weight_of g a b) refl
+  where
+    by : (o : Option ℕ) → weight_of g a b ≡ o → weight_of g a b ≡ None
+    by None e = e
+    by (Some w) e = absurd (true≢false (sym (sound.from_key a b w e) ∙ gone))
+
 -- where one of two keys isn't there, an add of an edge between them is answered so, and leaves all
 module _ (g : Graph) (a b w : ℕ) (lacks : (has g a && has g b) ≡ false) where
   pub lacks_end : plain out.NoVertex ≡ answer g (AddEdge a b w)
@@ -177,6 +185,14 @@ module _ (g : Graph) (a b : ℕ) (none : weight_of g a b ≡ None) where
     no_edge_left = sym (ap (λ t. cond t (change g (RemoveEdge a b)) g)
         (ap (λ x. is_change x) is ∙ quiet (has g a && has g b)))
         ∙ after_outcome g (RemoveEdge a b) o no_edge_removed
+
+-- which keys are there, by the source and then by the target
+pub by_source : (s t : Bool) → s ≡ false → out.NoVertex ≡ cond (s && t) out.NoEdge out.NoVertex
+by_source s t gone = sym (ap (λ x. cond (x && t) out.NoEdge out.NoVertex) gone)
+
+pub by_target : (s t : Bool) (o : Outcome) → s ≡ true → o ≡ cond t out.NoEdge out.NoVertex → o ≡ cond (s && t)
+    out.NoEdge out.NoVertex
+by_target s t o there is = is ∙ sym (ap (λ x. cond (x && t) out.NoEdge out.NoVertex) there)
 
 -- what equals a weight is that weight
 pub is_some_of : (x : Option ℕ) (w : ℕ) → true ≡ option_eq eqb x (Some w) → x ≡ Some w

@@ -1,8 +1,7 @@
 -- What a step on the maps makes of the graph that they hold, and that the maps keep what they keep.
 use Rattle.std.proofs.Common.{◌≡◌, ℕ, ◌+◌, ◌-◌, ◌<◌, ◌≤◌, ◌==◌, ◌&&◌, ◌||◌, false, List, [], true, cond, Option, Some}
 use Rattle.std.proofs.Common.{None, Result, Ok, Err, OnOk, OnErr, is_some, refl, sym, ap, subst, ◌∙◌, arith, eqb-true}
-use Rattle.std.proofs.Common.{Bool}
-use Rattle.std.specs.Prelude.{IsSome, IfSome, IfNone}
+use Rattle.std.proofs.Common.{Bool, true≢false}
 use Rattle.std.specs.Ordering.{nat_cmp}
 use Rattle.std.specs.BTreeMap.{IsOrdered, get, is_at}
 use Rattle.std.specs.Map.{lookup}
@@ -14,7 +13,7 @@ use Rattle.graph_kinds.specs.Graph.{Graph, pair_cmp, empty_graph, has, weight_of
 use Rattle.graph_kinds.specs.Answer.{change, without}
 use Rattle.plain_graph.specs.Kept.{Edges, Vertices, graph_in_maps, holds, weight_held, weight_by, Rises, IsCountedGraph}
 use Rattle.plain_graph.specs.Kept.{IsMirror, IsIndexedGraph}
-use Rattle.plain_graph.proofs.Changes.{count_of, has-add, has-without, weight-bare, pairs-bare, weight-add, weight-cut}
+use Rattle.plain_graph.proofs.Changes.{count_of, has-add, has-without, weight-without, weight-add, weight-cut}
 use Rattle.plain_graph.proofs.Changes.{sound-add_vertex, sound-without, sound-add_edge, sound-cut_edge}
 use Rattle.plain_graph.proofs.Changes.{count-add_vertex, count-add_edge, count-without, count-cut_edge, some_pair}
 use Rattle.plain_graph.proofs.Held.{has-held, weight-held, graph_from_held, held-empty}
@@ -86,34 +85,18 @@ module _ (m n : Vertices) (k : ℕ) (others : (q : ℕ) → (k == q) ≡ false �
       by true e = ap (holds n) (sym (eqb-true k q e)) ∙ (same ∙ ap (holds m) (eqb-true k q e))
       by false e = others q e
 
--- what is looked up in the maps or in their index is the weight of the graph
+-- what is looked up in the maps is the weight of the graph
 module _ (m sources : Vertices) {edges : ℕ} (g : Graph) (view : graph_in_maps m ≡ g)
     (kept : IsIndexedGraph m sources edges) where
   pub weight-looked_up : (a b : ℕ) → weight_held m a b ≡ weight_of g a b
   weight-looked_up a b = sym (weight-held m kept.kept.rising.outer a b) ∙ ap (λ (h : Graph). weight_of h a b) view
 
-  weight-mirrored : (a b : ℕ) → weight_held sources b a ≡ weight_of g a b
-  weight-mirrored a b = kept.mirror.weights a b ∙ weight-looked_up a b
-
-  pub some-source : (k : ℕ) (r : Option ℕ) → IfSome r (λ a. IsSome (weight_held sources k a)) → IfSome r
-      (λ a. IsSome (weight_of g a k))
-  some-source k None h = tt
-  some-source k (Some a) h = subst IsSome (weight-mirrored a k) h
-
-  pub no-source : (k : ℕ) (r : Option ℕ) → IfNone r ((a : ℕ) → weight_held sources k a ≡ None) → IfNone r
-      ((a : ℕ) → weight_of g a k ≡ None)
-  no-source k None h = λ a. sym (weight-mirrored a k) ∙ h a
-  no-source k (Some a) h = tt
-
-  pub some-target : (k : ℕ) (r : Option ℕ) → IfSome r (λ b. IsSome (weight_held m k b)) → IfSome r
-      (λ b. IsSome (weight_of g k b))
-  some-target k None h = tt
-  some-target k (Some b) h = subst IsSome (weight-looked_up k b) h
-
-  pub no-target : (k : ℕ) (r : Option ℕ) → IfNone r ((b : ℕ) → weight_held m k b ≡ None) → IfNone r
-      ((b : ℕ) → weight_of g k b ≡ None)
-  no-target k None h = λ b. sym (weight-looked_up k b) ∙ h b
-  no-target k (Some b) h = tt
+  -- and so is what is told of an edge by its source
+  pub told-looked_up : (a b : ℕ) → cond (holds m a) (Some (weight_held m a b)) None ≡ cond (has g a)
+      (Some (weight_of g a b)) None
+  told-looked_up a b =
+      let there = sym (has-held m a) ∙ ap (λ (h : Graph). has h a) view in
+      λ i. cond (there i) (Some (weight-looked_up a b i)) None
 
 module _ (m n : Vertices) {edges : ℕ} (g : Graph) (view : graph_in_maps m ≡ g) (kept : IsCountedGraph m edges)
     (rises : Rises n) where
@@ -153,18 +136,46 @@ module _ (m n : Vertices) {edges : ℕ} (g : Graph) (view : graph_in_maps m ≡ 
         (sound-add_vertex g k sound_now) (omega (arith, count-add_vertex g k)) edges counted_now
     kept-add_vertex (Err u) room ok err weights = kept-stays err weights
 
+    -- a vertex was taken out with the edges from and to it
     module _ (keys : (q : ℕ) → holds n q ≡ cond (k == q) false (holds m q))
-        (weights : (a b : ℕ) → weight_held n a b ≡ weight_held m a b)
-        (no_source : (a : ℕ) → weight_of g a k ≡ None) (no_target : (b : ℕ) → weight_of g k b ≡ None) where
+        (weights : (a b : ℕ) → weight_held n a b ≡ cond (k == b) None (cond (k == a) None (weight_held m a b))) where
+      either : (s t : Bool) (w : Option ℕ) → cond t None (cond s None w) ≡ cond (s || t) None w
+      either true true w = refl
+      either true false w = refl
+      either false t w = refl
+
       pub view-cut_vertex : graph_in_maps n ≡ without g k
       view-cut_vertex = graph_from_held n rises _
           (λ q. keys q ∙ (ap (cond (k == q) false) (has_now q) ∙ sym (has-without g k q)))
-          (λ a b. weights a b ∙ (weight_now a b ∙ sym (weight-bare g k no_source no_target a b)))
+          (λ a b. weights a b ∙ (either (k == a) (k == b) (weight_held m a b)
+          ∙ (ap (cond ((k == a) || (k == b)) None) (weight_now a b) ∙ sym (weight-without g k a b))))
 
-      pub kept-cut_vertex : IsCountedGraph n edges
-      kept-cut_vertex = kept_of n rises _ view-cut_vertex (sound-without g k sound_now)
-          (let less = count-without g k in omega (arith, few_now)) edges
-          (counted_now ∙ sym (pairs-bare g k no_source no_target))
+      pub kept-cut_vertex : (taken count : ℕ) → pair_count (graph_in_maps n) + taken ≡ pair_count (graph_in_maps m)
+          → count ≡ edges - taken → IsCountedGraph n count
+      kept-cut_vertex taken count less counted = kept_of n rises _ view-cut_vertex (sound-without g k sound_now)
+          (let fewer = count-without g k in omega (arith, few_now)) count
+          (let now = ap pair_count view-cut_vertex in omega (arith, less, counted, kept.counted, now))
+
+    -- a vertex that isn't there took nothing with it
+    module _ (absent : holds m k ≡ false) where
+      pub keys-absent : ((q : ℕ) → holds n q ≡ cond (k == q) false (holds m q)) → (q : ℕ) → holds n q ≡ holds m q
+      keys-absent keys q = keys q ∙ by (k == q) refl
+        where
+          by : (t : Bool) → (k == q) ≡ t → cond t false (holds m q) ≡ holds m q
+          by true e = sym (sym (ap (holds m) (eqb-true k q e)) ∙ absent)
+          by false e = refl
+
+      pub weights-absent : ((a b : ℕ) → weight_held n a b ≡ cond (k == a) None (weight_held m a b)) → (a b : ℕ)
+          → weight_held n a b ≡ weight_held m a b
+      weights-absent weights a b = weights a b ∙ by (k == a) refl
+        where
+          gone : (o : Option Edges) → is_some o ≡ false → None ≡ weight_by o b
+          gone None e = refl
+          gone (Some edges) e = absurd (true≢false e)
+
+          by : (t : Bool) → (k == a) ≡ t → cond t None (weight_held m a b) ≡ weight_held m a b
+          by true e = gone (get nat_cmp m a) (sym (ap (holds m) (eqb-true k a e)) ∙ absent)
+          by false e = refl
 
   module _ (x y : ℕ) (keys : (q : ℕ) → holds n q ≡ holds m q) where
     pub view-add_edge : (w : ℕ) → ((a b : ℕ) → weight_held n a b ≡ cond ((x == a) && (y == b)) (Some w)

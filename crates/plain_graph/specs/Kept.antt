@@ -31,6 +31,11 @@ abbrev pub edges_in : List Edges → ℕ
 edges_in [] = 0
 edges_in (e ∷ es) = btree_map_len e + edges_in es
 
+-- how many edges lead out of a vertex that may not be there
+abbrev pub edges_out : Option Edges → ℕ
+edges_out None = 0
+edges_out (Some edges) = btree_map_len edges
+
 -- whether the maps hold a vertex with this key
 abbrev pub holds : Vertices → ℕ → Bool
 holds m k = is_some (get nat_cmp m k)

@@ -47,7 +47,7 @@ fn copied(alloc: Global, outcome: Outcome, scan: &Scan) -> Result<Answer, Memory
 }
 
 impl PlainGraph {
-    /// Answers a call, and makes its change. O(log V + log d); `RemoveVertex` costs O((1 + degree) log V), in-edges
+    /// Answers a call, and makes its change. O(log V); `RemoveVertex` costs O((1 + degree) log V), in-edges
     /// counted. `Reach`, `Levels` and `Cheapest` cost O(part · log V) for the vertices and edges that are reached. A
     /// cost that is answered is below 2^48.
     ///
@@ -143,35 +143,41 @@ impl PlainGraph {
         Ok(put_in_place_of(before))
     }
 
-    /// Takes the edge out where it is there; where it isn't, looks which keys are.
+    /// Takes the edge out where it is there; where its source has none to the target, looks whether that is there.
     fn remove_edge(&mut self, from: u32, to: u32) -> Outcome
         ensures answer { plain result ≡ answer self.old (Call.RemoveEdge from to) }
         ensures change { self.new ≡ after self.old (Call.RemoveEdge from to) }
     {
         self.allocator();
-        match self.cut_edge(from, to) {
+        let Some(before) = self.cut_edge(from, to) else {
+            return Outcome::NoVertex;
+        };
+        match before {
             Some(weight) => Outcome::Removed(weight),
-            None => self.without_edge(from, to),
+            None => self.without_edge(to),
         }
     }
 
-    /// The weight of the edge, as an answer; where it isn't there, looks which keys are.
+    /// The weight of the edge, as an answer; where its source has none to the target, looks whether that is there.
     fn has_edge(&self, from: u32, to: u32) -> Outcome
         ensures answer { plain result ≡ answer self.now (Call.HasEdge from to) }
         ensures change { self.now ≡ after self.now (Call.HasEdge from to) }
     {
         self.allocator();
-        match self.weight(from, to) {
+        let Some(held) = self.weight_from(from, to) else {
+            return Outcome::NoVertex;
+        };
+        match held {
             Some(weight) => Outcome::Edge(weight),
-            None => self.without_edge(from, to),
+            None => self.without_edge(to),
         }
     }
 
-    /// What is answered of two keys between which there is no edge.
-    fn without_edge(&self, from: u32, to: u32) -> Outcome
-        ensures { result ≡ cond (has self.now from && has self.now to) Outcome.NoEdge Outcome.NoVertex }
+    /// What is answered of a vertex and a key to which no edge leads from it.
+    fn without_edge(&self, to: u32) -> Outcome
+        ensures { result ≡ cond (has self.now to) Outcome.NoEdge Outcome.NoVertex }
     {
-        if self.has_both(from, to) {
+        if self.has(to) {
             Outcome::NoEdge
         } else {
             Outcome::NoVertex

@@ -102,7 +102,7 @@ impl PlainGraph {
         self.vertices.contains_key(&key)
     }
 
-    /// The weight of the edge between two keys, if there is one. O(log V + log E).
+    /// The weight of the edge between two keys, if there is one. O(log V).
     pub fn weight(&self, from: u32, to: u32) -> Option<u32>
         ensures { result ≡ weight_of self.now from to }
     {
@@ -110,6 +110,13 @@ impl PlainGraph {
             Some(edges) => edges.get(&to).copied(),
             None => None,
         }
+    }
+
+    /// The weight of the edge between two keys, if there is one; `None` where the source is no vertex. O(log V).
+    pub(crate) fn weight_from(&self, from: u32, to: u32) -> Option<Option<u32>>
+        ensures { result ≡ cond (has self.now from) (Some (weight_of self.now from to)) None }
+    {
+        maps::weight_from(&self.vertices, from, to)
     }
 
     /// Makes the key a vertex; one that is there keeps its edges. O(log V).
@@ -138,7 +145,7 @@ impl PlainGraph {
         maps::enter_vertex(&mut self.vertices, self.alloc, key)
     }
 
-    /// Puts the edge between two vertices, or gives the one that is there its new weight. O(log V + log E).
+    /// Puts the edge between two vertices, or gives the one that is there its new weight. O(log V).
     ///
     /// # Errors
     /// `Memory` where there is no room for it; the graph is unchanged then.
@@ -155,7 +162,7 @@ impl PlainGraph {
     }
 
     /// Puts the edge to a vertex, or gives the one that is there its new weight, and answers the weight before; `None`
-    /// where the source is no vertex. O(log V + log E).
+    /// where the source is no vertex. O(log V).
     ///
     /// # Errors
     /// `Memory` where there is no room for it; the graph is unchanged then.
@@ -186,75 +193,35 @@ impl PlainGraph {
     }
 
     /// Takes out a vertex with its edges and the edges to it, and tells whether it was there. O((1 + degree) log V),
-    /// in-edges counted.
+    /// in-edges counted, and O(log V) by one look-up where it isn't there.
     pub(crate) fn cut_vertex(&mut self, key: u32) -> bool
         ensures cut { self.new ≡ change self.old (Call.RemoveVertex key) }
         ensures was { result ≡ has self.old key }
         ensures sound { IsGraph self.old }
     {
-        self.allocator();
-        self.cut_edges_to(key);
-        self.cut_edges_from(key);
-        self.cut_bare_vertex(key)
-    }
-
-    /// Takes out a vertex that no edge leads from or to, and tells whether it was there. O(log V).
-    fn cut_bare_vertex(&mut self, key: u32) -> bool
-        requires no_source { (a : ℕ) → weight_of self.old a key ≡ None }
-        requires no_target { (b : ℕ) → weight_of self.old key b ≡ None }
-        ensures cut { self.new ≡ change self.old (Call.RemoveVertex key) }
-        ensures was { result ≡ has self.old key }
-    {
+        let Some(outward) = index::remove_vertex(&mut self.vertices, &mut self.sources, key) else {
+            return false;
+        };
+        let inward = index::remove_edges_to(&mut self.vertices, &mut self.sources, key);
+        self.edges -= (outward + inward) as u32;
         self.numbers.forget(key);
-        index::remove_vertex(&mut self.vertices, &mut self.sources, key)
+        true
     }
 
-    /// Takes out the edges that lead to a key. O(in-degree · log V).
-    fn cut_edges_to(&mut self, key: u32)
-        ensures keys { (q : ℕ) → has self.new q ≡ has self.old q }
-        ensures weights { (a b : ℕ) → weight_of self.new a b ≡ cond (key == b) None (weight_of self.old a b) }
-    {
-        while let Some(from) = self.source_of(key) {
-            self.cut_edge(from, key);
-        }
-    }
-
-    /// Takes out the edges that lead from a key. O(out-degree · log V).
-    fn cut_edges_from(&mut self, key: u32)
-        ensures keys { (q : ℕ) → has self.new q ≡ has self.old q }
-        ensures weights { (a b : ℕ) → weight_of self.new a b ≡ cond (key == a) None (weight_of self.old a b) }
-    {
-        while let Some(to) = self.target_of(key) {
-            self.cut_edge(key, to);
-        }
-    }
-
-    /// The least key from which an edge leads to this one, if there is any. O(log V).
-    fn source_of(&self, key: u32) -> Option<u32>
-        ensures some { IfSome result (λ from. IsSome (weight_of self.now from key)) }
-        ensures none { IfNone result ((a : ℕ) → weight_of self.now a key ≡ None) }
-    {
-        maps::first_target(&self.sources, key)
-    }
-
-    /// The least key to which an edge leads from this one, if there is any. O(log V).
-    fn target_of(&self, key: u32) -> Option<u32>
-        ensures some { IfSome result (λ to. IsSome (weight_of self.now key to)) }
-        ensures none { IfNone result ((b : ℕ) → weight_of self.now key b ≡ None) }
-    {
-        maps::first_target(&self.vertices, key)
-    }
-
-    /// Takes out the edge between two keys, if there is one, and answers its weight. O(log V + log E).
-    pub(crate) fn cut_edge(&mut self, from: u32, to: u32) -> Option<u32>
+    /// Takes out the edge between two keys, if there is one, and answers its weight; `None` where the source is no
+    /// vertex. O(log V).
+    pub(crate) fn cut_edge(&mut self, from: u32, to: u32) -> Option<Option<u32>>
         ensures cut { self.new ≡ change self.old (Call.RemoveEdge from to) }
-        ensures was { result ≡ weight_of self.old from to }
+        ensures was { result ≡ cond (has self.old from) (Some (weight_of self.old from to)) None }
     {
-        let weight = index::remove_edge(&mut self.vertices, &mut self.sources, from, to);
-        if weight.is_some() {
-            self.edges -= 1;
+        match index::remove_edge(&mut self.vertices, &mut self.sources, from, to) {
+            Some(Some(weight)) => {
+                self.edges -= 1;
+                Some(Some(weight))
+            }
+            Some(None) => Some(None),
+            None => None,
         }
-        weight
     }
 
     /// A scan that holds the part that is reached from a root, with the root's row first and no answer yet.

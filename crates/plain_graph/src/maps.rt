@@ -1,11 +1,13 @@
 //! A map of vertices: of each the map of its edges, which has the weight of each by the key of its other end.
 //!
 //! A plain graph has two of them, which `index` keeps alike. What the functions leave is said by look-ups (`holds`
-//! and `weight_held` of `specs/Kept.antt`); all of them keep `Rises`.
+//! and `weight_held` of `specs/Kept.antt`), and how many edges a removal takes out by the graph that the maps hold; all
+//! of them keep `Rises`.
 
 ghost use Rattle.std.specs.Prelude.{◌≡◌, ℕ, ◌+◌, ◌≤◌, ◌==◌, ◌&&◌, true, false, cond, not, IfOk, OnOk, OnErr};
 ghost use Rattle.std.specs.Prelude.{Some, None, IsSome, IfSome, IfNone};
-ghost use Rattle.plain_graph.specs.Kept.{Rises, holds, weight_held};
+ghost use Rattle.graph_kinds.specs.Graph.{pair_count};
+ghost use Rattle.plain_graph.specs.Kept.{Rises, holds, weight_held, edges_out, graph_in_maps};
 ghost use Rattle.std.specs.Ordering.{nat_cmp};
 ghost use Rattle.std.specs.BTreeMap.{get};
 
@@ -47,7 +49,7 @@ pub fn enter_vertex(vertices: &mut Vertices, alloc: Global, key: u32) -> Result<
 }
 
 /// Puts an edge out of a vertex, or its new weight, and answers the weight before; `None` where the vertex isn't there.
-/// O(log V + log E).
+/// O(log V).
 ///
 /// # Errors
 /// `Memory` where there is no room for it; all look-ups are as before then.
@@ -77,7 +79,7 @@ pub fn insert_edge(
 }
 
 /// Puts an edge out of a vertex, or its new weight, and answers the weight before; where the vertex isn't there, it's
-/// put without edges before. O(log V + log E).
+/// put without edges before. O(log V).
 ///
 /// # Errors
 /// `Memory` where there is no room for it; the weights are as before then.
@@ -104,39 +106,77 @@ pub fn insert_edge_anywhere(
     }
 }
 
-/// Takes out an edge, if there is one, and answers its weight. O(log V + log E).
-pub fn remove_edge(vertices: &mut Vertices, from: u32, to: u32) -> Option<u32>
+/// The weight of an edge, if there is one; `None` where its source isn't there. O(log V).
+pub fn weight_from(vertices: &Vertices, from: u32, to: u32) -> Option<Option<u32>>
+    ensures { result ≡ cond (holds vertices.now from) (Some (weight_held vertices.now from to)) None }
+{
+    match vertices.get(&from) {
+        Some(edges) => Some(edges.get(&to).copied()),
+        None => None,
+    }
+}
+
+/// Takes out an edge, if there is one, and answers its weight; `None` where its source isn't there. O(log V).
+pub fn remove_edge(vertices: &mut Vertices, from: u32, to: u32) -> Option<Option<u32>>
     requires { Rises vertices.old }
     ensures rises { Rises vertices.new }
     ensures keys { (q : ℕ) → holds vertices.new q ≡ holds vertices.old q }
     ensures weights { (a b : ℕ)
         → weight_held vertices.new a b ≡ cond ((from == a) && (to == b)) None (weight_held vertices.old a b) }
-    ensures before { result ≡ weight_held vertices.old from to }
+    ensures before { result ≡ cond (holds vertices.old from) (Some (weight_held vertices.old from to)) None }
 {
     match vertices.get_mut(&from) {
-        Some(edges) => edges.remove(&to),
+        Some(edges) => Some(edges.remove(&to)),
         None => None,
     }
 }
 
-/// Takes out a vertex with the edges out of it, and tells whether it was there. O(log V), and O(1) for each of them.
-pub fn remove_vertex(vertices: &mut Vertices, key: u32) -> bool
+/// Takes out the edges that lead to a key from the vertices that are named, which are all from which one leads there,
+/// and tells how many they were. O(n log V) for n names.
+pub fn remove_edges(vertices: &mut Vertices, named: &Edges, key: u32) -> usize
+    requires rises { Rises vertices.old }
+    requires all { (a : ℕ) → IsSome (weight_held vertices.old a key) → IsSome (get nat_cmp named.now a) }
+    ensures rises { Rises vertices.new }
+    ensures keys { (q : ℕ) → holds vertices.new q ≡ holds vertices.old q }
+    ensures weights { (a b : ℕ)
+        → weight_held vertices.new a b ≡ cond (key == b) None (weight_held vertices.old a b) }
+    ensures count { pair_count (graph_in_maps vertices.new) + result ≡ pair_count (graph_in_maps vertices.old) }
+{
+    named.len();
+    let mut count = 0;
+    for (from, _) in named {
+        count += remove_counted(vertices, *from, key);
+    }
+    count
+}
+
+/// Takes out an edge, if there is one, and tells how many it took out, one or none. O(log V).
+fn remove_counted(vertices: &mut Vertices, from: u32, to: u32) -> usize
+    requires { Rises vertices.old }
+    ensures rises { Rises vertices.new }
+    ensures keys { (q : ℕ) → holds vertices.new q ≡ holds vertices.old q }
+    ensures weights { (a b : ℕ)
+        → weight_held vertices.new a b ≡ cond ((from == a) && (to == b)) None (weight_held vertices.old a b) }
+    ensures one { result ≤ 1 }
+    ensures count { pair_count (graph_in_maps vertices.new) + result ≡ pair_count (graph_in_maps vertices.old) }
+{
+    match remove_edge(vertices, from, to) {
+        Some(Some(_)) => 1,
+        Some(None) => 0,
+        None => 0,
+    }
+}
+
+/// Takes out a vertex, and answers the edges out of it; `None` where it isn't there. O(log V).
+pub fn remove_vertex(vertices: &mut Vertices, key: u32) -> Option<Edges>
     requires { Rises vertices.old }
     ensures rises { Rises vertices.new }
     ensures keys { (q : ℕ) → holds vertices.new q ≡ cond (key == q) false (holds vertices.old q) }
     ensures weights { (a b : ℕ)
         → weight_held vertices.new a b ≡ cond (key == a) None (weight_held vertices.old a b) }
-    ensures was { result ≡ holds vertices.old key }
+    ensures was { result ≡ get nat_cmp vertices.old key }
+    ensures count { pair_count (graph_in_maps vertices.new) + edges_out result
+        ≡ pair_count (graph_in_maps vertices.old) }
 {
-    vertices.remove(&key).is_some()
-}
-
-/// The least target of the edges out of a vertex; none where there is no such edge or no such vertex. O(log V + log E).
-pub fn first_target(vertices: &Vertices, from: u32) -> Option<u32>
-    ensures some { IfSome result (λ to. IsSome (weight_held vertices.now from to)) }
-    ensures none { IfNone result ((b : ℕ) → weight_held vertices.now from b ≡ None) }
-{
-    let edges = vertices.get(&from)?;
-    let (to, _) = edges.first_key_value()?;
-    Some(*to)
+    vertices.remove(&key)
 }
