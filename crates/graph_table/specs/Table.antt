@@ -1,18 +1,20 @@
 -- The contract of the table for the layers above: what each step tells its token, in the words of specs/Tokens.antt.
 -- What a step owes is one condition a kind, over the token's view (core_rule's specs/Fronts.antt), and the event that
 -- it then makes stands in core_rule's specs/OwnEvents.antt.
-use Rattle.std.specs.Prelude.{◌≡◌, ◌≢◌, ℕ, ◌-◌, ◌/◌, ◌==◌, Bool, true, false, cond, List, length}
+use Rattle.std.specs.Prelude.{◌≡◌, ◌≢◌, ℕ, ◌+◌, ◌-◌, ◌/◌, ◌==◌, ◌&&◌, Bool, true, false, cond, List, [], ◌∷◌}
+use Rattle.std.specs.Prelude.{length}
 use Rattle.graph_kinds.specs.History.{Every}
 use Rattle.graph_kinds.specs.declared.call.Call.{Call}
 use Rattle.graph_kinds.specs.declared.answer.Answer.{Answer}
 use Rattle.graph_kinds.specs.declared.entry.Class.{Class}
-use Rattle.graph_kinds.specs.declared.entry.Class.TheVariants.{Own}
+use Rattle.graph_kinds.specs.declared.entry.Class.TheVariants.{Own, Silent}
 use Rattle.graph_kinds.specs.declared.entry.Entry.{Entry}
 use Rattle.packed_link.specs.Link.{mark_of, index_of, tag_of}
 use Rattle.packed_link.specs.Layout.{Sizes, key_at, second_at, third_at}
 use Rattle.packed_link.specs.declared.link.Life.{Life}
 use Rattle.core_journal.specs.Machine.{word_at}
 use Rattle.core_journal.specs.declared.event.Event.{Event}
+use Rattle.core_journal.specs.Event.{marks_vertex, same_life}
 use Rattle.core_kept.specs.Kept.{IsQuiet}
 use Rattle.core_kept.specs.Nodes.{node_in}
 use Rattle.core_lists.specs.Chains.{life_in}
@@ -103,6 +105,17 @@ list_at v place =
 abbrev pub place_in : Class → List Event → ℕ
 place_in Own front = length front - 1
 place_in _ front = length front
+
+-- how many events of a journal there are up to the first mark of a vertex life, without it; all, where no event marks it
+abbrev pub before_mark : Life → List Event → ℕ
+before_mark x [] = 0
+before_mark x (e ∷ es) = cond (marks_vertex e.kind && same_life x e.life) 0 (1 + before_mark x es)
+
+-- the place of an entry that is told of the first mark of a vertex life: right after the mark where it's silent, and
+-- else at it
+abbrev pub place_at_mark : Class → Life → List Event → ℕ
+place_at_mark Silent x front = before_mark x front + 1
+place_at_mark _ x front = before_mark x front
 
 -- an entry before it ends
 abbrev pub entry_of : Call → ℕ → Answer → Class → ℕ → ℕ → Entry

@@ -2,14 +2,17 @@
 
 ghost use Rattle.std.specs.Prelude.{◌≡◌, ◌≢◌, ◌<◌, ◌≤◌, true, false, length};
 ghost use Rattle.graph_kinds.specs.declared.outcome.Outcome.TheVariants.{Again};
+ghost use Rattle.graph_kinds.specs.Answer.{plain};
+ghost use Rattle.core_journal.specs.Life.{vertex_marked};
 ghost use Rattle.core_rule.specs.Plays.{Drew, Met, Replied, both_fronts, newcomer, stays};
 ghost use Rattle.core_rule.specs.Rule.{AnswersForCallers};
 ghost use Rattle.graph_table.specs.Tokens.{IsOf};
-ghost use Rattle.graph_table.specs.Table.{IsWhole, entry_of, place_in};
+ghost use Rattle.graph_table.specs.Table.{IsWhole, entry_of, place_at_mark, place_in};
 
 use crate::rule::{Cut, Drawing, Glue, Meeting, Replying, Said};
 use crate::table::{GraphTable, Token};
 use graph_kinds::{Call, Class, Outcome};
+use packed_link::Life;
 use std::marker::Brand;
 use std::snapshot::Snapshot;
 
@@ -78,6 +81,50 @@ impl GraphTable {
         ensures table { IsOf self.now token.new }
     {
         self.tell::<Brand>(token, call, tries, outcome, keys, ends, class, start, place);
+    }
+
+    /// The load of `reply_at_mark`.
+    fn tell_at_mark<E: Said>(
+        &self,
+        token: &mut Token,
+        _call: &Call,
+        _tries: u32,
+        _outcome: Outcome,
+        _class: Class,
+        _start: &Snapshot<Token>,
+        _life: Life,
+    )
+        requires table { IsOf self.now token.old }
+        ensures replied { Replied token.old.view E.entry token.new.view }
+        ensures table { IsOf self.now token.new }
+    {
+        self.table.shared.load::<Replying<E>>(&mut token.seat, 0);
+    }
+
+    /// Adds an entry without keys whose place is another caller's event: the first mark of a vertex life that stands in
+    /// the token's front, in O(1), by one load; it makes no event. A silent entry stands right after the mark, one of
+    /// another class at it. It starts where the token stood at `start`, and ends at the length of the new front. Start,
+    /// class and life are for contracts alone. For the caller that finds a mark which isn't its own: no moment of its
+    /// own lies there.
+    pub fn reply_at_mark(
+        &self,
+        token: &mut Token,
+        call: &Call,
+        tries: u32,
+        outcome: Outcome,
+        class: Class,
+        start: &Snapshot<Token>,
+        life: Life,
+    )
+        requires table { IsOf self.now token.old }
+        requires start { length start.now.value.view.front ≤ length token.old.view.front }
+        requires marked { vertex_marked token.old.view.front life ≡ true }
+        ensures replied { Replied token.old.view
+            (entry_of call.now tries (plain outcome) class (length start.now.value.view.front)
+            (place_at_mark class life token.old.view.front)) token.new.view }
+        ensures table { IsOf self.now token.new }
+    {
+        self.tell_at_mark::<Brand>(token, call, tries, outcome, class, start, life);
     }
 
     /// A new token with the same front, an empty book and no number, in O(1). It has the right to draw where the other
