@@ -1,5 +1,5 @@
 -- What a token knows between the calls of a worked row, and what these tell.
-use Rattle.std.specs.Prelude.{◌≡◌, ◌≢◌, ◌⊎◌, ℕ, ◌+◌, ◌<◌, ◌≤◌, Bool, true, false, List, [], Option, None}
+use Rattle.std.specs.Prelude.{◌≡◌, ◌≢◌, ◌⊎◌, ℕ, ◌+◌, ◌<◌, ◌≤◌, Bool, true, false, List, [], ◌∷◌, Option, None}
 use Rattle.graph_kinds.specs.declared.call.Call.TheVariants.{AddVertex}
 use Rattle.packed_link.specs.Layout.{IsLayout, epoch_at, second_at}
 use Rattle.packed_link.specs.Link.{index_of, mark_of, nowhere}
@@ -14,7 +14,7 @@ use Rattle.core_journal.specs.State.{state}
 use Rattle.core_kept.specs.Counts.{made}
 use Rattle.core_kept.specs.Nodes.{IsSpentWith}
 use Rattle.core_rule.specs.Fronts.{key_in}
-use Rattle.core_rule.specs.OwnEvents.{link_edge_event}
+use Rattle.core_rule.specs.OwnEvents.{announce_event, link_edge_event, withdraw_event}
 use Rattle.core_rule.specs.Plays.{IsSound}
 use Rattle.core_rule.specs.Stretches.{HasPass}
 use Rattle.core_rule.specs.declared.view.View.{View}
@@ -58,6 +58,12 @@ pub record IsIdle (v w : View) : Type 0 where
   pub unspent : HasSpentNone v → HasSpentNone w
   pub taken : taken_by w ≡ taken_by v
   pub moved : moved_by w ≡ moved_by v
+
+-- the token closed its pass and opened the next one, and made no other event
+pub record IsRenewed (v w : View) : Type 0 where
+  pub between : View
+  pub epoch : ℕ
+  pub makes : Makes v (withdraw_event v ∷ announce_event between epoch ∷ []) w
 
 -- a node was taken and linked as a vertex of this key by the last event of the front, which adds the key to the graph
 pub record IsVertexAdded (key : ℕ) (v w : View) (x : Life) : Type 0 where
