@@ -1,7 +1,7 @@
 -- A vertex is buried, step by step: its list is closed, each of its edges is handed over and retired, and then the
 -- vertex.
-use Rattle.std.proofs.Common.{◌≡◌, ◌≢◌, ◌⊎◌, ◌==◌, ℕ, zero, suc, ◌<◌, ◌≤◌, Bool, true, false, cond, List, [], ◌∷◌, ◌++◌}
-use Rattle.std.proofs.Common.{length, append-nil, append_assoc, map, None, Some, Option, inl, inr, refl, sym, ap, ap₂}
+use Rattle.std.proofs.Common.{◌≡◌, ◌≢◌, ◌⊎◌, ◌==◌, ℕ, ◌<◌, Bool, true, false, cond, List, [], ◌∷◌, ◌++◌}
+use Rattle.std.proofs.Common.{length, append-nil, append_assoc, map, None, Some, Option, inl, inr, refl, sym, ap}
 use Rattle.std.proofs.Common.{◌∙◌, subst, arith, ⊎_elim, ne_eqb, ◌||◌}
 use Rattle.std.proofs.lemmas.List.{map-append}
 use mathlib.Core.Logic.{dite}
@@ -18,16 +18,15 @@ use Rattle.core_counts.proofs.KnownSpentNodes.{got_itself, got_begins, got_done,
 use Rattle.core_journal.specs.declared.event.Kind.TheVariants.{FreezeHead, FreezeEdge, PushFree}
 use Rattle.core_journal.specs.declared.event.Event.{Event}
 use Rattle.core_journal.specs.Machine.{word_at}
-use Rattle.core_journal.specs.State.{Fresh, Node, State, state}
+use Rattle.core_journal.specs.State.{Fresh, state}
 use Rattle.core_kept.specs.Freezing.{IsSpentVertex, IsFrozenWord}
 use Rattle.core_kept.specs.Kept.{IsKept}
-use Rattle.core_kept.specs.Nodes.{node_in, is_frozen, is_listed, IsFrozenToEnd, IsSpentWith}
-use Rattle.core_lists.specs.Chains.{IsBeingFrozen, KeepsList, list_word}
+use Rattle.core_kept.specs.Nodes.{node_in, is_listed, IsFrozenToEnd, IsSpentWith}
+use Rattle.core_lists.specs.Chains.{list_word}
 use Rattle.core_lists.specs.FrozenPaths.{FrozenPath}
 use Rattle.core_lists.proofs.ClosedHeadStays.{old_lists}
 use Rattle.core_lists.proofs.FrozenPathIsList.{path_more}
 use Rattle.core_lists.proofs.ListHoldsKept.{listing}
-use Rattle.core_rule.specs.Fronts.{IsLifeAt}
 use Rattle.core_rule.specs.OwnEvents.{freeze_head_event, freeze_edge_event}
 use Rattle.core_rule.specs.Retired.{IsRetired}
 use Rattle.core_rule.specs.Views.{Spares, Steps}

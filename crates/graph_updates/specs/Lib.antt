@@ -1,1 +1,11 @@
+pub mod Adding
 pub mod Burying
+pub mod Calls
+pub mod Ending
+pub mod Hands
+pub mod Lending
+pub mod Locating
+pub mod Opening
+pub mod Parts
+pub mod Removing
+pub mod Replying

@@ -1,5 +1,4 @@
-use Rattle.std.proofs.Common.{◌≡◌, ◌+◌, ◌∷◌, [], ℕ, List, length, length-append, ap, sym, ◌∙◌, subst, arith}
-use Rattle.graph_table.specs.Tokens.{RipeValue}
+use Rattle.std.proofs.Common.{◌≡◌, ◌+◌, ◌∷◌, [], length, length-append, ap, ◌∙◌, arith}
 use Rattle.core_stretches.proofs.MakesTell.{makes_later}
 use Rattle.core_stretches.specs.Makes.{marking}
 use Rattle.core_rule.specs.OwnEvents.{freeze_edge_event}
