@@ -1,0 +1,113 @@
+//! The rows on one thread, and two hands on two.
+
+use crate::{Turns, count_there, pair, take_both, take_turns};
+use graph_kinds::Outcome;
+use graph_table::GraphTable;
+use graph_updates::{
+    Begun, Hand, HandCause, Settled, add_vertex, begin, finish, has_vertex, remove_vertex, settle,
+};
+use packed_link::Layout;
+
+#[test]
+fn one_hand_answers_as_the_graph_of_one_caller(rt: HostRuntime) {
+    let (table, token) = GraphTable::new(rt.alloc(), Layout::new(1, 8, 1)).expect(&rt, "memory");
+    let Ok(mut hand) = Hand::new(rt.alloc(), &table, token) else {
+        panic!(rt; "a hand")
+    };
+    assert_eq!(rt; add_vertex(&table, &mut hand, 5, 1), Outcome::Added);
+    assert_eq!(rt; add_vertex(&table, &mut hand, 5, 1), Outcome::Present(0));
+    assert_eq!(rt; has_vertex(&table, &mut hand, 5, 1), Outcome::Yes);
+    assert_eq!(rt; remove_vertex(&table, &mut hand, 5, 1), Outcome::Removed(0));
+    assert_eq!(rt; remove_vertex(&table, &mut hand, 5, 1), Outcome::Absent);
+    assert_eq!(rt; has_vertex(&table, &mut hand, 5, 1), Outcome::No);
+    assert_eq!(rt; hand.uses(), 6);
+    assert!(rt; !hand.has_spare());
+}
+
+#[test]
+fn a_pass_holds_the_limbo_of_another_caller_back(rt: HostRuntime) {
+    let (table, token) = GraphTable::new(rt.alloc(), Layout::new(2, 2, 1)).expect(&rt, "memory");
+    let Ok((mut one, mut two, mut watcher)) = pair(rt.alloc(), &table, token) else {
+        panic!(rt; "two hands")
+    };
+    assert_eq!(rt; [one.number(), two.number()], [0, 1]);
+    let epoch_at = table.layout().epoch_at();
+    assert!(rt; matches!(begin(&table, &mut one), Begun::Done));
+    assert_eq!(rt; add_vertex(&table, &mut two, 5, 1), Outcome::Added);
+    assert_eq!(rt; remove_vertex(&table, &mut two, 5, 1), Outcome::Removed(0));
+    // The removal ended by moving the epoch on, though the other's pass is of epoch 0; that pass holds it at 1.
+    assert_eq!(rt; table.load(&mut watcher, epoch_at), 1);
+    assert!(rt; settle(&table, &mut two, 1) == Settled::Done(1));
+    assert_eq!(rt; two.limbo_len(), 1);
+    finish(&table, &mut one);
+    assert!(rt; settle(&table, &mut two, 1) == Settled::Done(3));
+    assert_eq!(rt; two.limbo_len(), 0);
+}
+
+#[test]
+fn a_removed_vertex_gives_its_node_back_again_and_again(rt: HostRuntime) {
+    let (table, token) = GraphTable::new(rt.alloc(), Layout::new(1, 2, 1)).expect(&rt, "memory");
+    let Ok(hand) = Hand::new(rt.alloc(), &table, token) else {
+        panic!(rt; "a hand")
+    };
+    let turns = Turns {
+        hand,
+        added: 0,
+        removed: 0,
+        refused: 0,
+    };
+    // Each add takes a node and each removal gives an older one back: two nodes are enough.
+    let turns = take_turns(&table, turns, 2000, 1);
+    assert_eq!(rt;
+        [turns.added, turns.removed, turns.refused],
+        [1000, 1000, 0]
+    );
+}
+
+#[test]
+fn what_two_hands_added_and_did_not_remove_is_there(rt: HostRuntime) {
+    // Nodes enough for each add, since a pass of the other caller may hold the limbo back for long.
+    let (table, token) = GraphTable::new(rt.alloc(), Layout::new(2, 2048, 2)).expect(&rt, "memory");
+    let Ok((one, two, _watcher)) = pair(rt.alloc(), &table, token) else {
+        panic!(rt; "two hands")
+    };
+    let one = Turns {
+        hand: one,
+        added: 0,
+        removed: 0,
+        refused: 0,
+    };
+    let two = Turns {
+        hand: two,
+        added: 0,
+        removed: 0,
+        refused: 0,
+    };
+    let (one, two) = take_both(&rt, &table, one, two, 2000, 4_000_000_000);
+    assert_eq!(rt; [one.refused, two.refused], [0, 0]);
+    let added = u64::from(one.added) + u64::from(two.added);
+    let removed = u64::from(one.removed) + u64::from(two.removed);
+    let mut hand = one.hand;
+    let zero = count_there(&table, &mut hand, 0);
+    let one_more = count_there(&table, &mut hand, 1);
+    let two_more = count_there(&table, &mut hand, 2);
+    let three_more = count_there(&table, &mut hand, 3);
+    let four_more = count_there(&table, &mut hand, 4);
+    let there = zero + one_more + two_more + three_more + four_more;
+    assert_eq!(rt; removed + there, added);
+    // Both fronts are joined.
+    let mut token = hand.into_token();
+    table.join_token(&mut token, two.hand.into_token());
+}
+
+#[test]
+fn a_third_hand_finds_no_number(rt: HostRuntime) {
+    let (table, token) = GraphTable::new(rt.alloc(), Layout::new(2, 2, 1)).expect(&rt, "memory");
+    let Ok((_one, _two, left)) = pair(rt.alloc(), &table, token) else {
+        panic!(rt; "two hands")
+    };
+    let Err(refusal) = Hand::new(rt.alloc(), &table, left) else {
+        panic!(rt; "a third hand")
+    };
+    assert!(rt; refusal.cause == HandCause::NoNumber);
+}
