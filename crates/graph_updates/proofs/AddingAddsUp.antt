@@ -8,6 +8,7 @@ use Rattle.core_journal.specs.Event.{moves, pops, raises}
 use Rattle.core_journal.specs.Prefix.{IsPrefix}
 use Rattle.core_journal.proofs.Lists.{prefix_trans}
 use Rattle.core_rule.specs.declared.view.View.{View}
+use Rattle.core_stretches.specs.Makes.{Makes}
 use Rattle.core_stretches.specs.Moments.{Carries}
 use Rattle.core_stretches.proofs.MakesAddUp.{makes_self}
 use Rattle.core_kept.specs.Counts.{made}
@@ -31,6 +32,17 @@ leaves_grows a b v w h = (makes_later v w h.own h.makes).grows
 
 pub leaves_number : (a b : ℕ) (v w : View) → LeavesGraph a b v w → w.number ≡ v.number
 leaves_number a b v w h = (makes_later v w h.own h.makes).number
+
+-- nothing was made, but by loads
+pub leaves_by_loads : (v w : View) → Makes v [] w → LeavesGraph 0 0 v w
+leaves_by_loads v w makes = record {
+  own = [];
+  makes = makes;
+  leaves = tt;
+  takes = omega arith;
+  shifts = omega arith;
+  raised = refl;
+}
 
 -- nothing was made
 pub leaves_none : (g : TableValue) (h : HandValue) → IsHandOf g h → LeavesGraph 0 0 h.token.view h.token.view
@@ -77,7 +89,8 @@ goes_on_chain a b c g h =
     }
 
 -- what fell since a later moment fell since an earlier one
-pub fell_since : (n caller : ℕ) (a b c : List Event) → IsPrefix a b → IsPrefix b c → Fell n caller b c → Fell n caller a c
+pub fell_since : (n caller : ℕ) (a b c : List Event) → IsPrefix a b → IsPrefix b c → Fell n caller b c
+    → Fell n caller a c
 fell_since n caller a b c p q f = fell_as (0 + n) n caller a c (omega arith)
     (fell_both 0 n caller a b c p q (fell_none caller a b) f)
 
@@ -172,7 +185,7 @@ tried_since g (tried.Full q) key old h new p of now n nodes helped gone k =
     let same : may_take new.spare ≡ may_take h.spare = ap may_take (bare_new ∙ sym bare) in
     let on : GoesOnBy h new = record {
       taken = 0;
-      stretch = record { own = []; makes = e.makes; leaves = tt; takes = omega arith; shifts = omega arith; raised = refl };
+      stretch = leaves_by_loads v w e.makes;
       spares = omega (arith, same);
       nodes = nodes;
       uses = k.0.uses;
@@ -200,7 +213,8 @@ tried_since g tried.Lost key old h new p of now n nodes helped gone k =
       nodes = nodes;
       uses = k.0.uses;
     } in
-    let grows = prefix_trans p.moment v.front w.front gone.there.until (makes_later v w l.first.own l.first.makes).grows in (
+    let on_to_w = (makes_later v w l.first.own l.first.makes).grows in
+    let grows = prefix_trans p.moment v.front w.front gone.there.until on_to_w in (
       goes_on_chain old h new (helped_on old h n helped) on,
       fell_since 1 w.number old.token.view.front p.moment w.front gone.there.since grows l.fell,
     )

@@ -18,7 +18,8 @@ use Rattle.graph_updates.specs.Hands.{IsRoomyLimbo}
 use Rattle.graph_updates.specs.Parts.{IsReadying, LeavesGraph}
 use Rattle.graph_updates.proofs.BurialLists.{every_both, every_map}
 use Rattle.graph_updates.proofs.AddingTells.{ready_stays}
-use Rattle.graph_updates.proofs.PartsLeave.{IsCalm, all_goes, each_kind, limbo_goes, no_kinds, pass_goes, still_numbered}
+use Rattle.graph_updates.proofs.PartsLeave.{IsCalm, all_goes, each_kind, limbo_goes, no_kinds, pass_goes}
+use Rattle.graph_updates.proofs.PartsLeave.{still_numbered}
 use Rattle.graph_updates.proofs.PartsLeave.{other_goes, still_there}
 
 -- what a kind leaves

@@ -48,7 +48,8 @@ before_is x (d ∷ ds) (suc n) e at marks life none =
     let more = before_is x ds n e at marks life (second_false (test d) (list_any test (take n ds)) none) in
     ap (λ (b : Bool). cond {A = ℕ} b 0 (1 + before_mark x ds)) not_here ∙ omega (arith, more)
 
--- the place right after the mark of a vertex that was present at a moment: there its key is gone, in each longer journal
+-- the place right after the mark of a vertex that was present at a moment: there its key is gone, in each longer
+-- journal
 pub record IsAfterMark (key place since : ℕ) (front journal : List Event) : Type 0 where
   pub low : since ≤ place
   pub high : place ≤ length front

@@ -217,7 +217,8 @@ helps_leave v w h = record {
   own = h.own;
   makes = h.makes;
   leaves = every_map (λ (e : Event). IsHelp e.kind) IsGraphless help_graphless h.own h.are;
-  takes = let n = no_kinds pops h.own (each_kind IsHelp (λ k. pops k ≡ false) help_pops h.own h.are) in omega (arith, n);
+  takes = let n = no_kinds pops h.own (each_kind IsHelp (λ k. pops k ≡ false) help_pops h.own h.are) in
+      omega (arith, n);
   shifts = let n = no_kinds moves h.own (each_kind IsHelp (λ k. moves k ≡ false) help_moves h.own h.are) in
       omega (arith, n);
   raised = no_kinds raises h.own (each_kind IsHelp (λ k. raises k ≡ false) help_raises h.own h.are);

@@ -22,7 +22,7 @@ use Rattle.graph_updates.specs.Hands.{HandValue, HasItsNodes, IsHandOf}
 use Rattle.graph_updates.specs.Locating.{WasHere}
 use Rattle.graph_updates.specs.Parts.{HasHelped}
 use Rattle.graph_updates.specs.Removing.{IsRemoved, WasMarkedMeanwhile}
-use Rattle.graph_updates.proofs.AddingAddsUp.{goes_on_chain, helped_on}
+use Rattle.graph_updates.proofs.AddingAddsUp.{goes_on_chain, helped_on, leaves_by_loads}
 use Rattle.graph_updates.proofs.AddingTries.{calm_by_kind, calm_hand, calm_nodes, calm_pass, with_spare}
 use Rattle.graph_updates.proofs.LocatingTells.{between_later}
 use Rattle.graph_updates.proofs.PartsLeave.{IsCalm, helps_leave, other_goes, spare_goes}
@@ -108,7 +108,7 @@ pub was_marked_is : (g : TableValue) (key : ℕ) (old h : HandValue) (t : TokenV
 was_marked_is g key old h t s n nodes first here k = record {
   on = goes_on_chain old h (with_spare h t h.spare) (helped_on old h n first) (record {
     taken = 0;
-    stretch = record { own = []; makes = k.makes; leaves = tt; takes = omega arith; shifts = omega arith; raised = refl };
+    stretch = leaves_by_loads h.token.view t.view k.makes;
     spares = omega arith;
     nodes = nodes;
     uses = refl;

@@ -18,8 +18,8 @@ use Rattle.epoch_limbo.specs.Limbos.{LimboValue, IsLimboOf, IsOut, index_in}
 abbrev pub IsIn : List RipeValue → ℕ → Type 0
 IsIn nodes y = stands_in (map index_in nodes) y ≡ true
 
--- the token unlinked the vertex, whose list is open at its head; the limbo is of the token, doesn't have the vertex, and
--- has room for all nodes
+-- the token unlinked the vertex, whose list is open at its head; the limbo is of the token, doesn't have the vertex,
+-- and has room for all nodes
 pub record IsToBury (limbo : LimboValue) (v : View) (x : Life) : Type 0 where
   pub vertex : IsUnlinkedVertex v x
   pub unclosed : (state v.sizes v.front).frozen x.index ≡ false

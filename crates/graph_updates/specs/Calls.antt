@@ -23,11 +23,11 @@ pub record HasSpentAtMost (v w : View) : Type 0 where
   pub moved : made moves w.number w.front ≤ made moves v.number v.front + 3
   pub raised : made raises w.number w.front ≡ made raises v.number v.front
 
--- a call was answered: the old front begins the new one; the book has one entry more, with this call, its tries and this
--- answer, which starts at the length of the old front, ends at that of the new one, and is right; the book is true of
--- the new front, so that it's framed and each own event that changes the graph has just one own entry; the history of
--- front and book is legal and ends in the graph of the front; and the call changed the graph once, where its answer
--- tells of a change, and else not
+-- a call was answered: the old front begins the new one; the book has one entry more, with this call, its tries and
+-- this answer, which starts at the length of the old front, ends at that of the new one, and is right; the book is
+-- true of the new front, so that it's framed and each own event that changes the graph has just one own entry; the
+-- history of front and book is legal and ends in the graph of the front; and the call changed the graph once, where
+-- its answer tells of a change, and else not
 pub record IsAnswered (call : Call) (tries : ℕ) (outcome : Outcome) (old new : HandValue) : Type 0 where
   pub grows : IsPrefix old.token.view.front new.token.view.front
   pub number : new.token.view.number ≡ old.token.view.number

@@ -21,8 +21,8 @@ pub fn hands_in_order_leave_no_edge_of_a_spent_vertex()
     ensures { (g : TableValue) (h : HandValue) → IsHandOf g h → IsInOrder h → HasNoEdgeOfSpent h.token.view }
 {}
 
-/// A hand whose token is split in two is as it was, but for the right to draw: it's one of the table, and in order if it
-/// was. So the token of the next hand is split off the one before it.
+/// A hand whose token is split in two is as it was, but for the right to draw: it's one of the table, and in order if
+/// it was. So the token of the next hand is split off the one before it.
 pub fn a_split_leaves_a_hand()
     ensures hand { (g : TableValue) (h : HandValue) (t : TokenValue) → IsOf g t → t.view ≡ stays h.token.view
         → IsHandOf g h → IsHandOf g (record h { token = t }) }

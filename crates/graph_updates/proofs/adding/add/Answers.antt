@@ -76,10 +76,10 @@ returns-in-There-clause-added c =
     let g = c.args.table.now in
     let t = c.args.tries in
     let n = c.loop-moment.lost in
-    let e = c.in-There.ensures.tried in (
+    let e = c.in-There.ensures.tried in
+    let grows = grows_since c.args.key t n g h k l i in (
       on_since c.args.key t n g h k l i e.0,
-      here_earlier c.args.key h.token.view k.token.view l.token.view c.in-There.seen (grows_since c.args.key t n g h k l i)
-          e.1,
+      here_earlier c.args.key h.token.view k.token.view l.token.view c.in-There.seen grows e.1,
     )
 
 pub returns-in-Full-clause-nodes : goal.returns-in-Full-clause-nodes

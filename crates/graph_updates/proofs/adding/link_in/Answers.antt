@@ -25,6 +25,7 @@ returns-in-Lost-clause-placed c =
     let w = c.link.new.token.view in
     let first = filled_readies v u c.args.fresh c.args.key (index_of c.word.result.0) c.requires.table.layout
     c.fill_vertex.ensures.makes in
-    subst (λ (x : Life). IsPlaceLost c.args.gap.moment (Some c.args.fresh) v w (Some x)) (sym c.in-Lost.ensures.linked.0)
+    let same = sym c.in-Lost.ensures.linked.0 in
+    subst (λ (x : Life). IsPlaceLost c.args.gap.moment (Some c.args.fresh) v w (Some x)) same
     (link_lost v u w c.args.fresh c.args.gap c.fill_vertex.ensures.table.layout first c.fill_vertex.ensures.filled.held
     c.in-Lost.ensures.linked.1)

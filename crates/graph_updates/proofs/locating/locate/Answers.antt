@@ -2,7 +2,8 @@ use Rattle.std.proofs.Common.{◌-◌, ℕ, arith}
 use Rattle.graph_updates.specs.Hands.{HandValue}
 use Rattle.graph_updates.specs.Parts.{Fell}
 use Rattle.graph_updates.proofs.HandsHelp.{has_helped_chain, has_helped_none}
-use Rattle.graph_updates.proofs.LocatingTells.{fell_as, fell_more, fell_none, fell_on, gone_earlier, helped_grows, here_earlier}
+use Rattle.graph_updates.proofs.LocatingTells.{fell_as, fell_more, fell_none, fell_on, gone_earlier, helped_grows}
+use Rattle.graph_updates.proofs.LocatingTells.{here_earlier}
 use Rattle.graph_updates.proofs.LocatingTells.{order_helped}
 use Rattle.graph_updates.proofs.SeekingSteps.{helps_pass}
 use Rattle.graph_updates.proofs.locating.locate.Goals as goal
@@ -66,7 +67,8 @@ returns-in-Here-clause-located c =
     let i = c.loop-seen.invariant in
     let e = c.in-Here.ensures in
     let all = has_helped_chain h k l i.helped e.helped in
-    (i.left, here_earlier c.args.key h.token.view k.token.view l.token.view c.in-Here.seen (helped_grows h k i.helped) e.sought)
+    let grows = helped_grows h k i.helped in
+    (i.left, here_earlier c.args.key h.token.view k.token.view l.token.view c.in-Here.seen grows e.sought)
 
 pub returns-in-Gone-clause-order : goal.returns-in-Gone-clause-order
 returns-in-Gone-clause-order c =
@@ -106,7 +108,8 @@ returns-in-Gone-clause-located c =
     let i = c.loop-seen.invariant in
     let e = c.in-Gone.ensures in
     let all = has_helped_chain h k l i.helped e.helped in
-    (i.left, gone_earlier c.args.key h.token.view k.token.view l.token.view c.in-Gone.gap (helped_grows h k i.helped) e.sought)
+    let grows = helped_grows h k i.helped in
+    (i.left, gone_earlier c.args.key h.token.view k.token.view l.token.view c.in-Gone.gap grows e.sought)
 
 pub returns-then-lost-tries-clause-order : goal.returns-then-lost-tries-clause-order
 returns-then-lost-tries-clause-order c =

@@ -21,7 +21,8 @@ module _ (c : goal.After-reply_at_mark) where
       let d = subst (λ (h : HandValue). IsDueAtMark c.args.key old.token.view h.token.view c.args.life) back
       c.requires.due in
       mark_ends c.args.table.now old (the_view c.hand.inside) c.reply_at_mark.new.token hand
-      c.reply_at_mark.ensures.table c.requires.order ended c.args.key c.args.tries _ c.args.life start d c.reply_at_mark.ensures.replied
+      c.reply_at_mark.ensures.table c.requires.order ended c.args.key c.args.tries _ c.args.life start d
+      c.reply_at_mark.ensures.replied
 
 pub returns-clause-hand : goal.returns-clause-hand
 returns-clause-hand c = (ends c).hand
