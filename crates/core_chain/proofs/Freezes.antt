@@ -1,14 +1,14 @@
 -- Freezing goes from the head on, one word after another, and at the end nothing on the chain can change.
 use Rattle.std.proofs.Common.{◌≡◌, ◌≢◌, ℕ, sym, ap, ◌∙◌, subst, arith, inl}
 use Rattle.packed_link.specs.Link.{nowhere}
-use Rattle.core_chain.specs.Chain.{Chain, Position, Head, Node, IsOn, IsChain, Precedes}
+use Rattle.core_chain.specs.Chain.{Chain, ChainWord, Head, Node, IsOn, IsChain, Precedes}
 use Rattle.core_chain.specs.Steps.{SetsMark, Freezes, Untouched, IsFrozenTo}
 use Rattle.core_chain.specs.Steps.{Step, insert, mark, replace, unlink, freeze_head, freeze}
 use Rattle.core_chain.proofs.Orders.{if_same, by_order, LeadsOnChain, rank_of-changed, since_of-changed, before_still}
 use Rattle.core_chain.proofs.Marks.{IsOn-back, Keeps-marked, next-marked}
 
 -- only the head doesn't stand behind the head
-frozen_head : (d : Chain) → d.mark Head ≡ 1 → (q : Position) → (Precedes d Head q → ⊥) → d.mark q ≡ 1
+frozen_head : (d : Chain) → d.mark Head ≡ 1 → (q : ChainWord) → (Precedes d Head q → ⊥) → d.mark q ≡ 1
 frozen_head d marked Head h = marked
 frozen_head d marked (Node x) h = absurd (h (inl (omega arith)))
 
@@ -17,17 +17,17 @@ pub IsFrozenTo-head : (c d : Chain) → SetsMark c d Head → IsFrozenTo d Head
 IsFrozenTo-head c d step = record { present = tt; marks = λ q on not_behind. frozen_head d step.marked q not_behind }
 
 -- the node to which a frozen part leads is on the chain
-led_on : (c : Chain) (p : Position) (x : ℕ) → IsChain c → IsFrozenTo c p → x ≢ nowhere → c.next p ≡ x
+led_on : (c : Chain) (p : ChainWord) (x : ℕ) → IsChain c → IsFrozenTo c p → x ≢ nowhere → c.next p ≡ x
     → LeadsOnChain c p x
 led_on c p x chain frozen named led =
     subst (LeadsOnChain c p) led (chain.leads p frozen.present (λ none. named (sym led ∙ none)))
 
-module _ (c d : Chain) (p : Position) (x : ℕ) (chain : IsChain c) (step : Freezes c d p x) where
+module _ (c d : Chain) (p : ChainWord) (x : ℕ) (chain : IsChain c) (step : Freezes c d p x) where
   there : LeadsOnChain c p x
   there = led_on c p x chain step.frozen step.named step.led
 
   -- what stands no further than the node is the node, or was frozen before
-  marks : (q : Position) → IsOn c q → (Precedes c (Node x) q → ⊥) → d.mark q ≡ 1
+  marks : (q : ChainWord) → IsOn c q → (Precedes c (Node x) q → ⊥) → d.mark q ≡ 1
   marks q on not_behind =
       by_order c q (Node x) chain on there.0 (λ e. ap d.mark e ∙ step.sets.marked)
       (λ low. (Keeps-marked c d (Node x) chain step.sets).marks q
@@ -49,12 +49,12 @@ module _ (c d : Chain) (p : Position) (x : ℕ) (chain : IsChain c) (step : Free
   }
 
 -- where the frozen part ends the chain, each word is marked
-pub mark-at_end : (c : Chain) (p : Position)
-    → IsChain c → IsFrozenTo c p → c.next p ≡ nowhere → (q : Position) → IsOn c q → c.mark q ≡ 1
+pub mark-at_end : (c : Chain) (p : ChainWord)
+    → IsChain c → IsFrozenTo c p → c.next p ≡ nowhere → (q : ChainWord) → IsOn c q → c.mark q ≡ 1
 mark-at_end c p chain frozen none q on = frozen.marks q on (λ after. chain.last p q frozen.present on after none)
 
 -- marking a marked word changes nothing
-marked_before : (c d : Chain) (p : Position) → SetsMark c d p → c.mark p ≡ 1 → Untouched c d
+marked_before : (c d : Chain) (p : ChainWord) → SetsMark c d p → c.mark p ≡ 1 → Untouched c d
 marked_before c d p step old = record {
   nodes = step.nodes;
   key = λ x on. step.words.key x;
@@ -65,7 +65,7 @@ marked_before c d p step old = record {
 }
 
 -- no step changes a chain that is frozen to its end
-pub Untouched-frozen : (c d : Chain) (p : Position)
+pub Untouched-frozen : (c d : Chain) (p : ChainWord)
     → IsChain c → IsFrozenTo c p → c.next p ≡ nowhere → Step c d → Untouched c d
 Untouched-frozen c d p chain frozen none (insert at node step) =
     let a = mark-at_end c p chain frozen none at step.can.passes.present in

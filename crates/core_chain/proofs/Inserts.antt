@@ -3,14 +3,14 @@
 -- key.
 use Rattle.std.proofs.Common.{◌≡◌, ◌≢◌, ℕ, ◌<◌, sym, ap, ◌∙◌, subst, arith, IsTrue, inl, inr}
 use Rattle.packed_link.specs.Link.{nowhere}
-use Rattle.core_chain.specs.Chain.{Chain, Position, Head, Node, IsOn, IsChain, Precedes, rank_of, since_of}
+use Rattle.core_chain.specs.Chain.{Chain, ChainWord, Head, Node, IsOn, IsChain, Precedes, rank_of, since_of}
 use Rattle.core_chain.specs.Steps.{ChangesOnly, Inserts, Replaces, Joins, IsFrozenTo, Keeps}
 use Rattle.core_chain.proofs.Orders.{if_same, if_equal, by_order, LeadsOnChain, NotPast, RisesBehind, IsChain-by}
 use Rattle.core_chain.proofs.Orders.{rank_of-changed, since_of-changed, before_still, before_same, before_then}
 use Rattle.core_chain.proofs.Orders.{IsBelow-rank}
 
 -- a node is put behind an unmarked word: it stands behind the word, and its key is less than that of the successor
-pub record PutsNode (c d : Chain) (p : Position) (n : ℕ) : Type 0 where
+pub record PutsNode (c d : Chain) (p : ChainWord) (n : ℕ) : Type 0 where
   pub present : IsOn c p
   pub unmarked : c.mark p ≡ 0
   pub named : n ≢ nowhere
@@ -23,37 +23,37 @@ pub record PutsNode (c d : Chain) (p : Position) (n : ℕ) : Type 0 where
   pub words : ChangesOnly c d p
   pub nodes : Joins c.on d.on n
 
-module _ (c d : Chain) (p : Position) (n : ℕ) (chain : IsChain c) (step : PutsNode c d p n) where
-  rank : (q : Position) → rank_of d q ≡ rank_of c q
+module _ (c d : Chain) (p : ChainWord) (n : ℕ) (chain : IsChain c) (step : PutsNode c d p n) where
+  rank : (q : ChainWord) → rank_of d q ≡ rank_of c q
   rank q = rank_of-changed c d p step.words q
 
-  since : (q : Position) → IsOn c q → since_of d q ≡ since_of c q
+  since : (q : ChainWord) → IsOn c q → since_of d q ≡ since_of c q
   since q on = since_of-changed c d p step.words q on
 
   apart : Node n ≢ p
   apart e = step.absent (subst (IsOn c) (sym e) step.present)
 
   -- words of the old chain stand in the order in which they stood
-  forth : (q r : Position) → IsOn c q → IsOn c r → Precedes c q r → Precedes d q r
+  forth : (q r : ChainWord) → IsOn c q → IsOn c r → Precedes c q r → Precedes d q r
   forth q r on_q on_r before = before_still c d q r (rank q) (rank r) (since q on_q) (since r on_r) before
 
-  still : (q r : Position) → IsOn c q → IsOn c r → Precedes d q r → Precedes c q r
+  still : (q r : ChainWord) → IsOn c q → IsOn c r → Precedes d q r → Precedes c q r
   still q r on_q on_r before =
       before_still d c q r (sym (rank q)) (sym (rank r)) (sym (since q on_q)) (sym (since r on_r)) before
 
-  back : (q : Position) → IsOn d q → q ≢ Node n → IsOn c q
+  back : (q : ChainWord) → IsOn d q → q ≢ Node n → IsOn c q
   back Head on ne = tt
   back (Node x) on ne = sym (step.nodes.others x (λ e. ne (ap Node e))) ∙ on
 
   -- what was on the chain is on it
-  pub IsOn-put : (q : Position) → IsOn c q → IsOn d q
+  pub IsOn-put : (q : ChainWord) → IsOn c q → IsOn d q
   IsOn-put Head on = tt
   IsOn-put (Node x) on =
       if_equal x n (λ e. absurd (step.absent (subst (λ (y : ℕ). IsTrue (c.on y)) e on)))
       (λ ne. step.nodes.others x ne ∙ on)
 
   -- what stood behind the word stands behind the node, with a greater key
-  behind : (r : Position) → IsOn c r → Precedes c p r → (c.next p ≢ nowhere) × (rank_of d (Node n) < rank_of d r)
+  behind : (r : ChainWord) → IsOn c r → Precedes c p r → (c.next p ≢ nowhere) × (rank_of d (Node n) < rank_of d r)
   behind r on after =
       let some : c.next p ≢ nowhere = chain.last p r step.present on after in
       let low = step.below some in
@@ -67,13 +67,13 @@ module _ (c d : Chain) (p : Position) (n : ℕ) (chain : IsChain c) (step : Puts
       )
 
   -- what stands before the node stands at the word or before it
-  ahead : (q : Position) → IsOn c q → Precedes d q (Node n) → q ≢ p → Precedes c q p
+  ahead : (q : ChainWord) → IsOn c q → Precedes d q (Node n) → q ≢ p → Precedes c q p
   ahead q on before ne =
       by_order c q p chain on step.present (λ e. absurd (ne e)) (λ low. low)
       (λ high. let f = (behind q on high).1 in absurd (omega arith))
 
   -- no other word of the old chain stands at the node's place of the order
-  lone : (q : Position) → IsOn c q → rank_of d q ≡ rank_of d (Node n) → since_of d q ≡ since_of d (Node n) → ⊥
+  lone : (q : ChainWord) → IsOn c q → rank_of d q ≡ rank_of d (Node n) → since_of d q ≡ since_of d (Node n) → ⊥
   lone q on same same' =
       let low = step.above in
       by_order c q p chain on step.present
@@ -82,33 +82,33 @@ module _ (c d : Chain) (p : Position) (n : ℕ) (chain : IsChain c) (step : Puts
       (λ high. let f = (behind q on high).1 in omega arith)
 
   -- where the two words lead that were written last
-  to_p : (q : Position) → q ≡ p → n ≡ d.next q
+  to_p : (q : ChainWord) → q ≡ p → n ≡ d.next q
   to_p q at = sym step.leads ∙ ap d.next (sym at)
 
-  to_n : (q : Position) → q ≡ Node n → c.next p ≡ d.next q
+  to_n : (q : ChainWord) → q ≡ Node n → c.next p ≡ d.next q
   to_n q at = sym (step.words.next (Node n) apart ∙ step.filled) ∙ ap d.next (sym at)
 
-  leads : (q : Position) → IsOn d q → d.next q ≢ nowhere → LeadsOnChain d q (d.next q)
+  leads : (q : ChainWord) → IsOn d q → d.next q ≢ nowhere → LeadsOnChain d q (d.next q)
   leads q on some =
       if_same q p (λ at.
       subst (LeadsOnChain d q) (to_p q at)
-      (step.nodes.joins, subst (λ (r : Position). Precedes d r (Node n)) (sym at) step.above)) (λ not_p.
+      (step.nodes.joins, subst (λ (r : ChainWord). Precedes d r (Node n)) (sym at) step.above)) (λ not_p.
       if_same q (Node n) (λ at.
       let some_p : c.next p ≢ nowhere = λ e. some (sym (to_n q at) ∙ e) in
       let next = chain.leads p step.present some_p in
       subst (LeadsOnChain d q) (to_n q at) (
         IsOn-put (Node (c.next p)) next.0,
-        subst (λ (r : Position). Precedes d r (Node (c.next p))) (sym at) (inl (step.below some_p)),
+        subst (λ (r : ChainWord). Precedes d r (Node (c.next p))) (sym at) (inl (step.below some_p)),
       )) (λ not_n.
       let to : c.next q ≡ d.next q = sym (step.words.next q not_p) in
       let next = chain.leads q (back q on not_n) (λ e. some (sym to ∙ e)) in
       subst (LeadsOnChain d q) to
       (IsOn-put (Node (c.next q)) next.0, forth q (Node (c.next q)) (back q on not_n) next.0 next.1)))
 
-  upto : (q r : Position) → IsOn d q → IsOn d r → Precedes d q r → NotPast d r (d.next q)
+  upto : (q r : ChainWord) → IsOn d q → IsOn d r → Precedes d q r → NotPast d r (d.next q)
   upto q r on_q on_r before =
       if_same q p (λ at.
-      let before_p : Precedes d p r = subst (λ (s : Position). Precedes d s r) at before in
+      let before_p : Precedes d p r = subst (λ (s : ChainWord). Precedes d s r) at before in
       subst (NotPast d r) (to_p q at) (
         step.named,
         if_same r (Node n) (λ e. λ f. before_same d r (Node n) f e)
@@ -118,7 +118,7 @@ module _ (c d : Chain) (p : Position) (n : ℕ) (chain : IsChain c) (step : Puts
             λ f. omega arith),
       )) (λ not_p.
       if_same q (Node n) (λ at.
-      let before_n : Precedes d (Node n) r = subst (λ (s : Position). Precedes d s r) at before in
+      let before_n : Precedes d (Node n) r = subst (λ (s : ChainWord). Precedes d s r) at before in
       let not_n : r ≢ Node n = λ e. before_same d (Node n) r before_n (sym e) in
       let on = back r on_r not_n in
       let after = still p r step.present on (before_then d p (Node n) r step.above before_n) in
@@ -137,7 +137,7 @@ module _ (c d : Chain) (p : Position) (n : ℕ) (chain : IsChain c) (step : Puts
       let next = (chain.leads q on some).0 in (
         some,
         λ f.
-            let over = subst (λ (s : Position). Precedes d s (Node (c.next q))) at f in
+            let over = subst (λ (s : ChainWord). Precedes d s (Node (c.next q))) at f in
             chain.gap q p on step.present low
             (still p (Node (c.next q)) step.present next (before_then d p (Node n) (Node (c.next q)) step.above over)),
       ))
@@ -147,7 +147,7 @@ module _ (c d : Chain) (p : Position) (n : ℕ) (chain : IsChain c) (step : Puts
       let some = chain.last q r on on' low in
       (some, λ f. chain.gap q r on on' low (still r (Node (c.next q)) on' (chain.leads q on some).0 f))))))
 
-  alone : (q r : Position)
+  alone : (q r : ChainWord)
       → IsOn d q → IsOn d r → rank_of d q ≡ rank_of d r → since_of d q ≡ since_of d r → q ≡ r
   alone q r on_q on_r same same' =
       if_same q (Node n) (λ at.
@@ -161,15 +161,15 @@ module _ (c d : Chain) (p : Position) (n : ℕ) (chain : IsChain c) (step : Puts
       let on' = back r on_r ne in
       chain.alone q r on on' (sym (rank q) ∙ (same ∙ rank r)) (sym (since q on) ∙ (same' ∙ since r on'))))
 
-  rises : (q : Position) → IsOn d q → d.next q ≢ nowhere → RisesBehind d q (d.next q)
+  rises : (q : ChainWord) → IsOn d q → d.next q ≢ nowhere → RisesBehind d q (d.next q)
   rises q on some =
       if_same q p (λ at.
       subst (RisesBehind d q) (to_p q at)
-      (subst (λ (r : Position). RisesBehind d r n) (sym at) step.rises)) (λ not_p.
+      (subst (λ (r : ChainWord). RisesBehind d r n) (sym at) step.rises)) (λ not_p.
       if_same q (Node n) (λ at.
       let some_p : c.next p ≢ nowhere = λ e. some (sym (to_n q at) ∙ e) in
       subst (RisesBehind d q) (to_n q at)
-      (subst (λ (r : Position). RisesBehind d r (c.next p)) (sym at) (λ u. step.below some_p))) (λ not_n.
+      (subst (λ (r : ChainWord). RisesBehind d r (c.next p)) (sym at) (λ u. step.below some_p))) (λ not_n.
       let to : c.next q ≡ d.next q = sym (step.words.next q not_p) in
       subst (RisesBehind d q) to (λ u.
       let a = rank q in
@@ -187,7 +187,7 @@ module _ (c d : Chain) (p : Position) (n : ℕ) (chain : IsChain c) (step : Puts
   IsChain-put = IsChain-by d named leads upto alone rises
 
   -- what is frozen stays frozen
-  frozen : (q : Position) → IsFrozenTo c q → IsFrozenTo d q
+  frozen : (q : ChainWord) → IsFrozenTo c q → IsFrozenTo d q
   frozen q old =
       -- the word that was changed is unmarked, so it stands behind the frozen part
       let unfrozen : (Precedes c q p → ⊥) → ⊥ = λ h.
@@ -206,7 +206,7 @@ module _ (c d : Chain) (p : Position) (n : ℕ) (chain : IsChain c) (step : Puts
       }
 
   -- the word that was changed was unmarked
-  not_marked : (q : Position) → c.mark q ≡ 1 → q ≢ p
+  not_marked : (q : ChainWord) → c.mark q ≡ 1 → q ≢ p
   not_marked q marked e = let a : c.mark q ≡ c.mark p = ap c.mark e in let b = step.unmarked in omega arith
 
   -- putting a node takes nothing back
@@ -217,7 +217,7 @@ module _ (c d : Chain) (p : Position) (n : ℕ) (chain : IsChain c) (step : Puts
     frozen = frozen;
   }
 
-module _ (c d : Chain) (p : Position) (n : ℕ) (chain : IsChain c) (step : Inserts c d p n) where
+module _ (c d : Chain) (p : ChainWord) (n : ℕ) (chain : IsChain c) (step : Inserts c d p n) where
   -- the node's key is greater than the word's
   higher : rank_of d p < rank_of d (Node n)
   higher =
@@ -247,7 +247,7 @@ module _ (c d : Chain) (p : Position) (n : ℕ) (chain : IsChain c) (step : Inse
   }
 
   -- what was on the chain is on it
-  pub IsOn-inserted : (q : Position) → IsOn c q → IsOn d q
+  pub IsOn-inserted : (q : ChainWord) → IsOn c q → IsOn d q
   IsOn-inserted = IsOn-put c d p n chain PutsNode-inserted
 
   -- the chain with the node is a chain
@@ -285,7 +285,7 @@ module _ (c d : Chain) (x n : ℕ) (chain : IsChain c) (step : Replaces c d x n)
       }
 
   -- what was on the chain is on it
-  pub IsOn-replaced : (q : Position) → IsOn c q → IsOn d q
+  pub IsOn-replaced : (q : ChainWord) → IsOn c q → IsOn d q
   IsOn-replaced = IsOn-put c d (Node x) n chain PutsNode-replaced
 
   -- the chain with both nodes is a chain

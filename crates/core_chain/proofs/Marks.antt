@@ -1,12 +1,12 @@
 -- A mark keeps the chain, and so does what changes nothing on it.
 use Rattle.std.proofs.Common.{◌≡◌, ◌≢◌, ℕ, ◌+◌, refl, sym, ap, ◌∙◌, subst, arith}
 use Rattle.packed_link.specs.Link.{nowhere}
-use Rattle.core_chain.specs.Chain.{Chain, Position, Head, Node, IsOn, IsChain, Precedes, rank_of, since_of}
+use Rattle.core_chain.specs.Chain.{Chain, ChainWord, Head, Node, IsOn, IsChain, Precedes, rank_of, since_of}
 use Rattle.core_chain.specs.Steps.{SetsMark, Untouched, IsFrozenTo, Keeps}
 use Rattle.core_chain.proofs.Orders.{if_same, LeadsOnChain, NotPast, RisesBehind, IsChain-by, before_still}
 
 -- what is on the one chain is on the other
-pub IsOn-back : (c d : Chain) → ((x : ℕ) → d.on x ≡ c.on x) → (q : Position) → IsOn d q → IsOn c q
+pub IsOn-back : (c d : Chain) → ((x : ℕ) → d.on x ≡ c.on x) → (q : ChainWord) → IsOn d q → IsOn c q
 IsOn-back c d stays Head on = tt
 IsOn-back c d stays (Node x) on = sym (stays x) ∙ on
 
@@ -14,35 +14,35 @@ IsOn-back c d stays (Node x) on = sym (stays x) ∙ on
 module _ (c d : Chain) (chain : IsChain c) (stays : (x : ℕ) → d.on x ≡ c.on x)
     (keys : (x : ℕ) → IsOn c (Node x) → d.key x ≡ c.key x)
     (sinces : (x : ℕ) → IsOn c (Node x) → d.since x ≡ c.since x)
-    (links : (p : Position) → IsOn c p → d.next p ≡ c.next p) where
-  back : (q : Position) → IsOn d q → IsOn c q
+    (links : (p : ChainWord) → IsOn c p → d.next p ≡ c.next p) where
+  back : (q : ChainWord) → IsOn d q → IsOn c q
   back q on = IsOn-back c d stays q on
 
-  forth : (q : Position) → IsOn c q → IsOn d q
+  forth : (q : ChainWord) → IsOn c q → IsOn d q
   forth q on = IsOn-back d c (λ x. sym (stays x)) q on
 
-  rank : (q : Position) → IsOn c q → rank_of d q ≡ rank_of c q
+  rank : (q : ChainWord) → IsOn c q → rank_of d q ≡ rank_of c q
   rank Head on = refl
   rank (Node x) on = ap (λ (k : ℕ). k + 1) (keys x on)
 
-  since : (q : Position) → IsOn c q → since_of d q ≡ since_of c q
+  since : (q : ChainWord) → IsOn c q → since_of d q ≡ since_of c q
   since Head on = refl
   since (Node x) on = sinces x on
 
-  later : (q r : Position) → IsOn c q → IsOn c r → Precedes c q r → Precedes d q r
+  later : (q r : ChainWord) → IsOn c q → IsOn c r → Precedes c q r → Precedes d q r
   later q r on_q on_r before = before_still c d q r (rank q on_q) (rank r on_r) (since q on_q) (since r on_r) before
 
-  still : (q r : Position) → IsOn c q → IsOn c r → Precedes d q r → Precedes c q r
+  still : (q r : ChainWord) → IsOn c q → IsOn c r → Precedes d q r → Precedes c q r
   still q r on_q on_r before =
       before_still d c q r (sym (rank q on_q)) (sym (rank r on_r)) (sym (since q on_q)) (sym (since r on_r)) before
 
-  leads : (q : Position) → IsOn d q → d.next q ≢ nowhere → LeadsOnChain d q (d.next q)
+  leads : (q : ChainWord) → IsOn d q → d.next q ≢ nowhere → LeadsOnChain d q (d.next q)
   leads q on some =
       let to : c.next q ≡ d.next q = sym (links q (back q on)) in
       let next = chain.leads q (back q on) (λ e. some (sym to ∙ e)) in
       subst (LeadsOnChain d q) to (forth (Node (c.next q)) next.0, later q (Node (c.next q)) (back q on) next.0 next.1)
 
-  upto : (q r : Position) → IsOn d q → IsOn d r → Precedes d q r → NotPast d r (d.next q)
+  upto : (q r : ChainWord) → IsOn d q → IsOn d r → Precedes d q r → NotPast d r (d.next q)
   upto q r on_q on_r before =
       let low = still q r (back q on_q) (back r on_r) before in
       let some = chain.last q r (back q on_q) (back r on_r) low in
@@ -52,7 +52,7 @@ module _ (c d : Chain) (chain : IsChain c) (stays : (x : ℕ) → d.on x ≡ c.o
         λ f. chain.gap q r (back q on_q) (back r on_r) low (still r (Node (c.next q)) (back r on_r) next f),
       )
 
-  alone : (q r : Position)
+  alone : (q r : ChainWord)
       → IsOn d q → IsOn d r → rank_of d q ≡ rank_of d r → since_of d q ≡ since_of d r → q ≡ r
   alone q r on_q on_r same same' =
       let on = back q on_q in
@@ -61,9 +61,9 @@ module _ (c d : Chain) (chain : IsChain c) (stays : (x : ℕ) → d.on x ≡ c.o
 
   -- an unmarked word was unmarked
   abbrev pub KeepsMarks : Type 0
-  KeepsMarks = (p : Position) → IsOn c p → d.mark p ≡ 0 → c.mark p ≡ 0
+  KeepsMarks = (p : ChainWord) → IsOn c p → d.mark p ≡ 0 → c.mark p ≡ 0
 
-  rises : KeepsMarks → (q : Position) → IsOn d q → d.next q ≢ nowhere → RisesBehind d q (d.next q)
+  rises : KeepsMarks → (q : ChainWord) → IsOn d q → d.next q ≢ nowhere → RisesBehind d q (d.next q)
   rises unmarked q on some =
       let on' = back q on in
       let to : c.next q ≡ d.next q = sym (links q on') in
@@ -78,8 +78,8 @@ module _ (c d : Chain) (chain : IsChain c) (stays : (x : ℕ) → d.on x ≡ c.o
   IsChain-same unmarked = IsChain-by d (λ y on. chain.named y (back (Node y) on)) leads upto alone (rises unmarked)
 
   -- what was frozen is frozen, where marks stay
-  pub IsFrozenTo-same : ((p : Position) → IsOn c p → c.mark p ≡ 1 → d.mark p ≡ 1)
-      → (q : Position) → IsFrozenTo c q → IsFrozenTo d q
+  pub IsFrozenTo-same : ((p : ChainWord) → IsOn c p → c.mark p ≡ 1 → d.mark p ≡ 1)
+      → (q : ChainWord) → IsFrozenTo c q → IsFrozenTo d q
   IsFrozenTo-same marks q old = record {
     present = forth q old.present;
     marks = λ r on not_behind.
@@ -93,26 +93,26 @@ IsChain-untouched c d chain same = IsChain-same c d chain same.nodes same.key sa
     (λ q on u. sym (same.mark q on) ∙ u)
 
 -- what is frozen on it stays frozen
-pub IsFrozenTo-untouched : (c d : Chain) (p : Position) → IsChain c → Untouched c d → IsFrozenTo c p → IsFrozenTo d p
+pub IsFrozenTo-untouched : (c d : Chain) (p : ChainWord) → IsChain c → Untouched c d → IsFrozenTo c p → IsFrozenTo d p
 IsFrozenTo-untouched c d p chain same frozen =
     IsFrozenTo-same c d chain same.nodes same.key same.since same.next (λ q on marked. same.mark q on ∙ marked) p frozen
 
 -- a mark changes where no word leads
-pub next-marked : (c d : Chain) (p : Position) → SetsMark c d p → (q : Position) → d.next q ≡ c.next q
+pub next-marked : (c d : Chain) (p : ChainWord) → SetsMark c d p → (q : ChainWord) → d.next q ≡ c.next q
 next-marked c d p step q =
     if_same q p (λ at. ap d.next at ∙ (step.leads ∙ ap c.next (sym at))) (λ ne. step.words.next q ne)
 
-module _ (c d : Chain) (p : Position) (chain : IsChain c) (step : SetsMark c d p) where
-  marks : (q : Position) → c.mark q ≡ 1 → d.mark q ≡ 1
+module _ (c d : Chain) (p : ChainWord) (chain : IsChain c) (step : SetsMark c d p) where
+  marks : (q : ChainWord) → c.mark q ≡ 1 → d.mark q ≡ 1
   marks q old = if_same q p (λ at. ap d.mark at ∙ step.marked) (λ ne. step.words.mark q ne ∙ old)
 
-  unmarked : (q : Position) → d.mark q ≡ 0 → c.mark q ≡ 0
+  unmarked : (q : ChainWord) → d.mark q ≡ 0 → c.mark q ≡ 0
   unmarked q u =
       if_same q p (λ at. let a : d.mark q ≡ d.mark p = ap d.mark at in let m = step.marked in absurd (omega arith))
       (λ ne. sym (step.words.mark q ne) ∙ u)
 
   -- what was on the chain is on it
-  pub IsOn-marked : (q : Position) → IsOn c q → IsOn d q
+  pub IsOn-marked : (q : ChainWord) → IsOn c q → IsOn d q
   IsOn-marked q on = IsOn-back d c (λ x. sym (step.nodes x)) q on
 
   -- the chain with the mark is a chain

@@ -4,7 +4,7 @@ use Rattle.std.proofs.Common.{refl, sym, ap, ◌∙◌, subst, arith, ⊎_elim, 
 use Rattle.std.specs.Prelude.{AllPairs, Contains}
 use Rattle.std.proofs.lemmas.List.Elements.{Contains-get_or}
 use Rattle.packed_link.specs.Link.{nowhere}
-use Rattle.core_chain.specs.Chain.{Chain, Position, Head, Node, IsOn, IsChain, Precedes, rank_of, since_of}
+use Rattle.core_chain.specs.Chain.{Chain, ChainWord, Head, Node, IsOn, IsChain, Precedes, rank_of, since_of}
 use Rattle.core_chain.specs.Met.{MeetsFrom, RisesAlong, RisesUnmarked, IsMet}
 use Rattle.core_chain.proofs.Orders.{if_equal, by_order, LeadsOnChain, NotPast, RisesBehind, IsChain-by}
 use Rattle.core_chain.proofs.Orders.{before_same, before_both, before_then}
@@ -31,7 +31,7 @@ by_place : {P : Type 0} (x y : ℕ) (xs : List ℕ) → Contains (y ∷ xs) x �
 by_place x y xs at first later = ⊎_elim first later (Contains-cases x y xs at)
 
 -- each of the nodes stands behind the word
-Rises-behind : (c : Chain) (p : Position) (xs : List ℕ) (x : ℕ) → RisesAlong c p xs → Contains xs x → Precedes c p
+Rises-behind : (c : Chain) (p : ChainWord) (xs : List ℕ) (x : ℕ) → RisesAlong c p xs → Contains xs x → Precedes c p
     (Node x)
 Rises-behind c p [] x rising at = absurd (Contains-none x at)
 Rises-behind c p (y ∷ ys) x rising at =
@@ -39,12 +39,12 @@ Rises-behind c p (y ∷ ys) x rising at =
     (λ later. before_then c p (Node y) (Node x) rising.0 (Rises-behind c (Node y) ys x rising.1 later))
 
 -- the first of the rising nodes stands before the others
-first_least : (c : Chain) (p : Position) (y : ℕ) (ys : List ℕ) (x : ℕ)
+first_least : (c : Chain) (p : ChainWord) (y : ℕ) (ys : List ℕ) (x : ℕ)
     → RisesAlong c p (y ∷ ys) → Contains ys x → Precedes c (Node y) (Node x)
 first_least c p y ys x rising later = Rises-behind c (Node y) ys x rising.1 later
 
 -- rising nodes are met once each
-Rises-once : (c : Chain) (p : Position) (xs : List ℕ) → RisesAlong c p xs → AllPairs ◌≢◌ xs
+Rises-once : (c : Chain) (p : ChainWord) (xs : List ℕ) → RisesAlong c p xs → AllPairs ◌≢◌ xs
 Rises-once c p [] rising i j d low high = absurd (omega arith)
 Rises-once c p (y ∷ ys) rising i zero d low high = absurd (omega arith)
 Rises-once c p (y ∷ ys) rising zero (suc j) d low high = λ e.
@@ -54,11 +54,11 @@ Rises-once c p (y ∷ ys) rising (suc i) (suc j) d low high =
     Rises-once c (Node y) ys rising.1 i j d (omega arith) (omega arith)
 
 -- the nodes are those on the chain that stand behind the word
-abbrev pub AreBehind : Chain → Position → List ℕ → Type 0
+abbrev pub AreBehind : Chain → ChainWord → List ℕ → Type 0
 AreBehind c p xs = (x : ℕ) → LeadsOnChain c p x ↔ Contains xs x
 
 -- what is met from a word of a chain rises, is on it, and is all that stands behind the word
-pub met_behind : (c : Chain) (p : Position) (xs : List ℕ)
+pub met_behind : (c : Chain) (p : ChainWord) (xs : List ℕ)
     → IsChain c → IsOn c p → MeetsFrom c p xs → RisesAlong c p xs × AreBehind c p xs
 met_behind c p [] chain on none =
     (tt, λ x. (λ h. absurd (chain.last p (Node x) on h.0 h.1 none), λ at. absurd (Contains-none x at)))
@@ -79,7 +79,7 @@ met_behind c p (y ∷ ys) chain on met =
     )
 
 -- where a word that is met is unmarked, the next key is greater
-met_rises : (c : Chain) (p : Position) (xs : List ℕ) → IsChain c → IsOn c p → MeetsFrom c p xs → RisesUnmarked c p xs
+met_rises : (c : Chain) (p : ChainWord) (xs : List ℕ) → IsChain c → IsOn c p → MeetsFrom c p xs → RisesUnmarked c p xs
 met_rises c p [] chain on none = tt
 met_rises c p (y ∷ ys) chain on met =
     let some : c.next p ≢ nowhere = λ e. met.1 (sym met.0 ∙ e) in
@@ -100,7 +100,7 @@ IsMet-from_Meets c xs chain met =
     }
 
 -- one meets one list only
-pub Meets-unique : (c : Chain) (p : Position) (xs ys : List ℕ) → MeetsFrom c p xs → MeetsFrom c p ys → xs ≡ ys
+pub Meets-unique : (c : Chain) (p : ChainWord) (xs ys : List ℕ) → MeetsFrom c p xs → MeetsFrom c p ys → xs ≡ ys
 Meets-unique c p [] [] one other = refl
 Meets-unique c p [] (y ∷ ys) none other = absurd (other.1 (sym other.0 ∙ none))
 Meets-unique c p (x ∷ xs) [] one none = absurd (one.1 (sym one.0 ∙ none))
@@ -127,14 +127,14 @@ abbrev HasBounds : Chain → ℕ → ℕ → Type 0
 HasBounds c bound last = (x : ℕ) → IsOn c (Node x) → (c.key x ≤ bound) × (c.since x ≤ last)
 
 -- where a word of the chain stands, as one number
-abbrev score : Chain → ℕ → Position → ℕ
+abbrev score : Chain → ℕ → ChainWord → ℕ
 score c last p = rank_of c p * (last + 1) + since_of c p
 
-since_within : (c : Chain) (bound last : ℕ) (p : Position) → HasBounds c bound last → IsOn c p → since_of c p ≤ last
+since_within : (c : Chain) (bound last : ℕ) (p : ChainWord) → HasBounds c bound last → IsOn c p → since_of c p ≤ last
 since_within c bound last Head within on = omega arith
 since_within c bound last (Node x) within on = (within x on).1
 
-rank_within : (c : Chain) (bound last : ℕ) (p : Position) → HasBounds c bound last → IsOn c p → rank_of c p ≤ bound + 1
+rank_within : (c : Chain) (bound last : ℕ) (p : ChainWord) → HasBounds c bound last → IsOn c p → rank_of c p ≤ bound + 1
 rank_within c bound last Head within on = omega arith
 rank_within c bound last (Node x) within on = omega (arith, (within x on).0)
 
@@ -148,19 +148,19 @@ rises_by a s b t last before within =
     let g = same.1 in omega arith) before
 
 -- a later word has a greater number
-score-rises : (c : Chain) (last : ℕ) (p q : Position)
+score-rises : (c : Chain) (last : ℕ) (p q : ChainWord)
     → Precedes c p q → since_of c p ≤ last → score c last p < score c last q
 score-rises c last p q before within = rises_by (rank_of c p) (since_of c p) (rank_of c q)
     (since_of c q) last before within
 
-score-bound : (c : Chain) (bound last : ℕ) (p : Position)
+score-bound : (c : Chain) (bound last : ℕ) (p : ChainWord)
     → HasBounds c bound last → IsOn c p → score c last p ≤ (bound + 1) * (last + 1) + last
 score-bound c bound last p within on =
     let a = times (rank_of c p) (bound + 1) (last + 1) (rank_within c bound last p within on) in
     omega (arith, a, since_within c bound last p within on)
 
 -- from a word of a chain with such bounds one meets some list
-met_within : (c : Chain) (bound last steps : ℕ) (p : Position) → IsChain c → HasBounds c bound last → IsOn c p
+met_within : (c : Chain) (bound last steps : ℕ) (p : ChainWord) → IsChain c → HasBounds c bound last → IsOn c p
     → (bound + 1) * (last + 1) + last + 1 ≤ steps + score c last p → (xs : List ℕ) × MeetsFrom c p xs
 met_within c bound last zero p chain within on enough =
     absurd (omega (arith, score-bound c bound last p within on))
@@ -183,22 +183,22 @@ IsMet-from_chain c size chain below =
     (found.0, IsMet-from_Meets c found.0 chain found.1)
 
 -- a node that is met names a node
-Meets-named : (c : Chain) (p : Position) (xs : List ℕ) (x : ℕ) → MeetsFrom c p xs → Contains xs x → x ≢ nowhere
+Meets-named : (c : Chain) (p : ChainWord) (xs : List ℕ) (x : ℕ) → MeetsFrom c p xs → Contains xs x → x ≢ nowhere
 Meets-named c p [] x met at = absurd (Contains-none x at)
 Meets-named c p (y ∷ ys) x met at =
     by_place x y ys at (λ e. λ none. met.1 (e ∙ none)) (λ later. Meets-named c (Node y) ys x met.2 later)
 
 -- a word leads to one of the nodes, behind itself
-abbrev LedAmong : Chain → Position → List ℕ → ℕ → Type 0
+abbrev LedAmong : Chain → ChainWord → List ℕ → ℕ → Type 0
 LedAmong c p xs x = Contains xs x × Precedes c p (Node x)
 
 -- the first of them
-first_led : (c : Chain) (p : Position) (xs : List ℕ)
+first_led : (c : Chain) (p : ChainWord) (xs : List ℕ)
     → MeetsFrom c p xs → RisesAlong c p xs → c.next p ≢ nowhere → LedAmong c p xs (c.next p)
 first_led c p [] met rising some = absurd (some met)
 first_led c p (y ∷ ys) met rising some = subst (LedAmong c p (y ∷ ys)) (sym met.0) (Contains-here y y ys refl, rising.0)
 
-led : (c : Chain) (p : Position) (xs : List ℕ) (x : ℕ)
+led : (c : Chain) (p : ChainWord) (xs : List ℕ) (x : ℕ)
     → MeetsFrom c p xs → RisesAlong c p xs → Contains xs x → c.next (Node x) ≢ nowhere → LedAmong c (Node x) xs
     (c.next (Node x))
 led c p [] x met rising at some = absurd (Contains-none x at)
@@ -211,7 +211,7 @@ led c p (y ∷ ys) x met rising at some =
     let h = led c (Node y) ys x met.2 rising.1 later some in (Contains-later (c.next (Node x)) y ys h.0, h.1))
 
 -- a word leads no further than to any of the nodes behind it
-first_gap : (c : Chain) (p : Position) (xs : List ℕ) (x : ℕ)
+first_gap : (c : Chain) (p : ChainWord) (xs : List ℕ) (x : ℕ)
     → MeetsFrom c p xs → RisesAlong c p xs → Contains xs x → NotPast c (Node x) (c.next p)
 first_gap c p [] x met rising at = absurd (Contains-none x at)
 first_gap c p (y ∷ ys) x met rising at = subst (NotPast c (Node x)) (sym met.0) (
@@ -220,7 +220,7 @@ first_gap c p (y ∷ ys) x met rising at = subst (NotPast c (Node x)) (sym met.0
       (λ later. λ f. before_both c (Node y) (Node x) (first_least c p y ys x rising later) f),
 )
 
-met_gap : (c : Chain) (p : Position) (xs : List ℕ) (x y : ℕ) → MeetsFrom c p xs → RisesAlong c p xs
+met_gap : (c : Chain) (p : ChainWord) (xs : List ℕ) (x y : ℕ) → MeetsFrom c p xs → RisesAlong c p xs
     → Contains xs x → Contains xs y → Precedes c (Node x) (Node y) → NotPast c (Node y) (c.next (Node x))
 met_gap c p [] x y met rising at to before = absurd (Contains-none x at)
 met_gap c p (z ∷ zs) x y met rising at to before =
@@ -237,7 +237,7 @@ met_gap c p (z ∷ zs) x y met rising at to before =
     met_gap c (Node z) zs x y met.2 rising.1 at' later before)
 
 -- two of the rising nodes at one place of the order are one
-met_alone : (c : Chain) (p : Position) (xs : List ℕ) (x y : ℕ)
+met_alone : (c : Chain) (p : ChainWord) (xs : List ℕ) (x y : ℕ)
     → RisesAlong c p xs → Contains xs x → Contains xs y → c.key x ≡ c.key y → c.since x ≡ c.since y → x ≡ y
 met_alone c p [] x y rising at to same same' = absurd (Contains-none x at)
 met_alone c p (z ∷ zs) x y rising at to same same' =
@@ -254,12 +254,12 @@ met_alone c p (z ∷ zs) x y rising at to same same' =
     (λ later. met_alone c (Node z) zs x y rising.1 at' later same same'))
 
 -- the key behind an unmarked word that is met
-first_rises : (c : Chain) (p : Position) (xs : List ℕ)
+first_rises : (c : Chain) (p : ChainWord) (xs : List ℕ)
     → MeetsFrom c p xs → RisesUnmarked c p xs → c.next p ≢ nowhere → RisesBehind c p (c.next p)
 first_rises c p [] met rising some = absurd (some met)
 first_rises c p (y ∷ ys) met rising some = subst (RisesBehind c p) (sym met.0) rising.0
 
-rises_among : (c : Chain) (p : Position) (xs : List ℕ) (x : ℕ) → MeetsFrom c p xs → RisesUnmarked c p xs
+rises_among : (c : Chain) (p : ChainWord) (xs : List ℕ) (x : ℕ) → MeetsFrom c p xs → RisesUnmarked c p xs
     → Contains xs x → c.next (Node x) ≢ nowhere → RisesBehind c (Node x) (c.next (Node x))
 rises_among c p [] x met rising at some = absurd (Contains-none x at)
 rises_among c p (y ∷ ys) x met rising at some =
@@ -269,20 +269,20 @@ rises_among c p (y ∷ ys) x met rising at some =
     (λ later. rises_among c (Node y) ys x met.2 rising.1 later some)
 
 module _ (c : Chain) (xs : List ℕ) (met : IsMet c xs) where
-  met_leads : (p : Position) → IsOn c p → c.next p ≢ nowhere → LeadsOnChain c p (c.next p)
+  met_leads : (p : ChainWord) → IsOn c p → c.next p ≢ nowhere → LeadsOnChain c p (c.next p)
   met_leads Head on some =
       let h = first_led c Head xs met.met met.rising some in ((met.exactly (c.next Head)).1 h.0, h.1)
   met_leads (Node x) on some =
       let h = led c Head xs x met.met met.rising ((met.exactly x).0 on) some in
       ((met.exactly (c.next (Node x))).1 h.0, h.1)
 
-  met_upto : (p q : Position) → IsOn c p → IsOn c q → Precedes c p q → NotPast c q (c.next p)
+  met_upto : (p q : ChainWord) → IsOn c p → IsOn c q → Precedes c p q → NotPast c q (c.next p)
   met_upto p Head on_p on_q before = absurd (omega arith)
   met_upto Head (Node y) on_p on_q before = first_gap c Head xs y met.met met.rising ((met.exactly y).0 on_q)
   met_upto (Node x) (Node y) on_p on_q before =
       met_gap c Head xs x y met.met met.rising ((met.exactly x).0 on_p) ((met.exactly y).0 on_q) before
 
-  met_apart : (p q : Position)
+  met_apart : (p q : ChainWord)
       → IsOn c p → IsOn c q → rank_of c p ≡ rank_of c q → since_of c p ≡ since_of c q → p ≡ q
   met_apart Head Head on_p on_q same same' = refl
   met_apart Head (Node y) on_p on_q same same' = absurd (omega arith)
@@ -291,7 +291,7 @@ module _ (c : Chain) (xs : List ℕ) (met : IsMet c xs) where
       ap Node
       (met_alone c Head xs x y met.rising ((met.exactly x).0 on_p) ((met.exactly y).0 on_q) (omega arith) same')
 
-  met_higher : (p : Position) → IsOn c p → c.next p ≢ nowhere → RisesBehind c p (c.next p)
+  met_higher : (p : ChainWord) → IsOn c p → c.next p ≢ nowhere → RisesBehind c p (c.next p)
   met_higher Head on some = first_rises c Head xs met.met met.unmarked some
   met_higher (Node x) on some = rises_among c Head xs x met.met met.unmarked ((met.exactly x).0 on) some
 
@@ -302,11 +302,11 @@ module _ (c : Chain) (xs : List ℕ) (met : IsMet c xs) where
       met_higher
 
 -- the word from which one meets a list, or a node of it, leads to each node of it
-abbrev IsLeader : Chain → Position → List ℕ → ℕ → Position → Type 0
+abbrev IsLeader : Chain → ChainWord → List ℕ → ℕ → ChainWord → Type 0
 IsLeader c p xs x q = ((q ≡ p) ⊎ ((y : ℕ) × Contains xs y × (q ≡ Node y))) × (c.next q ≡ x)
 
-pub leader : (c : Chain) (p : Position) (xs : List ℕ) (x : ℕ)
-    → MeetsFrom c p xs → Contains xs x → (q : Position) × IsLeader c p xs x q
+pub leader : (c : Chain) (p : ChainWord) (xs : List ℕ) (x : ℕ)
+    → MeetsFrom c p xs → Contains xs x → (q : ChainWord) × IsLeader c p xs x q
 leader c p [] x met at = absurd (Contains-none x at)
 leader c p (y ∷ ys) x met at =
     by_place x y ys at (λ e. (p, (inl refl, met.0 ∙ e))) (λ later.

@@ -2,7 +2,7 @@
 use Rattle.std.proofs.Common.{◌≡◌, ℕ, ◌<◌, ◌^◌, Bool, IsTrue, ap, ◌∙◌, arith}
 use Rattle.packed_link.specs.Link.{pack, index_of, mark_of, with_mark}
 use Rattle.packed_link.proofs.Links.{index_of-pack, mark_of-pack, mark_of-with_mark, index_of-with_mark, index_of-bound}
-use Rattle.core_chain.specs.Chain.{Chain, Position, Node}
+use Rattle.core_chain.specs.Chain.{Chain, ChainWord, Node}
 use Rattle.core_chain.specs.Steps.{ChangesOnly, Joins, Departs, CanInsert, Inserts, CanReplace, Replaces}
 use Rattle.core_chain.specs.Steps.{SetsMark, CanUnlink, Unlinks, Untouched}
 use Rattle.core_chain.specs.Table.{Places, chain_in, WritesWord, StandsAlone, StandsElsewhere}
@@ -17,7 +17,7 @@ module _ (old new : ℕ → ℕ) (places : Places) (on on' : ℕ → Bool) (sinc
   new_chain = chain_in new places on' since'
 
   -- a write at one word of a chain keeps its other words and the keys
-  ChangesOnly-in : (at : Position) (word : ℕ)
+  ChangesOnly-in : (at : ChainWord) (word : ℕ)
       → StandsAlone places at → WritesWord old new (places.word_at at) word → ChangesOnly old_chain new_chain at
   ChangesOnly-in at word alone writes = record {
     next = λ p ne. ap index_of (writes.others (places.word_at p) (alone.words p ne));
@@ -27,7 +27,7 @@ module _ (old new : ℕ → ℕ) (places : Places) (on on' : ℕ → Bool) (sinc
   }
 
   -- an unmarked link to a node that may be inserted inserts it
-  pub Inserts-in : (at : Position) (node tag : ℕ) → StandsAlone places at → node < 2 ^ 24
+  pub Inserts-in : (at : ChainWord) (node tag : ℕ) → StandsAlone places at → node < 2 ^ 24
       → CanInsert (chain_in old places on since) at node → WritesWord old new (places.word_at at) (pack node 0 tag)
       → Joins on on' node → Inserts (chain_in old places on since) (chain_in new places on' since') at node
   Inserts-in at node tag alone small can writes joins = record {
@@ -53,7 +53,7 @@ module _ (old new : ℕ → ℕ) (places : Places) (on on' : ℕ → Bool) (sinc
   }
 
   -- a mark that is set marks the word
-  pub SetsMark-in : (at : Position) → StandsAlone places at
+  pub SetsMark-in : (at : ChainWord) → StandsAlone places at
       → WritesWord old new (places.word_at at) (with_mark (old (places.word_at at))) → ((x : ℕ) → on' x ≡ on x)
       → SetsMark (chain_in old places on since) (chain_in new places on' since') at
   SetsMark-in at alone writes stays = record {
@@ -64,7 +64,7 @@ module _ (old new : ℕ → ℕ) (places : Places) (on on' : ℕ → Bool) (sinc
   }
 
   -- an unmarked link to the successor of a node that may be unlinked unlinks it
-  pub Unlinks-in : (at : Position) (node tag : ℕ) → StandsAlone places at → CanUnlink
+  pub Unlinks-in : (at : ChainWord) (node tag : ℕ) → StandsAlone places at → CanUnlink
       (chain_in old places on since) at node
       → WritesWord old new (places.word_at at) (pack (index_of (old (places.word_at (Node node)))) 0 tag)
       → Departs on on' node → Unlinks (chain_in old places on since) (chain_in new places on' since') at node

@@ -1,38 +1,38 @@
 -- A marked node that is unlinked from an unmarked predecessor keeps the chain.
 use Rattle.std.proofs.Common.{◌≡◌, ◌≢◌, ℕ, sym, ap, ◌∙◌, subst, arith, IsTrue}
 use Rattle.packed_link.specs.Link.{nowhere}
-use Rattle.core_chain.specs.Chain.{Chain, Position, Head, Node, IsOn, IsChain, Precedes, rank_of, since_of}
+use Rattle.core_chain.specs.Chain.{Chain, ChainWord, Head, Node, IsOn, IsChain, Precedes, rank_of, since_of}
 use Rattle.core_chain.specs.Steps.{Unlinks, IsFrozenTo, Keeps}
 use Rattle.core_chain.proofs.Orders.{if_same, by_order, LeadsOnChain, NotPast, RisesBehind, IsChain-by}
 use Rattle.core_chain.proofs.Orders.{rank_of-changed, since_of-changed, before_still, before_same, before_both}
 use Rattle.core_chain.proofs.Orders.{before_then}
 use Rattle.core_chain.proofs.Orders.{one_leads, rises_behind}
 
-module _ (c d : Chain) (p : Position) (x : ℕ) (chain : IsChain c) (step : Unlinks c d p x) where
-  rank : (q : Position) → rank_of d q ≡ rank_of c q
+module _ (c d : Chain) (p : ChainWord) (x : ℕ) (chain : IsChain c) (step : Unlinks c d p x) where
+  rank : (q : ChainWord) → rank_of d q ≡ rank_of c q
   rank q = rank_of-changed c d p step.words q
 
-  since : (q : Position) → IsOn c q → since_of d q ≡ since_of c q
+  since : (q : ChainWord) → IsOn c q → since_of d q ≡ since_of c q
   since q on = since_of-changed c d p step.words q on
 
   -- words of the old chain stand in the order in which they stood
-  forth : (q r : Position) → IsOn c q → IsOn c r → Precedes c q r → Precedes d q r
+  forth : (q r : ChainWord) → IsOn c q → IsOn c r → Precedes c q r → Precedes d q r
   forth q r on_q on_r before = before_still c d q r (rank q) (rank r) (since q on_q) (since r on_r) before
 
-  still : (q r : Position) → IsOn c q → IsOn c r → Precedes d q r → Precedes c q r
+  still : (q r : ChainWord) → IsOn c q → IsOn c r → Precedes d q r → Precedes c q r
   still q r on_q on_r before =
       before_still d c q r (sym (rank q)) (sym (rank r)) (sym (since q on_q)) (sym (since r on_r)) before
 
-  back : (q : Position) → IsOn d q → IsOn c q
+  back : (q : ChainWord) → IsOn d q → IsOn c q
   back Head on = tt
   back (Node y) on =
       sym (step.nodes.others y (λ e. step.nodes.departs (subst (λ (z : ℕ). IsTrue (d.on z)) e on))) ∙ on
 
-  gone : (q : Position) → IsOn d q → q ≢ Node x
+  gone : (q : ChainWord) → IsOn d q → q ≢ Node x
   gone q on e = step.nodes.departs (subst (IsOn d) e on)
 
   -- what was on the chain is on it, but for the unlinked node
-  pub IsOn-unlinked : (q : Position) → IsOn c q → q ≢ Node x → IsOn d q
+  pub IsOn-unlinked : (q : ChainWord) → IsOn c q → q ≢ Node x → IsOn d q
   IsOn-unlinked Head on ne = tt
   IsOn-unlinked (Node y) on ne = step.nodes.others y (λ e. ne (ap Node e)) ∙ on
 
@@ -44,7 +44,7 @@ module _ (c d : Chain) (p : Position) (x : ℕ) (chain : IsChain c) (step : Unli
   present = subst (LeadsOnChain c p) step.can.led (chain.leads p step.can.present some)
 
   -- what stands behind the predecessor stands behind the unlinked node
-  behind : (r : Position) → IsOn d r → Precedes c p r → Precedes c (Node x) r
+  behind : (r : ChainWord) → IsOn d r → Precedes c p r → Precedes c (Node x) r
   behind r on after =
       by_order c (Node x) r chain present.0 (back r on) (λ e. absurd (gone r on (sym e))) (λ low. low)
       (λ high. absurd (chain.gap p r step.can.present (back r on) after
@@ -59,17 +59,17 @@ module _ (c d : Chain) (p : Position) (x : ℕ) (chain : IsChain c) (step : Unli
       (next, IsOn-unlinked (Node (c.next (Node x))) next.0 ne)
 
   -- where the word leads that was written
-  to_p : (q : Position) → q ≡ p → c.next (Node x) ≡ d.next q
+  to_p : (q : ChainWord) → q ≡ p → c.next (Node x) ≡ d.next q
   to_p q at = sym step.leads ∙ ap d.next (sym at)
 
-  leads : (q : Position) → IsOn d q → d.next q ≢ nowhere → LeadsOnChain d q (d.next q)
+  leads : (q : ChainWord) → IsOn d q → d.next q ≢ nowhere → LeadsOnChain d q (d.next q)
   leads q on leads_on =
       if_same q p (λ at.
       let next = successor (λ e. leads_on (sym (to_p q at) ∙ e)) in
       let y : ℕ = c.next (Node x) in
       subst (LeadsOnChain d q) (to_p q at) (
         next.1,
-        subst (λ (r : Position). Precedes d r (Node y)) (sym at)
+        subst (λ (r : ChainWord). Precedes d r (Node y)) (sym at)
             (forth p (Node y) step.can.present next.0.0 (before_then c p (Node x) (Node y) present.1 next.0.1)),
       )) (λ not_p.
       let to : c.next q ≡ d.next q = sym (step.words.next q not_p) in
@@ -81,11 +81,11 @@ module _ (c d : Chain) (p : Position) (x : ℕ) (chain : IsChain c) (step : Unli
       subst (LeadsOnChain d q) to
       (IsOn-unlinked (Node (c.next q)) next.0 ne, forth q (Node (c.next q)) (back q on) next.0 next.1))
 
-  upto : (q r : Position) → IsOn d q → IsOn d r → Precedes d q r → NotPast d r (d.next q)
+  upto : (q r : ChainWord) → IsOn d q → IsOn d r → Precedes d q r → NotPast d r (d.next q)
   upto q r on_q on_r before =
       let on_r' = back r on_r in
       if_same q p (λ at.
-      let before_p : Precedes d p r = subst (λ (s : Position). Precedes d s r) at before in
+      let before_p : Precedes d p r = subst (λ (s : ChainWord). Precedes d s r) at before in
       let low = behind r on_r (still p r step.can.present on_r' before_p) in
       let some = chain.last (Node x) r present.0 on_r' low in
       let next = (chain.leads (Node x) present.0 some).0 in
@@ -100,14 +100,14 @@ module _ (c d : Chain) (p : Position) (x : ℕ) (chain : IsChain c) (step : Unli
       subst (NotPast d r) (sym (step.words.next q not_p))
       (some, λ f. chain.gap q r on_q' on_r' low (still r (Node (c.next q)) on_r' next f)))
 
-  alone : (q r : Position)
+  alone : (q r : ChainWord)
       → IsOn d q → IsOn d r → rank_of d q ≡ rank_of d r → since_of d q ≡ since_of d r → q ≡ r
   alone q r on_q on_r same same' =
       let on = back q on_q in
       let on' = back r on_r in
       chain.alone q r on on' (sym (rank q) ∙ (same ∙ rank r)) (sym (since q on) ∙ (same' ∙ since r on'))
 
-  rises : (q : Position) → IsOn d q → d.next q ≢ nowhere → RisesBehind d q (d.next q)
+  rises : (q : ChainWord) → IsOn d q → d.next q ≢ nowhere → RisesBehind d q (d.next q)
   rises q on leads_on =
       if_same q p (λ at.
       let next = successor (λ e. leads_on (sym (to_p q at) ∙ e)) in
@@ -130,13 +130,13 @@ module _ (c d : Chain) (p : Position) (x : ℕ) (chain : IsChain c) (step : Unli
   IsChain-unlinked = IsChain-by d (λ y on. chain.named y (back (Node y) on)) leads upto alone rises
 
   -- what is frozen stays frozen
-  frozen : (q : Position) → IsFrozenTo c q → IsFrozenTo d q
+  frozen : (q : ChainWord) → IsFrozenTo c q → IsFrozenTo d q
   frozen q old =
       -- the word that was changed is unmarked, so it stands behind the frozen part
       let unfrozen : (Precedes c q p → ⊥) → ⊥ = λ h.
       let m = old.marks p step.can.present h in let u = step.can.unmarked in omega arith in
       let not_x : q ≢ Node x = λ e.
-      unfrozen (λ h. before_both c q p h (subst (λ (r : Position). Precedes c p r) (sym e) present.1)) in
+      unfrozen (λ h. before_both c q p h (subst (λ (r : ChainWord). Precedes c p r) (sym e) present.1)) in
       record {
         present = IsOn-unlinked q old.present not_x;
         marks = λ r on not_behind.
@@ -147,7 +147,7 @@ module _ (c d : Chain) (p : Position) (x : ℕ) (chain : IsChain c) (step : Unli
       }
 
   -- the word that was changed was unmarked
-  not_marked : (q : Position) → c.mark q ≡ 1 → q ≢ p
+  not_marked : (q : ChainWord) → c.mark q ≡ 1 → q ≢ p
   not_marked q marked e = let a : c.mark q ≡ c.mark p = ap c.mark e in let b = step.can.unmarked in omega arith
 
   -- unlinking takes nothing back

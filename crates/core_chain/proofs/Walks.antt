@@ -4,7 +4,7 @@ use Rattle.std.specs.Prelude.{Contains}
 use Rattle.std.proofs.lemmas.Bool.{and_parts, and_from}
 use Rattle.std.proofs.lemmas.Bool.Decides.{nat_tests}
 use Rattle.packed_link.specs.Link.{nowhere}
-use Rattle.core_chain.specs.Chain.{Chain, Position, Head, Node, IsOn, IsChain, Precedes, rank_of, since_of}
+use Rattle.core_chain.specs.Chain.{Chain, ChainWord, Head, Node, IsOn, IsChain, Precedes, rank_of, since_of}
 use Rattle.core_chain.specs.Met.{MeetsFrom}
 use Rattle.core_chain.specs.Walk.{StandsBelow, Passes, stands_behind, rest_behind}
 use Rattle.core_chain.proofs.Orders.{IsBelow-precedes, Precedes-below, LeadsOnChain, NotPast, RisesBehind, IsChain-by}
@@ -20,20 +20,20 @@ one_of_key c x y chain on_x on_y open_x open_y same =
     (λ high. let f = rises_behind c (Node y) (Node x) chain on_y on_x open_y high in absurd (omega arith))
 
 -- where a word leads past a key, no node of the key is on the chain
-pub none_of_key : (c : Chain) (p : Position) (key x : ℕ) → IsChain c → Passes c p key → IsOn c (Node x) → c.key x ≢ key
+pub none_of_key : (c : Chain) (p : ChainWord) (key x : ℕ) → IsChain c → Passes c p key → IsOn c (Node x) → c.key x ≢ key
 none_of_key c p key x chain passes on same =
     let before : Precedes c p (Node x) = IsBelow-precedes c p x (rw same passes.above) in
     let low = passes.below (chain.last p (Node x) passes.present on before) in
     chain.gap p (Node x) passes.present on before (inl (omega arith))
 
 -- what is met from a word of a chain is what stands behind it
-pub all_behind : (c : Chain) (p : Position) (xs : List ℕ) (x : ℕ) → IsChain c → IsOn c p → MeetsFrom c p xs
+pub all_behind : (c : Chain) (p : ChainWord) (xs : List ℕ) (x : ℕ) → IsChain c → IsOn c p → MeetsFrom c p xs
     → Contains xs x ↔ (IsOn c (Node x) × Precedes c p (Node x))
 all_behind c p xs x chain on met =
     let both = (met_behind c p xs chain on met).1 x in (λ at. both.1 at, λ h. both.0 h)
 
 -- behind an unmarked word, these are the nodes of greater keys
-pub all_greater : (c : Chain) (p : Position) (xs : List ℕ) (x : ℕ) → IsChain c → IsOn c p → c.mark p ≡ 0
+pub all_greater : (c : Chain) (p : ChainWord) (xs : List ℕ) (x : ℕ) → IsChain c → IsOn c p → c.mark p ≡ 0
     → MeetsFrom c p xs
     → Contains xs x ↔ (IsOn c (Node x) × StandsBelow c p (c.key x))
 all_greater c p xs x chain on unmarked met =
@@ -44,7 +44,7 @@ all_greater c p xs x chain on unmarked met =
 
 -- some word of a chain of finitely many nodes leads to each node on it
 pub leader_of : (c : Chain) (size x : ℕ) → IsChain c → ((y : ℕ) → IsOn c (Node y) → y < size) → IsOn c (Node x)
-    → (p : Position) × IsOn c p × (c.next p ≡ x)
+    → (p : ChainWord) × IsOn c p × (c.next p ≡ x)
 leader_of c size x chain within on =
     let found = IsMet-from_chain c size chain within in
     let exactly = found.1.exactly in
@@ -56,12 +56,12 @@ leader_of c size x chain within on =
       led.1.1,
     )
 
-module _ (c : Chain) (p : Position) (chain : IsChain c) (on_p : IsOn c p) where
+module _ (c : Chain) (p : ChainWord) (chain : IsChain c) (on_p : IsOn c p) where
   -- whether a word stands behind another
-  behind_true : (q : Position) → stands_behind c p q ≡ true → Precedes c p q
+  behind_true : (q : ChainWord) → stands_behind c p q ≡ true → Precedes c p q
   behind_true q test = grind (arith, nat_tests)
 
-  behind_test : (q : Position) → Precedes c p q → stands_behind c p q ≡ true
+  behind_test : (q : ChainWord) → Precedes c p q → stands_behind c p q ≡ true
   behind_test q after = grind (arith, nat_tests)
 
   -- a node of the rest is on the chain, behind the word
@@ -74,7 +74,7 @@ module _ (c : Chain) (p : Position) (chain : IsChain c) (on_p : IsOn c p) where
   part : (x : ℕ) → IsOn c (Node x) → Precedes c p (Node x) → IsOn (rest_behind c p) (Node x)
   part x on after = and_from (c.on x) (stands_behind c p (Node x)) on (behind_test (Node x) after)
 
-  leads : (q : Position) → IsOn (rest_behind c p) q → (rest_behind c p).next q ≢ nowhere
+  leads : (q : ChainWord) → IsOn (rest_behind c p) q → (rest_behind c p).next q ≢ nowhere
       → LeadsOnChain (rest_behind c p) q ((rest_behind c p).next q)
   leads Head on some = let to = chain.leads p on_p some in (part (c.next p) to.0 to.1, inl (omega arith))
   leads (Node x) on some =
@@ -82,7 +82,7 @@ module _ (c : Chain) (p : Position) (chain : IsChain c) (on_p : IsOn c p) where
       let to = chain.leads (Node x) at.0 some in
       (part (c.next (Node x)) to.0 (before_then c p (Node x) (Node (c.next (Node x))) at.1 to.1), to.1)
 
-  upto : (q r : Position) → IsOn (rest_behind c p) q → IsOn (rest_behind c p) r → Precedes (rest_behind c p) q r
+  upto : (q r : ChainWord) → IsOn (rest_behind c p) q → IsOn (rest_behind c p) r → Precedes (rest_behind c p) q r
       → NotPast (rest_behind c p) r ((rest_behind c p).next q)
   upto q Head on_q on_r before = absurd (omega arith)
   upto Head (Node y) on_q on_r before =
@@ -93,7 +93,7 @@ module _ (c : Chain) (p : Position) (chain : IsChain c) (on_p : IsOn c p) where
       let at = whole y on_r in
       (chain.last (Node x) (Node y) from.0 at.0 before, chain.gap (Node x) (Node y) from.0 at.0 before)
 
-  alone : (q r : Position) → IsOn (rest_behind c p) q → IsOn (rest_behind c p) r
+  alone : (q r : ChainWord) → IsOn (rest_behind c p) q → IsOn (rest_behind c p) r
       → rank_of (rest_behind c p) q ≡ rank_of (rest_behind c p) r
       → since_of (rest_behind c p) q ≡ since_of (rest_behind c p) r → q ≡ r
   alone Head Head on_q on_r same same' = refl
@@ -102,7 +102,7 @@ module _ (c : Chain) (p : Position) (chain : IsChain c) (on_p : IsOn c p) where
   alone (Node x) (Node y) on_q on_r same same' = chain.alone (Node x) (Node y) (whole x on_q).0
       (whole y on_r).0 same same'
 
-  rises : (q : Position) → IsOn (rest_behind c p) q → (rest_behind c p).next q ≢ nowhere
+  rises : (q : ChainWord) → IsOn (rest_behind c p) q → (rest_behind c p).next q ≢ nowhere
       → RisesBehind (rest_behind c p) q ((rest_behind c p).next q)
   rises Head on some = λ u. omega arith
   rises (Node x) on some = λ u. chain.rises (Node x) (whole x on).0 u some

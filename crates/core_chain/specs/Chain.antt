@@ -5,9 +5,9 @@ use Rattle.std.specs.Prelude.{◌≡◌, ◌≢◌, ◌⊎◌, ℕ, ◌+◌, ◌
 use Rattle.packed_link.specs.Link.{nowhere}
 
 -- a word that leads on: the head of the chain, or the link of a node
-pub data Position : Type 0 where
-  Head : Position
-  Node : ℕ → Position
+pub data ChainWord : Type 0 where
+  Head : ChainWord
+  Node : ℕ → ChainWord
 
 -- a chain: which nodes are on it, the key of each node and the number of the step that linked it, and for each word the
 -- node that it leads to, or `nowhere`, and its mark, 0 or 1
@@ -15,26 +15,26 @@ pub record Chain : Type 0 where
   pub on : ℕ → Bool
   pub key : ℕ → ℕ
   pub since : ℕ → ℕ
-  pub next : Position → ℕ
-  pub mark : Position → ℕ
+  pub next : ChainWord → ℕ
+  pub mark : ChainWord → ℕ
 
 -- a word of the chain: its head, or the link of a node on it
-abbrev pub IsOn : Chain → Position → Type 0
+abbrev pub IsOn : Chain → ChainWord → Type 0
 IsOn chain Head = Unit {0}
 IsOn chain (Node x) = IsTrue (chain.on x)
 
 -- where a word stands in the order of the keys, in which the head comes first
-abbrev pub rank_of : Chain → Position → ℕ
+abbrev pub rank_of : Chain → ChainWord → ℕ
 rank_of chain Head = 0
 rank_of chain (Node x) = chain.key x + 1
 
 -- when a word came onto the chain
-abbrev pub since_of : Chain → Position → ℕ
+abbrev pub since_of : Chain → ChainWord → ℕ
 since_of chain Head = 0
 since_of chain (Node x) = chain.since x
 
 -- the first word stands before the second: its key is smaller, or the keys are equal and it was linked earlier
-abbrev pub Precedes : Chain → Position → Position → Type 0
+abbrev pub Precedes : Chain → ChainWord → ChainWord → Type 0
 Precedes chain p q =
     (rank_of chain p < rank_of chain q)
     ⊎ ((rank_of chain p ≡ rank_of chain q) × (since_of chain p < since_of chain q))
@@ -44,12 +44,12 @@ Precedes chain p q =
 -- greater key
 pub record IsChain (chain : Chain) : Type 0 where
   pub named : (x : ℕ) → IsOn chain (Node x) → x ≢ nowhere
-  pub leads : (p : Position) → IsOn chain p → chain.next p ≢ nowhere
+  pub leads : (p : ChainWord) → IsOn chain p → chain.next p ≢ nowhere
       → IsOn chain (Node (chain.next p)) × Precedes chain p (Node (chain.next p))
-  pub last : (p q : Position) → IsOn chain p → IsOn chain q → Precedes chain p q → chain.next p ≢ nowhere
-  pub gap : (p q : Position) → IsOn chain p → IsOn chain q → Precedes chain p q
+  pub last : (p q : ChainWord) → IsOn chain p → IsOn chain q → Precedes chain p q → chain.next p ≢ nowhere
+  pub gap : (p q : ChainWord) → IsOn chain p → IsOn chain q → Precedes chain p q
       → Precedes chain q (Node (chain.next p)) → ⊥
-  pub alone : (p q : Position) → IsOn chain p → IsOn chain q → rank_of chain p ≡ rank_of chain q
+  pub alone : (p q : ChainWord) → IsOn chain p → IsOn chain q → rank_of chain p ≡ rank_of chain q
       → since_of chain p ≡ since_of chain q → p ≡ q
-  pub rises : (p : Position) → IsOn chain p → chain.mark p ≡ 0 → chain.next p ≢ nowhere
+  pub rises : (p : ChainWord) → IsOn chain p → chain.mark p ≡ 0 → chain.next p ≢ nowhere
       → rank_of chain p < rank_of chain (Node (chain.next p))

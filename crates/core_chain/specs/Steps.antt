@@ -1,13 +1,13 @@
 -- The steps that change one word of a chain, what each needs, and what none of them takes back.
 use Rattle.std.specs.Prelude.{◌≡◌, ◌≢◌, ℕ, ◌<◌, Bool, IsTrue}
 use Rattle.packed_link.specs.Link.{nowhere}
-use Rattle.core_chain.specs.Chain.{Chain, Position, Head, Node, IsOn, Precedes}
+use Rattle.core_chain.specs.Chain.{Chain, ChainWord, Head, Node, IsOn, Precedes}
 use Rattle.core_chain.specs.Walk.{Passes}
 
 -- every word but one stays, and so do all keys; a node on the chain stays linked by the same step
-pub record ChangesOnly (old new : Chain) (at : Position) : Type 0 where
-  pub next : (p : Position) → p ≢ at → new.next p ≡ old.next p
-  pub mark : (p : Position) → p ≢ at → new.mark p ≡ old.mark p
+pub record ChangesOnly (old new : Chain) (at : ChainWord) : Type 0 where
+  pub next : (p : ChainWord) → p ≢ at → new.next p ≡ old.next p
+  pub mark : (p : ChainWord) → p ≢ at → new.mark p ≡ old.mark p
   pub key : (x : ℕ) → new.key x ≡ old.key x
   pub since : (x : ℕ) → IsOn old (Node x) → new.since x ≡ old.since x
 
@@ -23,7 +23,7 @@ pub record Departs (old new : ℕ → Bool) (node : ℕ) : Type 0 where
 
 -- a word may be made to lead to a node: it is on the chain and unmarked, and leads past the node's key; the node
 -- isn't on the chain, and its own link is filled with the successor
-pub record CanInsert (chain : Chain) (at : Position) (node : ℕ) : Type 0 where
+pub record CanInsert (chain : Chain) (at : ChainWord) (node : ℕ) : Type 0 where
   pub passes : Passes chain at (chain.key node)
   pub unmarked : chain.mark at ≡ 0
   pub named : node ≢ nowhere
@@ -31,7 +31,7 @@ pub record CanInsert (chain : Chain) (at : Position) (node : ℕ) : Type 0 where
   pub filled : chain.next (Node node) ≡ chain.next at
 
 -- a node is inserted: the word of its predecessor leads to it now
-pub record Inserts (old new : Chain) (at : Position) (node : ℕ) : Type 0 where
+pub record Inserts (old new : Chain) (at : ChainWord) (node : ℕ) : Type 0 where
   pub can : CanInsert old at node
   pub leads : new.next at ≡ node
   pub unmarked : new.mark at ≡ 0
@@ -58,7 +58,7 @@ pub record Replaces (old new : Chain) (node fresh : ℕ) : Type 0 where
   pub nodes : Joins old.on new.on fresh
 
 -- a word gets its mark, whether or not it had it before, and all else stays
-pub record SetsMark (old new : Chain) (at : Position) : Type 0 where
+pub record SetsMark (old new : Chain) (at : ChainWord) : Type 0 where
   pub marked : new.mark at ≡ 1
   pub leads : new.next at ≡ old.next at
   pub words : ChangesOnly old new at
@@ -70,7 +70,7 @@ pub record Marks (old new : Chain) (node : ℕ) : Type 0 where
   pub sets : SetsMark old new (Node node)
 
 -- a word may be made to lead past a node: it is on the chain and unmarked, and leads to the node, which is marked
-pub record CanUnlink (chain : Chain) (at : Position) (node : ℕ) : Type 0 where
+pub record CanUnlink (chain : Chain) (at : ChainWord) (node : ℕ) : Type 0 where
   pub present : IsOn chain at
   pub unmarked : chain.mark at ≡ 0
   pub named : node ≢ nowhere
@@ -78,7 +78,7 @@ pub record CanUnlink (chain : Chain) (at : Position) (node : ℕ) : Type 0 where
   pub marked : chain.mark (Node node) ≡ 1
 
 -- a node is unlinked: the word of its predecessor leads to its successor now
-pub record Unlinks (old new : Chain) (at : Position) (node : ℕ) : Type 0 where
+pub record Unlinks (old new : Chain) (at : ChainWord) (node : ℕ) : Type 0 where
   pub can : CanUnlink old at node
   pub leads : new.next at ≡ old.next (Node node)
   pub unmarked : new.mark at ≡ 0
@@ -86,12 +86,12 @@ pub record Unlinks (old new : Chain) (at : Position) (node : ℕ) : Type 0 where
   pub nodes : Departs old.on new.on node
 
 -- each word from the head up to this one is marked
-pub record IsFrozenTo (chain : Chain) (end : Position) : Type 0 where
+pub record IsFrozenTo (chain : Chain) (end : ChainWord) : Type 0 where
   pub present : IsOn chain end
-  pub marks : (p : Position) → IsOn chain p → (Precedes chain end p → ⊥) → chain.mark p ≡ 1
+  pub marks : (p : ChainWord) → IsOn chain p → (Precedes chain end p → ⊥) → chain.mark p ≡ 1
 
 -- the node to which the frozen part leads is frozen
-pub record Freezes (old new : Chain) (end : Position) (node : ℕ) : Type 0 where
+pub record Freezes (old new : Chain) (end : ChainWord) (node : ℕ) : Type 0 where
   pub frozen : IsFrozenTo old end
   pub named : node ≢ nowhere
   pub led : old.next end ≡ node
@@ -102,20 +102,20 @@ pub record Untouched (old new : Chain) : Type 0 where
   pub nodes : (x : ℕ) → new.on x ≡ old.on x
   pub key : (x : ℕ) → IsOn old (Node x) → new.key x ≡ old.key x
   pub since : (x : ℕ) → IsOn old (Node x) → new.since x ≡ old.since x
-  pub next : (p : Position) → IsOn old p → new.next p ≡ old.next p
-  pub mark : (p : Position) → IsOn old p → new.mark p ≡ old.mark p
+  pub next : (p : ChainWord) → IsOn old p → new.next p ≡ old.next p
+  pub mark : (p : ChainWord) → IsOn old p → new.mark p ≡ old.mark p
 
 -- what no step takes back: a mark, where a marked word leads, and a frozen part
 pub record Keeps (old new : Chain) : Type 0 where
-  pub marks : (p : Position) → old.mark p ≡ 1 → new.mark p ≡ 1
-  pub links : (p : Position) → old.mark p ≡ 1 → new.next p ≡ old.next p
-  pub frozen : (p : Position) → IsFrozenTo old p → IsFrozenTo new p
+  pub marks : (p : ChainWord) → old.mark p ≡ 1 → new.mark p ≡ 1
+  pub links : (p : ChainWord) → old.mark p ≡ 1 → new.next p ≡ old.next p
+  pub frozen : (p : ChainWord) → IsFrozenTo old p → IsFrozenTo new p
 
 -- any step that changes one word of a chain
 pub data Step (old new : Chain) : Type 0 where
-  insert : (at : Position) (node : ℕ) → Inserts old new at node → Step old new
+  insert : (at : ChainWord) (node : ℕ) → Inserts old new at node → Step old new
   mark : (node : ℕ) → Marks old new node → Step old new
   replace : (node fresh : ℕ) → Replaces old new node fresh → Step old new
-  unlink : (at : Position) (node : ℕ) → Unlinks old new at node → Step old new
+  unlink : (at : ChainWord) (node : ℕ) → Unlinks old new at node → Step old new
   freeze_head : SetsMark old new Head → Step old new
-  freeze : (end : Position) (node : ℕ) → Freezes old new end node → Step old new
+  freeze : (end : ChainWord) (node : ℕ) → Freezes old new end node → Step old new

@@ -1,11 +1,11 @@
 -- Chains over the words of one table of packed links.
 use Rattle.std.specs.Prelude.{◌≡◌, ◌≢◌, ℕ, Bool, IsTrue}
 use Rattle.packed_link.specs.Link.{index_of, mark_of}
-use Rattle.core_chain.specs.Chain.{Chain, Position, Node, IsOn}
+use Rattle.core_chain.specs.Chain.{Chain, ChainWord, Node, IsOn}
 
 -- where the words of a chain stand in a table, and where the keys of nodes do
 pub record Places : Type 0 where
-  pub word_at : Position → ℕ
+  pub word_at : ChainWord → ℕ
   pub key_at : ℕ → ℕ
 
 -- the chain that stands at these places of a table, with these nodes on it, linked by the steps of these numbers
@@ -28,11 +28,11 @@ pub record WritesWord (old new : ℕ → ℕ) (place word : ℕ) : Type 0 where
   pub others : (i : ℕ) → i ≢ place → new i ≡ old i
 
 -- no other word of a chain stands where this one does, and no key
-pub record StandsAlone (places : Places) (at : Position) : Type 0 where
-  pub words : (p : Position) → p ≢ at → places.word_at p ≢ places.word_at at
+pub record StandsAlone (places : Places) (at : ChainWord) : Type 0 where
+  pub words : (p : ChainWord) → p ≢ at → places.word_at p ≢ places.word_at at
   pub keys : (x : ℕ) → places.key_at x ≢ places.word_at at
 
 -- no word of a chain, and no key of a node on it, stands at this place
 pub record StandsElsewhere (chain : Chain) (places : Places) (place : ℕ) : Type 0 where
-  pub words : (p : Position) → IsOn chain p → places.word_at p ≢ place
+  pub words : (p : ChainWord) → IsOn chain p → places.word_at p ≢ place
   pub keys : (x : ℕ) → IsOn chain (Node x) → places.key_at x ≢ place

@@ -2,36 +2,36 @@
 -- unlinked, and the rest is frozen. In another course of it node 4 is replaced by node 9.
 use Rattle.std.specs.Prelude.{ℕ, Bool, true, false, nat_eq, if◌then◌else◌}
 use Rattle.packed_link.specs.Link.{nowhere}
-use Rattle.core_chain.specs.Chain.{Chain, Position, Head, Node}
+use Rattle.core_chain.specs.Chain.{Chain, ChainWord, Head, Node}
 
 -- whether two words are one
-abbrev pub is_same : Position → Position → Bool
+abbrev pub is_same : ChainWord → ChainWord → Bool
 is_same Head Head = true
 is_same Head (Node y) = false
 is_same (Node x) Head = false
 is_same (Node x) (Node y) = nat_eq x y
 
 -- a function of words with one value written
-abbrev pub put_at : Position → ℕ → (Position → ℕ) → Position → ℕ
+abbrev pub put_at : ChainWord → ℕ → (ChainWord → ℕ) → ChainWord → ℕ
 put_at at value f p = if is_same p at then value else f p
 
 -- the chain where the link of a node is filled with the successor of a word
-abbrev pub filled : Chain → Position → ℕ → Chain
+abbrev pub filled : Chain → ChainWord → ℕ → Chain
 filled chain at node = record chain { next = put_at (Node node) (chain.next at) chain.next }
 
 -- the chain where a word leads to a node that joins it
-abbrev pub inserted : Chain → Position → ℕ → Chain
+abbrev pub inserted : Chain → ChainWord → ℕ → Chain
 inserted chain at node = record chain {
   on = λ x. if nat_eq x node then true else chain.on x;
   next = put_at at node chain.next;
 }
 
 -- the chain where a word has its mark
-abbrev pub marked : Chain → Position → Chain
+abbrev pub marked : Chain → ChainWord → Chain
 marked chain at = record chain { mark = put_at at 1 chain.mark }
 
 -- the chain where a word leads to the successor of a node that leaves it
-abbrev pub last_unlinked : Chain → Position → ℕ → Chain
+abbrev pub last_unlinked : Chain → ChainWord → ℕ → Chain
 last_unlinked chain at node = record chain {
   on = λ x. if nat_eq x node then false else chain.on x;
   next = put_at at (chain.next (Node node)) chain.next;

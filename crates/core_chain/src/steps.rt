@@ -6,17 +6,17 @@
 //! and that a mark, the link of a marked word and a frozen part stay (`Keeps` of `specs/Steps.antt`).
 ghost use Rattle.std.specs.Prelude.{◌≡◌, ◌≢◌, ℕ};
 ghost use Rattle.packed_link.specs.Link.{nowhere};
-ghost use Rattle.core_chain.specs.Chain.{Chain, Head, IsChain, IsOn, Node, Position};
+ghost use Rattle.core_chain.specs.Chain.{Chain, ChainWord, Head, IsChain, IsOn, Node};
 ghost use Rattle.core_chain.specs.Steps.{Freezes, Inserts, IsFrozenTo, Keeps, Replaces, SetsMark, Step, Unlinks};
 ghost use Rattle.core_chain.specs.Steps.{Untouched};
 
 /// The law of inserting: a node joins the chain between its neighbours, and every node that was on it is on it.
 pub fn inserting_keeps_the_chain()
-    ensures chain { (old new : Chain) (at : Position) (node : ℕ)
+    ensures chain { (old new : Chain) (at : ChainWord) (node : ℕ)
         → IsChain old → Inserts old new at node → IsChain new }
-    ensures nodes { (old new : Chain) (at : Position) (node : ℕ) → IsChain old → Inserts old new at node
-        → (p : Position) → IsOn old p → IsOn new p }
-    ensures keeps { (old new : Chain) (at : Position) (node : ℕ)
+    ensures nodes { (old new : Chain) (at : ChainWord) (node : ℕ) → IsChain old → Inserts old new at node
+        → (p : ChainWord) → IsOn old p → IsOn new p }
+    ensures keeps { (old new : Chain) (at : ChainWord) (node : ℕ)
         → IsChain old → Inserts old new at node → Keeps old new }
 {}
 
@@ -26,28 +26,28 @@ pub fn replacing_keeps_the_chain()
     ensures chain { (old new : Chain) (node fresh : ℕ)
         → IsChain old → Replaces old new node fresh → IsChain new }
     ensures nodes { (old new : Chain) (node fresh : ℕ) → IsChain old → Replaces old new node fresh
-        → (p : Position) → IsOn old p → IsOn new p }
+        → (p : ChainWord) → IsOn old p → IsOn new p }
     ensures keeps { (old new : Chain) (node fresh : ℕ) → IsChain old → Replaces old new node fresh → Keeps old new }
 {}
 
 /// The law of marking: a node that is marked, or a head, is still on the chain, and so is every other.
 pub fn marking_keeps_the_chain()
-    ensures chain { (old new : Chain) (at : Position) → IsChain old → SetsMark old new at → IsChain new }
-    ensures nodes { (old new : Chain) (at : Position) → IsChain old → SetsMark old new at
-        → (p : Position) → IsOn old p → IsOn new p }
-    ensures keeps { (old new : Chain) (at : Position) → IsChain old → SetsMark old new at → Keeps old new }
+    ensures chain { (old new : Chain) (at : ChainWord) → IsChain old → SetsMark old new at → IsChain new }
+    ensures nodes { (old new : Chain) (at : ChainWord) → IsChain old → SetsMark old new at
+        → (p : ChainWord) → IsOn old p → IsOn new p }
+    ensures keeps { (old new : Chain) (at : ChainWord) → IsChain old → SetsMark old new at → Keeps old new }
 {}
 
 /// The law of unlinking: every node that was on the chain is on it but for the one that is unlinked, whose own
 /// link still leads to a node on the chain or to none.
 pub fn unlinking_keeps_the_chain()
-    ensures chain { (old new : Chain) (at : Position) (node : ℕ)
+    ensures chain { (old new : Chain) (at : ChainWord) (node : ℕ)
         → IsChain old → Unlinks old new at node → IsChain new }
-    ensures nodes { (old new : Chain) (at : Position) (node : ℕ) → IsChain old → Unlinks old new at node
-        → (p : Position) → IsOn old p → p ≢ Node node → IsOn new p }
-    ensures keeps { (old new : Chain) (at : Position) (node : ℕ)
+    ensures nodes { (old new : Chain) (at : ChainWord) (node : ℕ) → IsChain old → Unlinks old new at node
+        → (p : ChainWord) → IsOn old p → p ≢ Node node → IsOn new p }
+    ensures keeps { (old new : Chain) (at : ChainWord) (node : ℕ)
         → IsChain old → Unlinks old new at node → Keeps old new }
-    ensures onward { (old new : Chain) (at : Position) (node : ℕ) → IsChain old → Unlinks old new at node
+    ensures onward { (old new : Chain) (at : ChainWord) (node : ℕ) → IsChain old → Unlinks old new at node
         → new.next (Node node) ≢ nowhere → IsOn new (Node (new.next (Node node))) }
 {}
 
@@ -55,9 +55,9 @@ pub fn unlinking_keeps_the_chain()
 /// the part longer by that node. The chain stays one, and what else marking keeps, freezing keeps too.
 pub fn freezing_keeps_the_chain()
     ensures head { (old new : Chain) → SetsMark old new Head → IsFrozenTo new Head }
-    ensures node { (old new : Chain) (end : Position) (node : ℕ)
+    ensures node { (old new : Chain) (end : ChainWord) (node : ℕ)
         → IsChain old → Freezes old new end node → IsFrozenTo new (Node node) }
-    ensures chain { (old new : Chain) (end : Position) (node : ℕ)
+    ensures chain { (old new : Chain) (end : ChainWord) (node : ℕ)
         → IsChain old → Freezes old new end node → IsChain new }
 {}
 
@@ -70,9 +70,9 @@ pub fn each_step_keeps_the_chain()
 /// The law of a frozen chain: where the frozen part leads to none, each word of the chain is marked, and no step
 /// changes it.
 pub fn a_frozen_chain_rests()
-    ensures marked { (chain : Chain) (end p : Position) → IsChain chain → IsFrozenTo chain end
+    ensures marked { (chain : Chain) (end p : ChainWord) → IsChain chain → IsFrozenTo chain end
         → chain.next end ≡ nowhere → IsOn chain p → chain.mark p ≡ 1 }
-    ensures untouched { (old new : Chain) (end : Position) → IsChain old → IsFrozenTo old end
+    ensures untouched { (old new : Chain) (end : ChainWord) → IsChain old → IsFrozenTo old end
         → old.next end ≡ nowhere → Step old new → Untouched old new }
 {}
 
@@ -80,6 +80,6 @@ pub fn a_frozen_chain_rests()
 /// was.
 pub fn what_is_untouched_stays_a_chain()
     ensures chain { (old new : Chain) → IsChain old → Untouched old new → IsChain new }
-    ensures frozen { (old new : Chain) (end : Position)
+    ensures frozen { (old new : Chain) (end : ChainWord)
         → IsChain old → Untouched old new → IsFrozenTo old end → IsFrozenTo new end }
 {}

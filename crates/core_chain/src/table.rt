@@ -4,7 +4,7 @@
 //! (`chain_in` of `specs/Table.antt`). Several chains stand in one table where their places are disjoint.
 ghost use Rattle.std.specs.Prelude.{◌≡◌, ℕ, ◌<◌, ◌^◌, Bool};
 ghost use Rattle.packed_link.specs.Link.{index_of, pack, with_mark};
-ghost use Rattle.core_chain.specs.Chain.{Node, Position};
+ghost use Rattle.core_chain.specs.Chain.{ChainWord, Node};
 ghost use Rattle.core_chain.specs.Steps.{CanInsert, CanUnlink, Inserts, Joins, Departs, CanReplace, Replaces, SetsMark};
 ghost use Rattle.core_chain.specs.Steps.{Unlinks};
 ghost use Rattle.core_chain.specs.Steps.{Untouched};
@@ -15,7 +15,7 @@ ghost use Rattle.core_chain.specs.Table.{KeepsSince, Places, StandsAlone, Stands
 /// the successor of a node that may be unlinked unlinks it.
 pub fn one_write_is_one_step()
     ensures insert { (old new : ℕ → ℕ) (places : Places) (on on_then : ℕ → Bool) (since since_then : ℕ → ℕ)
-        (at : Position) (node tag : ℕ)
+        (at : ChainWord) (node tag : ℕ)
         → KeepsSince on since since_then → StandsAlone places at → node < 2 ^ 24
         → CanInsert (chain_in old places on since) at node
         → WritesWord old new (places.word_at at) (pack node 0 tag) → Joins on on_then node
@@ -26,13 +26,13 @@ pub fn one_write_is_one_step()
         → WritesWord old new (places.word_at (Node node)) (pack fresh 1 tag) → Joins on on_then fresh
         → Replaces (chain_in old places on since) (chain_in new places on_then since_then) node fresh }
     ensures mark { (old new : ℕ → ℕ) (places : Places) (on on_then : ℕ → Bool) (since since_then : ℕ → ℕ)
-        (at : Position)
+        (at : ChainWord)
         → KeepsSince on since since_then → StandsAlone places at
         → WritesWord old new (places.word_at at) (with_mark (old (places.word_at at)))
         → ((x : ℕ) → on_then x ≡ on x)
         → SetsMark (chain_in old places on since) (chain_in new places on_then since_then) at }
     ensures unlink { (old new : ℕ → ℕ) (places : Places) (on on_then : ℕ → Bool) (since since_then : ℕ → ℕ)
-        (at : Position) (node tag : ℕ)
+        (at : ChainWord) (node tag : ℕ)
         → KeepsSince on since since_then → StandsAlone places at → CanUnlink (chain_in old places on since) at node
         → WritesWord old new (places.word_at at) (pack (index_of (old (places.word_at (Node node)))) 0 tag)
         → Departs on on_then node

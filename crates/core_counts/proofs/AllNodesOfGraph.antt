@@ -14,11 +14,12 @@ use Rattle.core_journal.specs.GraphOf.{graph_of}
 use Rattle.core_journal.specs.Machine.{word_at}
 use Rattle.core_journal.specs.Right.{NoneFree}
 use Rattle.core_journal.specs.State.{Mode, Free, Fresh, Linked, Spent, Node, State, is_linked, state}
+use Rattle.core_kept.specs.Counts.{count_below}
 use Rattle.core_kept.specs.Free.{is_free, pool_in}
 use Rattle.core_kept.specs.Kept.{IsKept}
 use Rattle.core_kept.specs.Nodes.{node_in}
 use Rattle.core_kept.proofs.FreeList.{free_list, first_is_free, first_leads, few_nodes}
-use Rattle.core_counts.specs.Nodes.{count, is_key, is_key_life, is_pair, IsAllGraph}
+use Rattle.core_counts.specs.Nodes.{is_key, is_key_life, is_pair, IsAllGraph}
 use Rattle.core_counts.proofs.GraphNodes.{keys_are, pairs_are, linked_is, not_is}
 
 none_listed : (nodes : ℕ) (link : ℕ → ℕ) (xs : List ℕ) → nodes ≤ nowhere → Leads nodes link nowhere xs → xs ≡ []
@@ -60,11 +61,11 @@ module _ (f g : ℕ → Bool) (apart : (x : ℕ) → f x ≡ true → g x ≡ fa
       by false true h = omega arith
       by false false h = omega arith
 
-  few_both : (n : ℕ) → count f n + count g n ≤ n
+  few_both : (n : ℕ) → count_below f n + count_below g n ≤ n
   few_both zero = omega arith
   few_both (suc n) = omega (arith, one_each n, few_both n)
 
-  all_both : (n : ℕ) → ((x : ℕ) → x < n → (f x ≡ true) ⊎ (g x ≡ true)) → count f n + count g n ≡ n
+  all_both : (n : ℕ) → ((x : ℕ) → x < n → (f x ≡ true) ⊎ (g x ≡ true)) → count_below f n + count_below g n ≡ n
   all_both zero h = refl
   all_both (suc n) h =
       let rest = all_both n (λ x low. h x (omega (arith, low))) in
@@ -73,19 +74,19 @@ module _ (f g : ℕ → Bool) (apart : (x : ℕ) → f x ≡ true → g x ≡ fa
       (λ (t : g n ≡ true). no (f n) (g n) t (one_each n) rest)
       (h n (omega arith))
     where
-      yes : (a b : Bool) → a ≡ true → b ≡ false → count f n + count g n ≡ n → (cond a 1 0 + count f n) +
-          (cond b 1 0 + count g n) ≡ suc n
+      yes : (a b : Bool) → a ≡ true → b ≡ false → count_below f n + count_below g n ≡ n →
+          (cond a 1 0 + count_below f n) + (cond b 1 0 + count_below g n) ≡ suc n
       yes true false t u r = omega (arith, r)
       yes true true t u r = absurd (cc)
       yes false b t u r = absurd (cc)
 
-      no : (a b : Bool) → b ≡ true → cond a 1 0 + cond b 1 0 ≤ 1 → count f n + count g n ≡ n →
-          (cond a 1 0 + count f n) + (cond b 1 0 + count g n) ≡ suc n
+      no : (a b : Bool) → b ≡ true → cond a 1 0 + cond b 1 0 ≤ 1 → count_below f n + count_below g n ≡ n →
+          (cond a 1 0 + count_below f n) + (cond b 1 0 + count_below g n) ≡ suc n
       no true true t u r = absurd (omega (arith, u))
       no false true t u r = omega (arith, r)
       no a false t u r = absurd (cc)
 
-  each_both : (n : ℕ) → count f n + count g n ≡ n → (x : ℕ) → x < n → (f x ≡ true) ⊎ (g x ≡ true)
+  each_both : (n : ℕ) → count_below f n + count_below g n ≡ n → (x : ℕ) → x < n → (f x ≡ true) ⊎ (g x ≡ true)
   each_both zero h x low = absurd (omega (arith, low))
   each_both (suc n) h x low = dite (ℕ_discrete x n)
       (λ same. subst (λ (y : ℕ). (f y ≡ true) ⊎ (g y ≡ true)) (sym same)

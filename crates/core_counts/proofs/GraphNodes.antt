@@ -15,6 +15,7 @@ use Rattle.core_journal.specs.GraphOf.{graph_of, present_key, present_pair, pair
 use Rattle.core_journal.specs.Life.{link_of, vertex_marked, edge_marked}
 use Rattle.core_journal.specs.State.{Mode, Linked, Node, State, is_linked, state}
 use Rattle.core_journal.proofs.LivesOf.{present_is, joined_is, life_of_key, key_of_life, life_of_pair, only_pair}
+use Rattle.core_kept.specs.Counts.{count_below}
 use Rattle.core_kept.specs.Kept.{IsKept}
 use Rattle.core_kept.specs.Nodes.{node_in, IsUsed}
 use Rattle.core_lists.specs.Chains.{life_in}
@@ -23,7 +24,7 @@ use Rattle.core_kept.proofs.Named.{life_is, named}
 use Rattle.core_lists.proofs.OneEdgeOfPair.{one_pair}
 use Rattle.core_kept.proofs.NodesInPlace.{used_there}
 use Rattle.core_lists.proofs.OneVertexOfKey.{present_live, one_present}
-use Rattle.core_counts.specs.Nodes.{count, is_key, is_key_life, is_pair}
+use Rattle.core_counts.specs.Nodes.{is_key, is_key_life, is_pair}
 use Rattle.core_counts.proofs.BuiltFromNodes.{same_bool, same_option, keys_below, key_from, key_in, keys_counted}
 use Rattle.core_counts.proofs.BuiltFromNodes.{pairs_below, pair_from, pair_in, pairs_counted}
 
@@ -160,7 +161,7 @@ module _ (sizes : Sizes) (z : IsLayout sizes) (journal : List Event) (kept : IsK
       by None e h = absurd (cc)
       by (Some p) e h = (pair_node (life_in sizes journal x) p.0.0 p.0.1 p.1 e).2
 
-  count_same : (f g : ℕ → Bool) (n : ℕ) → ((x : ℕ) → f x ≡ g x) → count f n ≡ count g n
+  count_same : (f g : ℕ → Bool) (n : ℕ) → ((x : ℕ) → f x ≡ g x) → count_below f n ≡ count_below g n
   count_same f g zero h = refl
   count_same f g (suc n) h = ap₂ (λ (b : Bool) (m : ℕ). cond b 1 0 + m) (h n) (count_same f g n h)
 
@@ -184,7 +185,7 @@ module _ (sizes : Sizes) (z : IsLayout sizes) (journal : List Event) (kept : IsK
       (sym (life_is l.0 l.0.index (s.node l.0.index).tag refl p.1)) ∙ l.1))
       (λ h. let r = key_from key_opt sizes.nodes q h in key_of_life journal (life_in sizes journal r.0) q r.2))
 
-  pub keys_are : key_count (graph_of journal) ≡ count (λ (x : ℕ). is_key (s.node x)) sizes.nodes
+  pub keys_are : key_count (graph_of journal) ≡ count_below (λ (x : ℕ). is_key (s.node x)) sizes.nodes
   keys_are = ap set.len the_keys ∙ (keys_counted key_opt sizes.nodes one_key ∙ count_same
       (λ (x : ℕ). is_some (key_opt x)) (λ (x : ℕ). is_key (s.node x)) sizes.nodes key_is)
 
@@ -201,6 +202,6 @@ module _ (sizes : Sizes) (z : IsLayout sizes) (journal : List Event) (kept : IsK
       only_pair journal (life_in sizes journal r.0) q.0 q.1 w r.2
       (λ y v g. one_pair sizes z journal kept y (life_in sizes journal r.0) q.0 q.1 v w g r.2)))
 
-  pub pairs_are : pair_count (graph_of journal) ≡ count (λ (x : ℕ). is_pair s (s.node x)) sizes.nodes
+  pub pairs_are : pair_count (graph_of journal) ≡ count_below (λ (x : ℕ). is_pair s (s.node x)) sizes.nodes
   pairs_are = ap map.len the_pairs ∙ (pairs_counted pair_opt sizes.nodes pair_one sizes.nodes (omega arith) ∙ count_same
       (λ (x : ℕ). is_some (pair_opt x)) (λ (x : ℕ). is_pair s (s.node x)) sizes.nodes pair_is)

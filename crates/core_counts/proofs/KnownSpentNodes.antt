@@ -62,18 +62,18 @@ module _ (sizes : Sizes) (z : IsLayout sizes) (past : List Event) (e : Event) (k
   kept_after = kept_snoc sizes past e kept ok
 
   -- which lists are closed
-  abbrev WasClosed : ℕ → Type 0
-  WasClosed v = (s.frozen v ≡ true) ⊎ ((e.kind ≡ FreezeHead) × (v ≡ i) × IsSpentVertex sizes past e.caller i)
+  abbrev CameClosed : ℕ → Type 0
+  CameClosed v = (s.frozen v ≡ true) ⊎ ((e.kind ≡ FreezeHead) × (v ≡ i) × IsSpentVertex sizes past e.caller i)
 
   closed_by : (k : Kind) → e.kind ≡ k → AllowedAs k sizes past e → (v : ℕ) → (state_by k sizes e s).frozen v ≡ true
-      → WasClosed v
-  closed_by PopFree is ok v h = put_case (λ (b : Bool). b ≡ true → WasClosed v) i false s.frozen v (λ _ t. absurd (cc))
+      → CameClosed v
+  closed_by PopFree is ok v h = put_case (λ (b : Bool). b ≡ true → CameClosed v) i false s.frozen v (λ _ t. absurd (cc))
       (λ _ t. inl t) h
-  closed_by FreezeHead is ok v h = put_case (λ (b : Bool). b ≡ true → WasClosed v) i true s.frozen v
+  closed_by FreezeHead is ok v h = put_case (λ (b : Bool). b ≡ true → CameClosed v) i true s.frozen v
       (λ same _. inr (is, same, ok.spent)) (λ _ t. inl t) h
   closed_by _ is ok v h = inl h
 
-  was_closed : (v : ℕ) → (state sizes grown).frozen v ≡ true → WasClosed v
+  was_closed : (v : ℕ) → (state sizes grown).frozen v ≡ true → CameClosed v
   was_closed v closed = closed_by e.kind refl ok.as_kind v (subst (λ (t : State). t.frozen v ≡ true) after_is closed)
 
   -- a vertex whose list the event closes is spent by the event's caller

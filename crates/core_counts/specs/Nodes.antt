@@ -1,15 +1,10 @@
 -- Which nodes are the keys and the pairs of the graph, and how many there are.
-use Rattle.std.specs.Prelude.{◌≡◌, ◌≢◌, ℕ, ◌<◌, Bool, true, false, cond, not, ◌&&◌, ◌==◌, List}
+use Rattle.std.specs.Prelude.{◌≡◌, ◌≢◌, ℕ, ◌<◌, Bool, true, false, not, ◌&&◌, ◌==◌, List}
 use Rattle.packed_link.specs.Layout.{Sizes}
 use Rattle.packed_link.specs.declared.link.Life.{Life}
 use Rattle.core_journal.specs.declared.event.Event.{Event}
 use Rattle.core_journal.specs.State.{Free, Fresh, Spent, Node, State, is_linked, state}
 use Rattle.core_kept.specs.Nodes.{node_in}
-use Rattle.core_counts.specs.Totals.{total}
-
--- how many numbers below a number pass a test
-abbrev pub count : (ℕ → Bool) → ℕ → ℕ
-count test n = total (λ (x : ℕ). cond (test x) 1 0) n
 
 -- a node is a vertex that is linked and not marked
 abbrev pub is_key : Node → Bool

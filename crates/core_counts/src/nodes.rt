@@ -7,19 +7,20 @@ ghost use Rattle.core_journal.specs.declared.event.Event.{Event};
 ghost use Rattle.core_journal.specs.GraphOf.{graph_of};
 ghost use Rattle.core_journal.specs.Right.{NoneFree};
 ghost use Rattle.core_journal.specs.State.{Free, state};
+ghost use Rattle.core_kept.specs.Counts.{count_below};
 ghost use Rattle.core_kept.specs.Kept.{IsKept};
 ghost use Rattle.core_kept.specs.Nodes.{node_in};
-ghost use Rattle.core_counts.specs.Nodes.{IsAllGraph, count, is_key, is_pair};
+ghost use Rattle.core_counts.specs.Nodes.{IsAllGraph, is_key, is_pair};
 
 /// The keys of the graph are as many as the linked vertices that aren't marked, and the pairs as many as the linked
 /// edges that aren't marked and whose source and target are such vertices. For the answer Full, which stands for a
 /// graph that takes up the table.
 pub fn the_graph_is_counted()
     ensures keys { (sizes : Sizes) → IsLayout sizes → (journal : List Event) → IsKept sizes journal
-        → key_count (graph_of journal) ≡ count (λ (x : ℕ). is_key ((state sizes journal).node x)) sizes.nodes }
+        → key_count (graph_of journal) ≡ count_below (λ (x : ℕ). is_key ((state sizes journal).node x)) sizes.nodes }
     ensures pairs { (sizes : Sizes) → IsLayout sizes → (journal : List Event) → IsKept sizes journal
         → pair_count (graph_of journal)
-        ≡ count (λ (x : ℕ). is_pair (state sizes journal) ((state sizes journal).node x)) sizes.nodes }
+        ≡ count_below (λ (x : ℕ). is_pair (state sizes journal) ((state sizes journal).node x)) sizes.nodes }
 {}
 
 /// The free list leads to none exactly where no node is free. For the load that finds the free list empty.

@@ -16,6 +16,7 @@ pub use ends::{
 };
 pub use free::{a_first_node_is_free, an_unchanged_word_keeps_its_link, the_free_list_is_exact};
 pub use passes::{
-    a_checked_caller_is_clear, announcements_tell_passes, passes_stay_near, the_epoch_only_rises,
+    a_checked_caller_is_clear, each_step_keeps_the_announcements, passes_stay_near,
+    the_epoch_only_rises,
 };
 pub use worked::{a_worked_free_list, a_worked_run, an_unchecked_move_is_unsafe};

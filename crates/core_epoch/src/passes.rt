@@ -10,7 +10,7 @@ ghost use Rattle.core_epoch.specs.Steps.{IsFoundClear, MovesClear, ClockStep};
 
 /// The law of announcements: outside a pass the word is 0; in it the announced epoch is at most that of the pass's
 /// birth, which is at most the epoch. This holds where no pass is open, and each step keeps it.
-pub fn announcements_tell_passes()
+pub fn each_step_keeps_the_announcements()
     ensures opening { (callers : ℕ) (clock : Clock) → IsNewClock callers clock → Announcements callers clock }
     ensures step { (callers : ℕ) (old new : Clock)
         → Announcements callers old → ClockStep callers old new → Announcements callers new }

@@ -127,14 +127,14 @@ every_reverse P (x ∷ xs) h = subst (Every P) (sym (reverse-append (x ∷ []) x
     (every_append P (reverse xs) (x ∷ []) (every_reverse P xs h.1) (h.0, tt))
 
 -- an idle kind neither links nor marks
-pub record IsIdle (k : Kind) : Type 0 where
+pub record IsIdleKind (k : Kind) : Type 0 where
   pub links : links_vertex k ≡ false
   pub marks : marks_vertex k ≡ false
   pub joins : links_edge k ≡ false
   pub cuts : cuts_edge k ≡ false
 
 -- what an idle kind does not do
-pub idle_is : (k : Kind) → is_idle k ≡ true → IsIdle k
+pub idle_is : (k : Kind) → is_idle k ≡ true → IsIdleKind k
 idle_is LinkVertex h = absurd (true≢false (sym h))
 idle_is MarkVertex h = absurd (true≢false (sym h))
 idle_is LinkEdge h = absurd (true≢false (sym h))

@@ -8,7 +8,7 @@ use Rattle.graph_kinds.specs.Levels.{stands_in}
 use Rattle.graph_kinds.specs.History.{Every}
 use Rattle.packed_link.specs.Link.{nowhere}
 use Rattle.packed_link.specs.Layout.{Sizes, link_at}
-use Rattle.core_chain.specs.Chain.{Chain, Position, Head, Node, IsOn, IsChain, Precedes}
+use Rattle.core_chain.specs.Chain.{Chain, ChainWord, Head, Node, IsOn, IsChain, Precedes}
 use Rattle.core_chain.specs.Met.{MeetsFrom, RisesAlong, IsMet}
 use Rattle.core_chain.specs.Steps.{Inserts, Replaces, Unlinks, SetsMark, Untouched, Joins, Departs}
 use Rattle.core_chain.specs.Table.{Places}
@@ -60,8 +60,8 @@ linked_else sizes head place y xs apart h =
     each (x ∷ xs) h = (ne_eqb place (link_at sizes x) h.0, each xs h.1)
 
 -- a word from which the links lead on as before meets what it met
-pub meets_same : (c d : Chain) (p : Position) (xs : List ℕ) → IsChain c → IsOn c p →
-    ((q : Position) → IsOn c q → d.next q ≡ c.next q) → MeetsFrom c p xs → MeetsFrom d p xs
+pub meets_same : (c d : Chain) (p : ChainWord) (xs : List ℕ) → IsChain c → IsOn c p →
+    ((q : ChainWord) → IsOn c q → d.next q ≡ c.next q) → MeetsFrom c p xs → MeetsFrom d p xs
 meets_same c d p [] chain on same met = same p on ∙ met
 meets_same c d p (x ∷ xs) chain on same met =
     let some : c.next p ≢ nowhere = λ e. met.1 (sym met.0 ∙ e) in
@@ -69,7 +69,7 @@ meets_same c d p (x ∷ xs) chain on same met =
     (same p on ∙ met.0, met.1, meets_same c d (Node x) xs chain there same met.2)
 
 -- after a mark, and where nothing changes
-pub meets_marked : (c d : Chain) (at : Position) (xs : List ℕ) → IsChain c → SetsMark c d at → MeetsFrom c Head xs
+pub meets_marked : (c d : Chain) (at : ChainWord) (xs : List ℕ) → IsChain c → SetsMark c d at → MeetsFrom c Head xs
     → MeetsFrom d Head xs
 meets_marked c d at xs chain step met = meets_same c d Head xs chain tt (λ q on. next-marked c d at step q) met
 
@@ -78,7 +78,7 @@ pub meets_untouched : (c d : Chain) (xs : List ℕ) → IsChain c → Untouched 
 meets_untouched c d xs chain same met = meets_same c d Head xs chain tt same.next met
 
 -- words that differ from one lead on as before, from a word that leads where another led
-moved : (c d : Chain) (at p q : Position) (xs : List ℕ) → ((r : Position) → r ≢ at → d.next r ≡ c.next r) → Every
+moved : (c d : Chain) (at p q : ChainWord) (xs : List ℕ) → ((r : ChainWord) → r ≢ at → d.next r ≡ c.next r) → Every
     (λ x. Node x ≢ at) xs → d.next q ≡ c.next p → MeetsFrom c p xs → MeetsFrom d q xs
 moved c d at p q [] others apart same met = same ∙ met
 moved c d at p q (x ∷ xs) others apart same met = (
@@ -89,16 +89,16 @@ moved c d at p q (x ∷ xs) others apart same met = (
 )
 
 -- a word doesn't stand behind another
-abbrev pub IsUpTo : Chain → Position → Position → Type 0
+abbrev pub IsUpTo : Chain → ChainWord → ChainWord → Type 0
 IsUpTo c q p = (q ≡ p) ⊎ Precedes c q p
 
 -- so it stands before what stands behind that
-before_next : (c : Chain) (q p : Position) (x : ℕ) → IsUpTo c q p → Precedes c p (Node x) → Precedes c q (Node x)
-before_next c q p x upto low = ⊎_elim (λ same. subst (λ (r : Position). Precedes c r (Node x)) (sym same) low)
+before_next : (c : Chain) (q p : ChainWord) (x : ℕ) → IsUpTo c q p → Precedes c p (Node x) → Precedes c q (Node x)
+before_next c q p x upto low = ⊎_elim (λ same. subst (λ (r : ChainWord). Precedes c r (Node x)) (sym same) low)
     (λ before. before_then c q p (Node x) before low) upto
 
 -- what rises behind a word stands at no such word
-apart_from : (c : Chain) (at p : Position) (xs : List ℕ) → IsUpTo c at p → RisesAlong c p xs → Every
+apart_from : (c : Chain) (at p : ChainWord) (xs : List ℕ) → IsUpTo c at p → RisesAlong c p xs → Every
     (λ x. Node x ≢ at) xs
 apart_from c at p [] upto rising = tt
 apart_from c at p (x ∷ xs) upto rising =
@@ -106,7 +106,7 @@ apart_from c at p (x ∷ xs) upto rising =
     ((λ e. before_same c at (Node x) low (sym e)), apart_from c at (Node x) xs (inr low) rising.1)
 
 -- what rises behind a node is no such node
-risen : (c : Chain) (p : Position) (n : ℕ) (xs : List ℕ) → IsUpTo c (Node n) p → RisesAlong c p xs → Every
+risen : (c : Chain) (p : ChainWord) (n : ℕ) (xs : List ℕ) → IsUpTo c (Node n) p → RisesAlong c p xs → Every
     (λ x. x ≢ n) xs
 risen c p n [] upto rising = tt
 risen c p n (x ∷ xs) upto rising =
@@ -119,7 +119,7 @@ pub record AreLinks (sizes : Sizes) (places : Places) : Type 0 where
   pub apart : (x : ℕ) → places.word_at Head ≢ link_at sizes x
 
 -- a node that is inserted behind the link of a node stands behind that node
-put_in : (sizes : Sizes) (c d : Chain) (x n : ℕ) (p : Position) (xs : List ℕ) → PutsNode c d (Node x) n → p ≢ Node x
+put_in : (sizes : Sizes) (c d : Chain) (x n : ℕ) (p : ChainWord) (xs : List ℕ) → PutsNode c d (Node x) n → p ≢ Node x
     → MeetsFrom c p xs → RisesAlong c p xs → MeetsFrom d p (put_behind (λ y. link_at sizes x == link_at sizes y) n xs)
 put_in sizes c d x n p [] step ne met rising = step.words.next p ne ∙ met
 put_in sizes c d x n p (y ∷ ys) step ne met rising = dite (ℕ_discrete y x)
@@ -127,7 +127,7 @@ put_in sizes c d x n p (y ∷ ys) step ne met rising = dite (ℕ_discrete y x)
     let here : (link_at sizes x == link_at sizes y) ≡ true = eq-eqb (link_at sizes x) (link_at sizes y)
     (omega (arith, same)) in
     let not_new : Node n ≢ Node x = λ e. let z : n ≡ x = cc in step.absent
-    (subst (λ (q : Position). IsOn c q) (ap Node (sym z)) step.present) in
+    (subst (λ (q : ChainWord). IsOn c q) (ap Node (sym z)) step.present) in
     let to : d.next (Node n) ≡ c.next (Node y) = step.words.next (Node n) not_new ∙
     (step.filled ∙ ap (λ (z : ℕ). c.next (Node z)) (sym same)) in
     let rest : MeetsFrom d (Node n) ys = moved c d (Node x) (Node y) (Node n) ys step.words.next
@@ -161,7 +161,7 @@ module _ (sizes : Sizes) (places : Places) (are : AreLinks sizes places) where
       ∙ ap (λ (p : ℕ). put_behind (λ z. p == link_at sizes z) y xs) (are.links x)
 
   -- after a node is inserted one meets the list into which it's linked
-  pub meets_inserted : (c d : Chain) (at : Position) (n : ℕ) (xs : List ℕ) → IsChain c → Inserts c d at n
+  pub meets_inserted : (c d : Chain) (at : ChainWord) (n : ℕ) (xs : List ℕ) → IsChain c → Inserts c d at n
       → MeetsFrom c Head xs → MeetsFrom d Head (linked_in sizes (places.word_at Head) (places.word_at at) n xs)
   meets_inserted c d Head n xs chain step met =
       let to : d.next (Node n) ≡ c.next Head = step.words.next (Node n) (λ e. absurd (cc)) ∙ step.can.filled in
@@ -185,8 +185,8 @@ module _ (sizes : Sizes) (places : Places) (are : AreLinks sizes places) where
       (met_behind c Head xs chain tt met).0)
 
 -- a node that is taken out is no more met
-take_out : (c d : Chain) (at : Position) (n : ℕ) (p : Position) (xs : List ℕ) → IsChain c → Unlinks c d at n → IsOn c p
-    → p ≢ Node n → MeetsFrom c p xs → RisesAlong c p xs → MeetsFrom d p (unlinked_from n xs)
+take_out : (c d : Chain) (at : ChainWord) (n : ℕ) (p : ChainWord) (xs : List ℕ) → IsChain c → Unlinks c d at n
+    → IsOn c p → p ≢ Node n → MeetsFrom c p xs → RisesAlong c p xs → MeetsFrom d p (unlinked_from n xs)
 take_out c d at n p [] chain step on ne met rising = if_same p at
     (λ same. absurd (step.can.named (sym step.can.led ∙ (ap c.next (sym same) ∙ met))))
     (λ other. step.words.next p other ∙ met)
@@ -198,7 +198,7 @@ take_out c d at n p (y ∷ ys) chain step on ne met rising =
     let is : y ≡ n = sym met.0 ∙ (ap c.next same ∙ step.can.led) in
     let to : d.next p ≡ c.next (Node y) = ap d.next same ∙ (step.leads ∙ ap (λ (z : ℕ). c.next (Node z)) (sym is)) in
     let rest : MeetsFrom d p ys = moved c d at (Node y) p ys step.words.next
-    (apart_from c at (Node y) ys (inr (subst (λ (r : Position). Precedes c r (Node y)) same rising.0)) rising.1) to
+    (apart_from c at (Node y) ys (inr (subst (λ (r : ChainWord). Precedes c r (Node y)) same rising.0)) rising.1) to
     met.2 in
     subst (λ (b : Bool). MeetsFrom d p (cond (not b) (y ∷ unlinked_from n ys) (unlinked_from n ys)))
     (sym (eq-eqb y n is))
@@ -216,7 +216,7 @@ take_out c d at n p (y ∷ ys) chain step on ne met rising =
     ))
 
 -- after a node is unlinked one meets the list without it
-pub meets_unlinked : (c d : Chain) (at : Position) (n : ℕ) (xs : List ℕ) → IsChain c → Unlinks c d at n
+pub meets_unlinked : (c d : Chain) (at : ChainWord) (n : ℕ) (xs : List ℕ) → IsChain c → Unlinks c d at n
     → MeetsFrom c Head xs → MeetsFrom d Head (unlinked_from n xs)
 meets_unlinked c d at n xs chain step met = take_out c d at n Head xs chain step tt (λ e. absurd (cc)) met
     (met_behind c Head xs chain tt met).0
@@ -260,7 +260,7 @@ linked_stands sizes head place n x xs ne = by (place == head)
     by false = put_joins (λ z. place == link_at sizes z) n x xs ne
 
 module _ (sizes : Sizes) (places : Places) (are : AreLinks sizes places) where
-  pub joins_linked : (at : Position) (n : ℕ) (xs : List ℕ) → ((x : ℕ) → at ≡ Node x → stands_in xs x ≡ true) → Joins
+  pub joins_linked : (at : ChainWord) (n : ℕ) (xs : List ℕ) → ((x : ℕ) → at ≡ Node x → stands_in xs x ≡ true) → Joins
       (λ x. stands_in xs x) (λ x. stands_in (linked_in sizes (places.word_at Head) (places.word_at at) n xs) x) n
   joins_linked Head n xs behind = record {
     joins = ap (λ (l : List ℕ). stands_in l n) (at_head sizes places are n xs) ∙ ap (λ (b : Bool). b || stands_in xs n)

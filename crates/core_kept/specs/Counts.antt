@@ -1,5 +1,6 @@
--- How many events of a kind a caller made, or all callers, and how often the counter of a life was raised.
-use Rattle.std.specs.Prelude.{ℕ, Bool, ◌&&◌, ◌==◌, List, length, filter}
+-- How many events of a kind a caller made, or all callers, and how often the counter of a life was raised; and how
+-- many numbers pass a test.
+use Rattle.std.specs.Prelude.{ℕ, zero, suc, ◌+◌, Bool, cond, ◌&&◌, ◌==◌, List, length, filter}
 use Rattle.packed_link.specs.declared.link.Life.{Life}
 use Rattle.core_journal.specs.declared.event.Kind.{Kind}
 use Rattle.core_journal.specs.declared.event.Event.{Event}
@@ -20,6 +21,11 @@ all_made test journal = length (filter (λ (e : Event). test e.kind) journal)
 -- how often the counter of a life was raised
 abbrev pub raised : Life → List Event → ℕ
 raised x journal = about raises x journal
+
+-- how many numbers below one pass a test
+abbrev pub count_below : (ℕ → Bool) → ℕ → ℕ
+count_below test zero = 0
+count_below test (suc n) = cond (test n) 1 0 + count_below test n
 
 -- how many nodes a caller may take: 2^32
 abbrev pub most_pops : ℕ

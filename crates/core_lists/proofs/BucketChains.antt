@@ -9,7 +9,7 @@ use native.Mathlib.Decide.{ℕ_discrete}
 use Rattle.packed_link.specs.Link.{nowhere, index_of, mark_of, tag_of, with_mark}
 use Rattle.packed_link.specs.Layout.{Sizes, IsLayout, Bucket, word_count, bucket_at, key_at, link_at}
 use Rattle.packed_link.proofs.Links.{index_of-pack, index_of-bound}
-use Rattle.core_chain.specs.Chain.{Chain, Position, Head, Node, IsOn, IsChain}
+use Rattle.core_chain.specs.Chain.{Chain, ChainWord, Head, Node, IsOn, IsChain}
 use Rattle.core_chain.specs.Met.{MeetsFrom, IsMet}
 use Rattle.core_chain.specs.Steps.{CanInsert, CanUnlink, Inserts, Joins, Departs, Marks, Unlinks, Untouched}
 use Rattle.core_chain.specs.Table.{StandsAlone, chain_in}
@@ -134,21 +134,21 @@ untouched sizes past e w s' j a head links same = record {
   mark = λ p on. ap mark_of (word p on);
 }
   where
-    word : (p : Position) → IsOn (bucket_chain sizes past j) p → w (bucket_word sizes j p) ≡ word_at sizes past
+    word : (p : ChainWord) → IsOn (bucket_chain sizes past j) p → w (bucket_word sizes j p) ≡ word_at sizes past
         (bucket_word sizes j p)
     word Head on = a.else (bucket_at sizes j) (λ h. head (sym h))
     word (Node x) on = a.else (link_at sizes x) (λ h. (links x (is_in sizes (state sizes past) j x on)).0 (sym h))
 
 -- the words and the keys of a bucket stand apart from one another
-stands_alone : (sizes : Sizes) (j : ℕ) (at : Position) → j < sizes.buckets → StandsAlone (bucket_places sizes j) at
+stands_alone : (sizes : Sizes) (j : ℕ) (at : ChainWord) → j < sizes.buckets → StandsAlone (bucket_places sizes j) at
 stands_alone sizes j Head low = record { words = λ p ne h. word p ne h; keys = λ x h. omega arith }
   where
-    word : (p : Position) → p ≢ Head → bucket_word sizes j p ≢ bucket_at sizes j
+    word : (p : ChainWord) → p ≢ Head → bucket_word sizes j p ≢ bucket_at sizes j
     word Head ne h = ne refl
     word (Node x) ne h = omega arith
 stands_alone sizes j (Node n) low = record { words = λ p ne h. word p ne h; keys = λ x h. omega arith }
   where
-    word : (p : Position) → p ≢ Node n → bucket_word sizes j p ≢ link_at sizes n
+    word : (p : ChainWord) → p ≢ Node n → bucket_word sizes j p ≢ link_at sizes n
     word Head ne h = omega arith
     word (Node x) ne h = ne (ap Node (omega arith))
 
@@ -170,7 +170,7 @@ module _ (sizes : Sizes) (z : IsLayout sizes) (past : List Event) (kept : IsKept
 
 -- an event writes a word of the chain of a bucket
 pub record IsBucketSpot (sizes : Sizes) (past : List Event) (e : Event) (j : ℕ) : Type 0 where
-  pub at : Position
+  pub at : ChainWord
   pub place : bucket_word sizes j at ≡ e.place
   pub on : IsOn (bucket_chain sizes past j) at
 
@@ -230,7 +230,7 @@ module _ (sizes : Sizes) (z : IsLayout sizes) (past : List Event) (e : Event) (k
             (sym word));
       }
     where
-      above : (p : Position) → bucket_word sizes link_home p ≡ e.place → StandsBelow
+      above : (p : ChainWord) → bucket_word sizes link_home p ≡ e.place → StandsBelow
           (bucket_chain sizes past link_home) p (word_at sizes past (key_at sizes e.life.index))
       above Head at = tt
       above (Node x) at = let k = ok.filled.key_word in let g = ok.gap.below x (sym at) in omega arith
@@ -384,7 +384,7 @@ module _ (sizes : Sizes) (z : IsLayout sizes) (past : List Event) (e : Event) (k
   cut_state = state_by UnlinkVertex sizes e (state sizes past)
 
   -- the chain whose word leads to the vertex is that of its bucket
-  led_home : (j : ℕ) → j < sizes.buckets → (p : Position) → IsOn (bucket_chain sizes past j) p
+  led_home : (j : ℕ) → j < sizes.buckets → (p : ChainWord) → IsOn (bucket_chain sizes past j) p
       → bucket_word sizes j p ≡ e.place → j ≡ cut_home
   led_home j low p on at =
       let to : index_of (word_at sizes past (bucket_word sizes j p)) ≡ e.life.index = ap

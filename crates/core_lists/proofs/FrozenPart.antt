@@ -8,7 +8,7 @@ use native.Mathlib.Decide.{ℕ_discrete}
 use Rattle.graph_kinds.specs.Levels.{stands_in}
 use Rattle.packed_link.specs.Link.{nowhere, index_of, mark_of, mark_bit}
 use Rattle.packed_link.specs.Layout.{Sizes, IsLayout, link_at}
-use Rattle.core_chain.specs.Chain.{Chain, Position, Head, Node, IsOn, Precedes}
+use Rattle.core_chain.specs.Chain.{Chain, ChainWord, Head, Node, IsOn, Precedes}
 use Rattle.core_chain.specs.Met.{RisesAlong}
 use Rattle.core_chain.specs.Steps.{IsFrozenTo}
 use Rattle.core_chain.proofs.Orders.{before_then}
@@ -28,7 +28,7 @@ use Rattle.core_lists.proofs.ListChains.{lists, list_met}
 
 -- a word of the frozen part of a list
 pub record IsEnd (sizes : Sizes) (journal : List Event) (x place : ℕ) : Type 0 where
-  pub at : Position
+  pub at : ChainWord
   pub place_is : list_word sizes x at ≡ place
   pub on : IsOn (edge_chain sizes journal x) at
   pub head : (state sizes journal).frozen x ≡ true
@@ -51,7 +51,7 @@ frozen_end sizes journal x place f = ⊎_elim
 
 -- a word of a list leads to none, or to an edge of it
 leads_on : (sizes : Sizes) → IsLayout sizes → (journal : List Event) → IsKept sizes journal → (x : ℕ)
-    → HasList sizes journal x → (at : Position) → IsOn (edge_chain sizes journal x) at → (place : ℕ)
+    → HasList sizes journal x → (at : ChainWord) → IsOn (edge_chain sizes journal x) at → (place : ℕ)
     → list_word sizes x at ≡ place
     → (index_of (word_at sizes journal place) ≡ nowhere) ⊎ (is_listed (state sizes journal) x
     (index_of (word_at sizes journal place)) ≡ true)
@@ -72,7 +72,7 @@ frozen_parts sizes z journal kept =
     }
 
 -- each node that rises behind a word stands behind it
-rises_behind : (c : Chain) (p : Position) (xs : List ℕ) (v : ℕ) → RisesAlong c p xs → stands_in xs v ≡ true →
+rises_behind : (c : Chain) (p : ChainWord) (xs : List ℕ) (v : ℕ) → RisesAlong c p xs → stands_in xs v ≡ true →
     Precedes c p
     (Node v)
 rises_behind c p [] v rising on = absurd (cc)
@@ -81,7 +81,7 @@ rises_behind c p (x ∷ xs) v rising on =
     (λ _ later. before_then c p (Node x) (Node v) rising.0 (rises_behind c (Node x) xs v rising.1 later))
 
 -- what stands no further than a node of the longest part that passes a test is in it, where the nodes rise
-part_before : (c : Chain) (test : ℕ → Bool) (p : Position) (xs : List ℕ) (y v : ℕ) → RisesAlong c p xs → stands_in
+part_before : (c : Chain) (test : ℕ → Bool) (p : ChainWord) (xs : List ℕ) (y v : ℕ) → RisesAlong c p xs → stands_in
     (take_while test xs)
     y ≡ true → stands_in xs v ≡ true → (Precedes c (Node y) (Node v) → ⊥) → stands_in (take_while test xs)
     v ≡ true
@@ -110,7 +110,8 @@ module _ (sizes : Sizes) (z : IsLayout sizes) (journal : List Event) (kept : IsK
       (((link_words sizes z journal kept).each v there).spent (c.handed x v o h)).marked
 
   -- and so are all words up to one of it
-  before_marked : (at p : Position) → ((y : ℕ) → at ≡ Node y → stands_in (frozen_part (state sizes journal) x) y ≡ true)
+  before_marked : (at p : ChainWord)
+      → ((y : ℕ) → at ≡ Node y → stands_in (frozen_part (state sizes journal) x) y ≡ true)
       → IsOn (edge_chain sizes journal x) p → (Precedes (edge_chain sizes journal x) at p → ⊥) →
       (edge_chain sizes journal x).mark p ≡ 1
   before_marked at Head part on not_behind = (((contents sizes z journal kept).each x o.there).vertex o.used

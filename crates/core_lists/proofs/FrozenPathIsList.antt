@@ -2,7 +2,7 @@
 use Rattle.std.proofs.Common.{◌≡◌, ◌≢◌, ℕ, List, [], ◌∷◌, ◌++◌, refl, sym, ap, ap₂, ◌∙◌, subst}
 use Rattle.packed_link.specs.Link.{index_of, nowhere}
 use Rattle.packed_link.specs.Layout.{Sizes, IsLayout, link_at}
-use Rattle.core_chain.specs.Chain.{Position, Head, Node}
+use Rattle.core_chain.specs.Chain.{ChainWord, Head, Node}
 use Rattle.core_chain.specs.Met.{MeetsFrom}
 use Rattle.core_journal.specs.declared.event.Event.{Event}
 use Rattle.core_journal.specs.Machine.{word_at}
@@ -15,7 +15,7 @@ use Rattle.core_lists.proofs.FrozenToEndIsList.{kept_met}
 
 module _ (sizes : Sizes) (journal : List Event) (x : ℕ) where
   -- the path goes on where its last word is frozen and leads to an edge
-  pub path_more : (at : Position) (ys : List ℕ) (place y : ℕ) → FrozenPath sizes journal x at ys place
+  pub path_more : (at : ChainWord) (ys : List ℕ) (place y : ℕ) → FrozenPath sizes journal x at ys place
       → IsFrozenWord sizes journal x place → index_of (word_at sizes journal place) ≡ y → y ≢ nowhere
       → FrozenPath sizes journal x at (ys ++ y ∷ []) (link_at sizes y)
   path_more at [] place y h f leads some = (
@@ -28,7 +28,7 @@ module _ (sizes : Sizes) (journal : List Event) (x : ℕ) where
   path_more at (d ∷ ds) place y h f leads some = (h.0, h.1, h.2, path_more (Node d) ds place y h.3 f leads some)
 
   -- where its last word leads to none, what one meets from its first position are these edges
-  path_met : (at : Position) (ys nodes : List ℕ) (place : ℕ) → FrozenPath sizes journal x at ys place → index_of
+  path_met : (at : ChainWord) (ys nodes : List ℕ) (place : ℕ) → FrozenPath sizes journal x at ys place → index_of
       (word_at sizes journal place) ≡ nowhere → MeetsFrom (edge_chain sizes journal x) at nodes → nodes ≡ ys
   path_met at [] [] place h none m = refl
   path_met at [] (y ∷ ys) place h none m = absurd (m.1 (sym m.0 ∙

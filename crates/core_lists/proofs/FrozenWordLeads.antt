@@ -5,7 +5,7 @@ use Rattle.std.specs.Prelude.{take_while}
 use Rattle.graph_kinds.specs.Levels.{stands_in}
 use Rattle.packed_link.specs.Link.{nowhere, index_of}
 use Rattle.packed_link.specs.Layout.{Sizes, IsLayout}
-use Rattle.core_chain.specs.Chain.{Chain, Position, Head, Node}
+use Rattle.core_chain.specs.Chain.{Chain, ChainWord, Head, Node}
 use Rattle.core_chain.specs.Met.{MeetsFrom}
 use Rattle.core_journal.specs.declared.event.Event.{Event}
 use Rattle.core_journal.specs.Machine.{word_at}
@@ -19,7 +19,7 @@ use Rattle.core_lists.proofs.FrozenPart.{frozen_end}
 use Rattle.core_lists.proofs.FrozenToEndIsList.{kept_met}
 
 module _ (c : Chain) (test : ℕ → Bool) where
-  first_in : (p : Position) (xs : List ℕ) (y : ℕ) → MeetsFrom c p xs → c.next p ≡ y → y ≢ nowhere → test y ≡ true
+  first_in : (p : ChainWord) (xs : List ℕ) (y : ℕ) → MeetsFrom c p xs → c.next p ≡ y → y ≢ nowhere → test y ≡ true
       → stands_in (take_while test xs) y ≡ true
   first_in p [] y m n some t = absurd (some (sym n ∙ m))
   first_in p (x ∷ xs) y m n some t =
@@ -27,7 +27,7 @@ module _ (c : Chain) (test : ℕ → Bool) where
       let yes : test x ≡ true = ap test same ∙ t in
       ap (λ (l : List ℕ). stands_in l y) (part_more test x xs yes) ∙ stands_here x y (take_while test xs) same
 
-  later_in : (p : Position) (xs : List ℕ) (z y : ℕ) → MeetsFrom c p xs → stands_in (take_while test xs) z ≡ true →
+  later_in : (p : ChainWord) (xs : List ℕ) (z y : ℕ) → MeetsFrom c p xs → stands_in (take_while test xs) z ≡ true →
       c.next
       (Node z) ≡ y → y ≢ nowhere → test y ≡ true → stands_in (take_while test xs) y ≡ true
   later_in p [] z y m h n some t = absurd (cc)
@@ -39,12 +39,12 @@ module _ (c : Chain) (test : ℕ → Bool) where
       (λ _ later. later_in (Node x) xs z y m.2 later n some t)))
       (λ e. let f : false ≡ true = sym (ap (λ (l : List ℕ). stands_in l z) (part_end test x xs e)) ∙ h in absurd (cc))
 
-  first_ends : (p : Position) (xs : List ℕ) (v : ℕ) → MeetsFrom c p xs → c.next p ≡ nowhere → stands_in xs v ≡ true
+  first_ends : (p : ChainWord) (xs : List ℕ) (v : ℕ) → MeetsFrom c p xs → c.next p ≡ nowhere → stands_in xs v ≡ true
       → test v ≡ true
   first_ends p [] v m n h = absurd (cc)
   first_ends p (x ∷ xs) v m n h = absurd (m.1 (sym m.0 ∙ n))
 
-  later_ends : (p : Position) (xs : List ℕ) (z v : ℕ) → MeetsFrom c p xs → stands_in (take_while test xs) z ≡ true →
+  later_ends : (p : ChainWord) (xs : List ℕ) (z v : ℕ) → MeetsFrom c p xs → stands_in (take_while test xs) z ≡ true →
       c.next
       (Node z) ≡ nowhere → stands_in xs v ≡ true → test v ≡ true
   later_ends p [] z v m h n on = absurd (cc)
@@ -71,7 +71,7 @@ module _ (sizes : Sizes) (z : IsLayout sizes) (journal : List Event) (kept : IsK
   in_part : (y : ℕ) → stands_in (take_while test list) y ≡ true → is_frozen (state sizes journal) x y ≡ true
   in_part y h = subst (λ (b : Bool). stands_in (cond b (take_while test list) []) y ≡ true) (sym f.head) h
 
-  next_at : (at : Position) → list_word sizes x at ≡ place → ((v : ℕ) → at ≡ Node v → is_frozen
+  next_at : (at : ChainWord) → list_word sizes x at ≡ place → ((v : ℕ) → at ≡ Node v → is_frozen
       (state sizes journal) x v ≡ true) → (y : ℕ) → index_of (word_at sizes journal place) ≡ y → y ≢ nowhere
       → test y ≡ true → is_frozen (state sizes journal) x y ≡ true
   next_at Head is part y leads some t = in_part y (first_in (edge_chain sizes journal x) test Head list y
@@ -85,7 +85,7 @@ module _ (sizes : Sizes) (z : IsLayout sizes) (journal : List Event) (kept : IsK
       (state sizes journal) x y ≡ true
   frozen_next = let d = frozen_end sizes journal x place f in next_at d.at d.place_is d.part
 
-  ends_at : (at : Position) → list_word sizes x at ≡ place → ((v : ℕ) → at ≡ Node v → is_frozen
+  ends_at : (at : ChainWord) → list_word sizes x at ≡ place → ((v : ℕ) → at ≡ Node v → is_frozen
       (state sizes journal) x v ≡ true) → index_of (word_at sizes journal place) ≡ nowhere → (v : ℕ)
       → stands_in list v ≡ true → test v ≡ true
   ends_at Head is part none v on = first_ends (edge_chain sizes journal x) test Head list v

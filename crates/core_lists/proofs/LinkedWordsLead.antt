@@ -11,7 +11,7 @@ use Rattle.graph_kinds.specs.Levels.{stands_in}
 use Rattle.packed_link.specs.Link.{index_of, mark_of, nowhere}
 use Rattle.packed_link.specs.Layout.{Sizes, IsLayout, bucket_at, key_at, link_at, second_at}
 use Rattle.packed_link.specs.declared.link.Life.{Life}
-use Rattle.core_chain.specs.Chain.{Chain, Position, Head, Node, IsOn, IsChain, Precedes, rank_of}
+use Rattle.core_chain.specs.Chain.{Chain, ChainWord, Head, Node, IsOn, IsChain, Precedes, rank_of}
 use Rattle.core_chain.specs.Met.{MeetsFrom}
 use Rattle.core_chain.proofs.Orders.{by_rank, one_leads, before_same}
 use Rattle.core_journal.specs.declared.event.Event.{Event}
@@ -32,7 +32,7 @@ use Rattle.core_kept.proofs.NodesInPlace.{used_there}
 
 -- the word of a bucket, or the link of a linked vertex of it, leads to linked vertices
 pub leads_to_vertex : (sizes : Sizes) → IsLayout sizes → (journal : List Event) → IsKept sizes journal → (j x : ℕ)
-    (p : Position) → j < sizes.buckets → IsOn (bucket_chain sizes journal j) p →
+    (p : ChainWord) → j < sizes.buckets → IsOn (bucket_chain sizes journal j) p →
     (bucket_chain sizes journal j).next p ≡ x → x < sizes.nodes → IsLinkedVertex sizes journal x
 leads_to_vertex sizes z journal kept j x p low on next there =
     let c = ((buckets sizes z journal kept).each j low).chain in
@@ -43,13 +43,13 @@ leads_to_vertex sizes z journal kept j x p low on next there =
     record { linked = v.linked; vertex = v.vertex }
 
 -- the node whose link a word is
-abbrev node_of : Position → ℕ
+abbrev node_of : ChainWord → ℕ
 node_of Head = 0
 node_of (Node x) = x
 
 -- along a chain, a word behind which a node of the longest prefix that passes a test stands is the first, or of that
 -- prefix
-before_part : (c : Chain) → IsChain c → (test : ℕ → Bool) (p : ℕ) → IsOn c (Node p) → (q : Position) (xs : List ℕ)
+before_part : (c : Chain) → IsChain c → (test : ℕ → Bool) (p : ℕ) → IsOn c (Node p) → (q : ChainWord) (xs : List ℕ)
     → IsOn c q → MeetsFrom c q xs → Precedes c q (Node p) → c.next (Node p) ≢ nowhere → stands_in (take_while test xs)
     (c.next (Node p)) ≡ true → stands_in (take_while test xs) p ≡ true
 before_part c is test p on q [] here met before some h = absurd (cc)
@@ -97,7 +97,7 @@ module _ (sizes : Sizes) (z : IsLayout sizes) (journal : List Event) (kept : IsK
         absurd (cc);
   }
 
-  on_list : (x y : ℕ) (p : Position) → HasList sizes journal x → IsOn (edge_chain sizes journal x) p →
+  on_list : (x y : ℕ) (p : ChainWord) → HasList sizes journal x → IsOn (edge_chain sizes journal x) p →
       (edge_chain sizes journal x).next p ≡ y → y < sizes.nodes → is_listed (state sizes journal) x y ≡ true
   on_list x y p has on next there =
       let c = ((lists sizes z journal kept).each x (has_open sizes journal x has)).chain in

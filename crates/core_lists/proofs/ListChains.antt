@@ -9,7 +9,7 @@ use Rattle.packed_link.specs.Link.{nowhere, index_of, mark_of, tag_of, with_mark
 use Rattle.packed_link.specs.Layout.{Sizes, IsLayout, word_count, key_at, link_at, second_at}
 use Rattle.packed_link.specs.declared.link.Life.{Life}
 use Rattle.packed_link.proofs.Links.{index_of-pack, index_of-bound}
-use Rattle.core_chain.specs.Chain.{Chain, Position, Head, Node, IsOn, IsChain}
+use Rattle.core_chain.specs.Chain.{Chain, ChainWord, Head, Node, IsOn, IsChain}
 use Rattle.core_chain.specs.Met.{MeetsFrom, IsMet}
 use Rattle.core_chain.specs.Steps.{CanInsert, CanUnlink, Inserts, Joins, Unlinks, SetsMark, Untouched, CanReplace}
 use Rattle.core_chain.specs.Steps.{Replaces}
@@ -62,15 +62,15 @@ list_links : (sizes : Sizes) (x : ℕ) → AreLinks sizes (list_places sizes x)
 list_links sizes x = record { links = λ y. refl; apart = λ y h. omega arith }
 
 -- the words and the keys of a list stand apart from one another
-alone : (sizes : Sizes) (x : ℕ) (at : Position) → StandsAlone (list_places sizes x) at
+alone : (sizes : Sizes) (x : ℕ) (at : ChainWord) → StandsAlone (list_places sizes x) at
 alone sizes x Head = record { words = λ p ne h. word p ne h; keys = λ y h. omega arith }
   where
-    word : (p : Position) → p ≢ Head → list_word sizes x p ≢ second_at sizes x
+    word : (p : ChainWord) → p ≢ Head → list_word sizes x p ≢ second_at sizes x
     word Head ne h = ne refl
     word (Node y) ne h = omega arith
 alone sizes x (Node n) = record { words = λ p ne h. word p ne h; keys = λ y h. omega arith }
   where
-    word : (p : Position) → p ≢ Node n → list_word sizes x p ≢ link_at sizes n
+    word : (p : ChainWord) → p ≢ Node n → list_word sizes x p ≢ link_at sizes n
     word Head ne h = omega arith
     word (Node y) ne h = ne (ap Node (omega arith))
 
@@ -84,7 +84,7 @@ stays sizes s s' w w' x same step b = record {
 }
 
 -- a list of which a word gets its mark
-marks : (sizes : Sizes) (s s' : State) (w w' : ℕ → ℕ) (x : ℕ) (at : Position) → s'.edges x ≡ s.edges x → SetsMark
+marks : (sizes : Sizes) (s s' : State) (w w' : ℕ → ℕ) (x : ℕ) (at : ChainWord) → s'.edges x ≡ s.edges x → SetsMark
     (list_chain sizes s w x) (list_chain sizes s' w' x) at → IsList sizes s w x → IsList sizes s' w' x
 marks sizes s s' w w' x at same step b = record {
   chain = IsChain-marked (list_chain sizes s w x) (list_chain sizes s' w' x) at b.chain step;
@@ -115,7 +115,7 @@ untouched sizes past e w s' x a off still same = record {
   mark = λ p on. ap mark_of (word p on);
 }
   where
-    word : (p : Position) → IsOn (edge_chain sizes past x) p → w (list_word sizes x p) ≡ word_at sizes past
+    word : (p : ChainWord) → IsOn (edge_chain sizes past x) p → w (list_word sizes x p) ≡ word_at sizes past
         (list_word sizes x p)
     word Head on = a.else (second_at sizes x) (λ h. off.head (sym h))
     word (Node y) on = a.else (link_at sizes y) (λ h. off.links y on (sym h))
@@ -312,7 +312,7 @@ module _ (sizes : Sizes) (z : IsLayout sizes) (past : List Event) (e : Event) (k
 
 -- an event writes a word of a list
 pub record IsListSpot (sizes : Sizes) (past : List Event) (e : Event) (x : ℕ) : Type 0 where
-  pub at : Position
+  pub at : ChainWord
   pub place : list_word sizes x at ≡ e.place
   pub on : IsOn (edge_chain sizes past x) at
   pub behind : (y : ℕ) → at ≡ Node y → stands_in ((state sizes past).edges x) y ≡ true
@@ -368,7 +368,7 @@ module _ (sizes : Sizes) (z : IsLayout sizes) (past : List Event) (e : Event) (k
             (sym word));
       }
     where
-      above : (p : Position) → list_word sizes link_home p ≡ e.place → StandsBelow (edge_chain sizes past link_home) p
+      above : (p : ChainWord) → list_word sizes link_home p ≡ e.place → StandsBelow (edge_chain sizes past link_home) p
           (word_at sizes past (key_at sizes e.life.index))
       above Head at = tt
       above (Node y) at = let k = ok.filled.key_word in let g = ok.gap.below y (sym at) in omega arith
@@ -639,7 +639,7 @@ module _ (sizes : Sizes) (z : IsLayout sizes) (past : List Event) (e : Event) (k
 -- a word of a list gets its mark, and the list stays
 module _ (sizes : Sizes) (past : List Event) (e : Event) (s' : State)
     (same : (x : ℕ) → s'.edges x ≡ (state sizes past).edges x)
-    (still : (y : ℕ) → (s'.node y).since ≡ (node_in sizes past y).since) (home : ℕ) (at : Position)
+    (still : (y : ℕ) → (s'.node y).since ≡ (node_in sizes past y).since) (home : ℕ) (at : ChainWord)
     (place : list_word sizes home at ≡ e.place) (near : e.place < word_count sizes)
     (word : e.word ≡ with_mark (word_at sizes past e.place)) (w : ℕ → ℕ) (a : IsAfter sizes past e w) where
   pub mark_sets : SetsMark (edge_chain sizes past home) (list_chain sizes s' w home) at

@@ -4,7 +4,7 @@ use Rattle.std.proofs.Common.{sym, ap, ◌∙◌, subst, arith, append_assoc, ap
 use Rattle.std.specs.Prelude.{◌==◌, slice_get}
 use Rattle.std.specs.List.{list_any}
 use Rattle.packed_link.specs.Layout.{Sizes, IsLayout, free_at}
-use Rattle.core_chain.specs.Chain.{Chain, Position, Head, Node as On, IsOn}
+use Rattle.core_chain.specs.Chain.{Chain, ChainWord, Head, Node as On, IsOn}
 use Rattle.core_chain.specs.Steps.{Untouched}
 use Rattle.core_journal.specs.declared.event.Kind.{Kind}
 use Rattle.core_journal.specs.declared.event.Kind.TheVariants.{DrawNumber, StorePrivate, Announce, Withdraw, MoveEpoch}
@@ -28,7 +28,7 @@ use Rattle.core_lists.proofs.ChangedByAnother.{get_behind}
 use Rattle.core_lists.proofs.EffectOfKinds.{effect}
 
 -- a chain that isn't touched, twice
-untouched_on : (old mid : Chain) → Untouched old mid → (p : Position) → IsOn old p → IsOn mid p
+untouched_on : (old mid : Chain) → Untouched old mid → (p : ChainWord) → IsOn old p → IsOn mid p
 untouched_on old mid u Head h = tt
 untouched_on old mid u (On x) h = subst IsTrue (sym (u.nodes x)) h
 

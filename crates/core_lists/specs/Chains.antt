@@ -3,7 +3,7 @@ use Rattle.std.specs.Prelude.{◌≡◌, ℕ, ◌%◌, ◌<◌, ◌⊎◌, true,
 use Rattle.packed_link.specs.Link.{index_of, nowhere}
 use Rattle.packed_link.specs.Layout.{Sizes, bucket_at, key_at, link_at, second_at}
 use Rattle.packed_link.specs.declared.link.Life.{Life}
-use Rattle.core_chain.specs.Chain.{Chain, Position, Head, Node}
+use Rattle.core_chain.specs.Chain.{Chain, ChainWord, Head, Node}
 use Rattle.core_chain.specs.Met.{IsMet}
 use Rattle.core_chain.specs.Table.{Places, chain_in}
 use Rattle.core_journal.specs.declared.event.Event.{Event}
@@ -14,7 +14,7 @@ use Rattle.core_kept.specs.Nodes.{is_of_bucket, node_in, is_listed, is_frozen, I
 use Rattle.core_kept.specs.Freezing.{IsFrozenWord}
 
 -- the words of a bucket: its own word is the head, and each vertex has its link
-abbrev pub bucket_word : Sizes → ℕ → Position → ℕ
+abbrev pub bucket_word : Sizes → ℕ → ChainWord → ℕ
 bucket_word sizes j Head = bucket_at sizes j
 bucket_word sizes j (Node x) = link_at sizes x
 
@@ -23,7 +23,7 @@ abbrev pub bucket_places : Sizes → ℕ → Places
 bucket_places sizes j = record { word_at = bucket_word sizes j; key_at = key_at sizes }
 
 -- the words of the list of a vertex: its second word is the head, and each edge has its link
-abbrev pub list_word : Sizes → ℕ → Position → ℕ
+abbrev pub list_word : Sizes → ℕ → ChainWord → ℕ
 list_word sizes x Head = second_at sizes x
 list_word sizes x (Node y) = link_at sizes y
 

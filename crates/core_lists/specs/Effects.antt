@@ -2,7 +2,7 @@
 use Rattle.std.specs.Prelude.{◌≡◌, ◌≢◌, ℕ, ◌%◌, ◌<◌, List, [], ◌∷◌, ◌++◌, Some, None}
 use Rattle.packed_link.specs.Layout.{Sizes}
 use Rattle.graph_kinds.specs.declared.call.Call.TheVariants.{AddVertex, RemoveVertex, AddEdge, RemoveEdge}
-use Rattle.core_chain.specs.Chain.{Position, Head}
+use Rattle.core_chain.specs.Chain.{ChainWord, Head}
 use Rattle.core_chain.specs.Steps.{Inserts, Replaces, Marks, Unlinks, SetsMark, Freezes, Untouched}
 use Rattle.core_journal.specs.declared.event.Kind.{Kind}
 use Rattle.core_journal.specs.declared.event.Kind.TheVariants.{DrawNumber, PopFree, StorePrivate, LinkVertex}
@@ -30,7 +30,7 @@ pub record OthersThanList (sizes : Sizes) (past : List Event) (e : Event) (verte
 
 -- a vertex is linked: it joins the chain of its key's bucket, and its key the graph, which had no such key
 pub record AddsVertex (sizes : Sizes) (past : List Event) (e : Event) : Type 0 where
-  pub at : Position
+  pub at : ChainWord
   pub place : bucket_word sizes (e.key % sizes.buckets) at ≡ e.place
   pub chain : Inserts (bucket_chain sizes past (e.key % sizes.buckets))
       (bucket_chain sizes (past ++ e ∷ []) (e.key % sizes.buckets)) at e.life.index
@@ -50,7 +50,7 @@ pub record RemovesVertex (sizes : Sizes) (past : List Event) (e : Event) : Type 
 -- a marked vertex leaves its chain, and the graph stays
 pub record UnlinksVertex (sizes : Sizes) (past : List Event) (e : Event) : Type 0 where
   pub bucket : ℕ
-  pub at : Position
+  pub at : ChainWord
   pub place : bucket_word sizes bucket at ≡ e.place
   pub chain : Unlinks (bucket_chain sizes past bucket) (bucket_chain sizes (past ++ e ∷ []) bucket) at e.life.index
   pub others : OthersThanBucket sizes past e bucket
@@ -59,7 +59,7 @@ pub record UnlinksVertex (sizes : Sizes) (past : List Event) (e : Event) : Type 
 -- an edge is linked: it joins the list of its source, and its pair the graph, which had no such pair, where both ends
 -- are present; else the graph stays
 pub record AddsEdge (sizes : Sizes) (past : List Event) (e : Event) : Type 0 where
-  pub at : Position
+  pub at : ChainWord
   pub place : list_word sizes e.source.index at ≡ e.place
   pub chain : Inserts (edge_chain sizes past e.source.index)
       (edge_chain sizes (past ++ e ∷ []) e.source.index) at e.life.index
@@ -95,7 +95,7 @@ pub record ReplacesEdge (sizes : Sizes) (past : List Event) (e : Event) : Type 0
 pub record UnlinksEdge (sizes : Sizes) (past : List Event) (e : Event) : Type 0 where
   pub source : ℕ
   pub of_source : source ≡ (node_in sizes past e.life.index).source.index
-  pub at : Position
+  pub at : ChainWord
   pub place : list_word sizes source at ≡ e.place
   pub chain : Unlinks (edge_chain sizes past source) (edge_chain sizes (past ++ e ∷ []) source) at e.life.index
   pub others : OthersThanList sizes past e source
@@ -111,7 +111,7 @@ pub record ClosesList (sizes : Sizes) (past : List Event) (e : Event) : Type 0 w
 pub record FreezesEdge (sizes : Sizes) (past : List Event) (e : Event) : Type 0 where
   pub source : ℕ
   pub of_source : source ≡ (node_in sizes past e.life.index).source.index
-  pub end : Position
+  pub end : ChainWord
   pub chain : Freezes (edge_chain sizes past source) (edge_chain sizes (past ++ e ∷ []) source) end e.life.index
   pub others : OthersThanList sizes past e source
   pub graph : graph_of (past ++ e ∷ []) ≡ graph_of past

@@ -2,14 +2,14 @@
 use Rattle.std.specs.Prelude.{◌≡◌, ◌≢◌, ℕ, List, [], ◌∷◌}
 use Rattle.packed_link.specs.Link.{index_of, nowhere}
 use Rattle.packed_link.specs.Layout.{Sizes}
-use Rattle.core_chain.specs.Chain.{Position, Node}
+use Rattle.core_chain.specs.Chain.{ChainWord, Node}
 use Rattle.core_journal.specs.declared.event.Event.{Event}
 use Rattle.core_journal.specs.Machine.{word_at}
 use Rattle.core_kept.specs.Freezing.{IsFrozenWord}
 use Rattle.core_lists.specs.Chains.{list_word}
 
 -- from a position of the list of a vertex one comes to a place over these edges, each of which a frozen word leads to
-abbrev pub FrozenPath : Sizes → List Event → ℕ → Position → List ℕ → ℕ → Type 0
+abbrev pub FrozenPath : Sizes → List Event → ℕ → ChainWord → List ℕ → ℕ → Type 0
 FrozenPath sizes journal x at [] place = list_word sizes x at ≡ place
 FrozenPath sizes journal x at (y ∷ ys) place =
     IsFrozenWord sizes journal x (list_word sizes x at)

@@ -7,7 +7,7 @@ use Rattle.graph_kinds.specs.Levels.{stands_in}
 use Rattle.packed_link.specs.Link.{pack, index_of, mark_of, mark_bit, nowhere}
 use Rattle.packed_link.specs.Layout.{Sizes, IsLayout, link_at, second_at}
 use Rattle.packed_link.specs.declared.link.Life.{Life}
-use Rattle.core_chain.specs.Chain.{Position, Head, Node, IsOn}
+use Rattle.core_chain.specs.Chain.{ChainWord, Head, Node, IsOn}
 use Rattle.core_chain.proofs.Orders.{one_leads}
 use Rattle.core_journal.specs.declared.event.Kind.{Kind}
 use Rattle.core_journal.specs.declared.event.Kind.TheVariants.{PopFree, LinkVertex, MarkVertex, UnlinkVertex, LinkEdge}
@@ -132,7 +132,7 @@ module _ (sizes : Sizes) (z : IsLayout sizes) (caller last place x : ℕ) (sourc
       pub frozen : IsFrozenWord sizes journal source.index place
       pub same : word_at sizes journal place ≡ word_at sizes front place
       pub marked : mark_of (word_at sizes journal place) ≡ 1
-      pub at : Position
+      pub at : ChainWord
       pub at_place : list_word sizes source.index at ≡ place
       pub on : IsOn (edge_chain sizes journal source.index) at
 

@@ -4,7 +4,7 @@ use Rattle.std.proofs.Common.{mod-lt}
 use Rattle.packed_link.specs.Link.{index_of, mark_of, nowhere}
 use Rattle.packed_link.specs.Layout.{IsLayout, bucket_at, key_at, second_at}
 use Rattle.packed_link.specs.declared.link.Life.{Life}
-use Rattle.core_chain.specs.Chain.{Position, Head, Node, IsOn}
+use Rattle.core_chain.specs.Chain.{ChainWord, Head, Node, IsOn}
 use Rattle.core_chain.specs.Walk.{StandsBelow}
 use Rattle.core_chain.proofs.Walks.{none_of_key}
 use Rattle.core_journal.specs.declared.event.Event.{Event}
@@ -52,7 +52,7 @@ module _ (v : View) (z : IsLayout v.sizes) (kept : IsKept v.sizes v.front) where
       home : ℕ
       home = key % v.sizes.buckets
 
-      none : (at : Position) → bucket_word v.sizes (key % v.sizes.buckets) at ≡ place → IsOn
+      none : (at : ChainWord) → bucket_word v.sizes (key % v.sizes.buckets) at ≡ place → IsOn
           (bucket_chain v.sizes v.front (key % v.sizes.buckets)) at → StandsBelow
           (bucket_chain v.sizes v.front (key % v.sizes.buckets)) at key → ⊥
       none at is on below =
@@ -93,7 +93,7 @@ module _ (v : View) (z : IsLayout v.sizes) (kept : IsKept v.sizes v.front) where
       (state v.sizes v.front) l.index h.0.index ≡ true) m.from at.on) h.1.below)
       before
     where
-      none : (at : Position) → list_word v.sizes source.index at ≡ place → IsOn
+      none : (at : ChainWord) → list_word v.sizes source.index at ≡ place → IsOn
           (edge_chain v.sizes v.front source.index) at → StandsBelow (edge_chain v.sizes v.front source.index) at key
           → ⊥
       none at place_is on below =

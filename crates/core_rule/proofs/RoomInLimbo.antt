@@ -3,11 +3,11 @@ use Rattle.std.proofs.Common.{◌≡◌, ◌≢◌, ℕ, ◌+◌, ◌<◌, ◌�
 use Rattle.std.proofs.Common.{ap, ap₂, arith, eq-eqb, ne_eqb}
 use Rattle.graph_kinds.specs.History.{Every}
 use Rattle.graph_kinds.specs.Levels.{stands_in}
+use Rattle.core_kept.specs.Counts.{count_below}
 use Rattle.core_kept.specs.Kept.{IsKept}
 use Rattle.core_kept.specs.Nodes.{IsSpentWith}
 use Rattle.core_kept.proofs.NodesInPlace.{used_there}
 use Rattle.core_rule.specs.Retired.{AreApart}
-use Rattle.core_rule.specs.Stretches.{count_below}
 use Rattle.core_rule.specs.declared.view.View.{View}
 use Rattle.core_rule.proofs.SpentSince.{count_at_most, count_more}
 

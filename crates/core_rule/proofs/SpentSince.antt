@@ -15,6 +15,7 @@ use Rattle.core_journal.specs.Prefix.{IsPrefix}
 use Rattle.core_journal.specs.Reuse.{pass_in}
 use Rattle.core_journal.specs.State.{Mode, Linked, Spent, Node, Pass}
 use Rattle.core_journal.proofs.Lists.{prefix_refl, prefix_snoc, prefix_trans}
+use Rattle.core_kept.specs.Counts.{count_below}
 use Rattle.core_kept.specs.Facts.{HasMet, IsSamePass}
 use Rattle.core_kept.specs.Kept.{Allowed, IsKept}
 use Rattle.core_kept.specs.Moments.{is_spent}
@@ -24,7 +25,7 @@ use Rattle.core_kept.proofs.MetWords.{ripe_not_met, still_met}
 use Rattle.core_kept.proofs.OwnFacts.{pass_stays}
 use Rattle.core_kept.proofs.PassBetween.{pass_between}
 use Rattle.core_lists.proofs.EventKeepsRest.{allowed_as, edge_spent, pass_kept, spent_still, vertex_spent}
-use Rattle.core_rule.specs.Stretches.{HasPass, count_below, is_spent_since, spent_since}
+use Rattle.core_rule.specs.Stretches.{HasPass, is_spent_since, spent_since}
 use Rattle.core_rule.specs.Views.{GoesOn, Steps}
 use Rattle.core_rule.specs.declared.view.View.{View}
 use Rattle.core_rule.proofs.ViewShows.{step_goes_on}

@@ -1,5 +1,5 @@
 -- What a token did between two of its views, and views that show the same.
-use Rattle.std.specs.Prelude.{◌≡◌, ◌≢◌, ℕ, zero, suc, ◌+◌, ◌^◌, ◌<◌, ◌≤◌, ◌==◌, ◌&&◌, Bool, true, false, cond, ltb}
+use Rattle.std.specs.Prelude.{◌≡◌, ◌≢◌, ℕ, ◌^◌, ◌<◌, ◌≤◌, ◌==◌, ◌&&◌, Bool, true, false, ltb}
 use Rattle.std.specs.Prelude.{List, Some, length, take, slice_get}
 use Rattle.packed_link.specs.Link.{index_of, tag_of}
 use Rattle.packed_link.specs.declared.link.Life.{Life}
@@ -15,6 +15,7 @@ use Rattle.core_journal.specs.Life.{link_of}
 use Rattle.core_journal.specs.Machine.{word_at}
 use Rattle.core_journal.specs.Reuse.{pass_in}
 use Rattle.core_journal.specs.State.{Node}
+use Rattle.core_kept.specs.Counts.{count_below}
 use Rattle.core_kept.specs.Moments.{is_spent}
 use Rattle.core_kept.specs.Nodes.{node_in, IsFreshWith}
 use Rattle.core_rule.specs.declared.view.View.{View}
@@ -106,11 +107,6 @@ pub record IsHeldBut (sizes : Sizes) (front journal : List Event) (x place : ℕ
       → word_at sizes journal (second_at sizes x) ≡ word_at sizes front (second_at sizes x)
   pub third : third_at sizes x ≢ place
       → word_at sizes journal (third_at sizes x) ≡ word_at sizes front (third_at sizes x)
-
--- how many numbers below one pass a test
-abbrev pub count_below : (ℕ → Bool) → ℕ → ℕ
-count_below test zero = 0
-count_below test (suc n) = cond (test n) 1 0 + count_below test n
 
 -- whether a node is spent with a caller, and was spent after a length of the journal
 abbrev pub is_spent_since : Node → ℕ → ℕ → Bool

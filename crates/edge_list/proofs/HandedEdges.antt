@@ -6,7 +6,7 @@ use Rattle.std.specs.Prelude.{AllPairs, Contains}
 use Rattle.graph_kinds.specs.History.{Every}
 use Rattle.packed_link.specs.Link.{index_of, nowhere}
 use Rattle.packed_link.specs.Layout.{Sizes, IsLayout}
-use Rattle.core_chain.specs.Chain.{Position, Head}
+use Rattle.core_chain.specs.Chain.{ChainWord, Head}
 use Rattle.core_chain.specs.Chain.{Node as At}
 use Rattle.core_chain.specs.Met.{MeetsFrom}
 use Rattle.core_epoch.proofs.Lists.{contains_first, contains_later, once_first, once_rest}
@@ -29,7 +29,7 @@ module _ (sizes : Sizes) (journal : List Event) (x : ℕ) where
     pub rest : List ℕ
     pub is : zs ≡ ys ++ y ∷ rest
 
-  path_begins : (at : Position) (ys zs : List ℕ) (place y : ℕ) → FrozenPath sizes journal x at ys place
+  path_begins : (at : ChainWord) (ys zs : List ℕ) (place y : ℕ) → FrozenPath sizes journal x at ys place
       → index_of (word_at sizes journal place) ≡ y → y ≢ nowhere → MeetsFrom (edge_chain sizes journal x) at zs
       → Continues ys zs y
   path_begins at [] [] place y h leads some m =

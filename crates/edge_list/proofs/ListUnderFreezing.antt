@@ -29,7 +29,7 @@ use Rattle.core_rule.proofs.ViewShows.{look_steps, win_steps, step_view}
 use Rattle.core_stretches.specs.Holdings.{IsUnlinkedVertex}
 use Rattle.core_stretches.specs.Makes.{Makes, marking}
 use Rattle.core_stretches.proofs.MakesAddUp.{makes_look, makes_won}
-use Rattle.graph_table.specs.Table.{Marked}
+use Rattle.graph_table.specs.Table.{MatchMark}
 use Rattle.edge_list.specs.Freezing.{FrozenValue, IsFreezing, IsHeadClosed, IsHandedTo}
 use Rattle.edge_list.proofs.FrozenWords.{makes_word, vertex_on}
 
@@ -48,7 +48,7 @@ set false h = absurd (omega (arith, h))
 
 -- what a mark made
 makes_marking : (v w : View) (place found : ℕ) (event : ℕ → Event) → v.numbered ≡ true → IsSound v →
-    (event found).caller ≡ v.number → Marked v place found (event found) w → Makes v (marking event found) w
+    (event found).caller ≡ v.number → MatchMark v place found (event found) w → Makes v (marking event found) w
 makes_marking v w place found event has s by m = ⊎_elim
     (λ (live : mark_of found ≡ 0). subst (λ (n : ℕ). Makes v (cond (n == 0) (event found ∷ []) []) w) (sym live)
     (makes_won v w place found (event found) has s by (m.won live)))
@@ -59,7 +59,7 @@ makes_marking v w place found event has s by m = ⊎_elim
 -- the head is closed
 pub head_closed : (v w : View) (x : Life) (f : FrozenValue) (place found : ℕ) → IsLayout v.sizes → IsLayout w.sizes
     → v.numbered ≡ true → IsSound v → IsUnlinkedVertex v x → place ≡ second_at v.sizes x.index
-    → f ≡ record { from = x; place = place } → Marked v place found (freeze_head_event v x found) w
+    → f ≡ record { from = x; place = place } → MatchMark v place found (freeze_head_event v x found) w
     → IsHeadClosed x v w f
 head_closed v w x f place found z z' has s u at is marked =
     let sizes_at : (own : Event) → Steps v (Some own) w → w.sizes ≡ v.sizes = λ own t. (step_view v w (Some own) t).0 in
@@ -244,7 +244,7 @@ told v w f new x place found z k made h leads there life at dead is =
 -- the edge is handed over
 pub handed : (v w : View) (f new : FrozenValue) (x : Life) (place found : ℕ) → IsLayout v.sizes → IsLayout w.sizes
     → v.numbered ≡ true → IsSound v → IsFreezing v f → MayFreezeEdge v f.from f.place x
-    → place ≡ link_at v.sizes x.index → new ≡ record { from = f.from; place = place } → Marked v place found
+    → place ≡ link_at v.sizes x.index → new ≡ record { from = f.from; place = place } → MatchMark v place found
     (freeze_edge_event v x found) w
     → IsHandedTo f v w x new
 handed v w f new x place found z z' has s h m at is marked =

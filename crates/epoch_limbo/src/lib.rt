@@ -11,6 +11,7 @@ mod limbo;
 mod passes;
 
 pub use advancing::{Advanced, advance};
+pub use graph_kinds::Memory;
 pub use keeping::{a_limbo_has_room_for_one_more, a_limbo_outlasts_a_freeze, limbos_stay};
-pub use limbo::{Limbo, Memory};
+pub use limbo::Limbo;
 pub use passes::{close_pass, open_pass};

@@ -7,6 +7,7 @@ ghost use Rattle.epoch_limbo.specs.Limbos.{IsLimboOf, IsPutBack, IsRetiredInto, 
 ghost use Rattle.core_rule.specs.Retired.{IsShown};
 ghost use Rattle.graph_table.specs.Tokens.{IsOf};
 
+use graph_kinds::Memory;
 use graph_table::{GraphTable, Ripe, Spent, Token};
 use std::alloc::Global;
 use std::collections::VecDeque;
@@ -14,10 +15,6 @@ use std::marker::Model;
 
 // A node is ripe for the free list this many epochs behind its stamp.
 const RIPE: u64 = 2;
-
-/// There's no memory for a limbo.
-#[derive(Debug, Drop)]
-pub struct Memory;
 
 /// Spent nodes with their stamps, in a queue of fixed room, the oldest first.
 #[derive(Drop)]

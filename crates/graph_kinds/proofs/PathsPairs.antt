@@ -37,6 +37,30 @@ rises_next (x ∷ y ∷ ys) r zero h = r.0 y (inl refl)
 rises_next (x ∷ y ∷ ys) r (suc k) h = let e : suc k + 1 ≡ suc (k + 1) = omega arith in rw e
     (rises_next (y ∷ ys) r.1 k (omega arith))
 
+-- two rising lists of the same numbers are one
+pub same_rising : (xs ys : List ℕ) → IsAscending xs → IsAscending ys → ((z : ℕ) → In z xs → In z ys) →
+    ((z : ℕ) → In z ys → In z xs)
+    → xs ≡ ys
+same_rising [] [] r s f k = refl
+same_rising [] (y ∷ ys) r s f k = absurd (k y (inl refl))
+same_rising (x ∷ xs) [] r s f k = absurd (f x (inl refl))
+same_rising (x ∷ xs) (y ∷ ys) r s f k =
+    let same : x ≡ y = elim (f x (inl refl)) as (λ _. x ≡ y) [
+      | inl e ↦ sym e
+      | inr h ↦ elim (k y (inl refl)) as (λ _. x ≡ y) [ inl e ↦ e | inr i ↦ absurd (omega (arith, s.0 x h, r.0 y i)) ]
+    ] in
+    let rest = same_rising xs ys r.1 s.1 (λ z h. later z (r.0 z h) (f z (inr h)) same)
+    (λ z h. sooner z (s.0 z h) (k z (inr h)) same) in
+    λ i. same i ∷ rest i
+  where
+    later : (z : ℕ) → x < z → In z (y ∷ ys) → x ≡ y → In z ys
+    later z lt (inl e) same = absurd (omega arith)
+    later z lt (inr h) same = h
+
+    sooner : (z : ℕ) → y < z → In z (x ∷ xs) → x ≡ y → In z xs
+    sooner z lt (inl e) same = absurd (omega arith)
+    sooner z lt (inr h) same = h
+
 -- the two ways to say that a test is true
 pub bool_true : (b : Bool) → T b → b ≡ true
 bool_true true h = refl

@@ -1,5 +1,5 @@
 -- From a key, a graph and the part of it that is reached from there are answered alike.
-use Rattle.std.proofs.Common.{◌≡◌, ℕ, zero, suc, ◌+◌, ◌<◌, ◌≤◌, Bool, true, false, cond, inl, inr, List, [], ◌∷◌, ◌++◌}
+use Rattle.std.proofs.Common.{◌≡◌, ℕ, zero, suc, ◌+◌, ◌≤◌, Bool, true, false, cond, inl, inr, List, [], ◌∷◌, ◌++◌}
 use Rattle.std.proofs.Common.{length, length-append, filter, flat_map, find, not, unwrap_or, slice_index, Option, Some}
 use Rattle.std.proofs.Common.{None, is_some, refl, sym, ap, ◌∙◌, subst, arith}
 use Rattle.std.proofs.lemmas.Bool.{cond-true}
@@ -12,7 +12,7 @@ use Rattle.graph_kinds.specs.Levels.{GoesByParents}
 use Rattle.graph_kinds.specs.Part.{IsPart, part}
 use Rattle.graph_kinds.proofs.Graphs.{same_graph, weight_kept}
 use Rattle.graph_kinds.proofs.PathsLists.{In, stands}
-use Rattle.graph_kinds.proofs.PathsPairs.{IsAscending, neighbours_rise}
+use Rattle.graph_kinds.proofs.PathsPairs.{neighbours_rise, same_rising}
 use Rattle.graph_kinds.proofs.PathsWalks.{weight_there, in_neighbours, neighbours_in, key_behind, path_on, walk_key}
 use Rattle.graph_kinds.proofs.LevelsTurns.{IsTurn, first_turn, next_turn, none_left}
 use Rattle.graph_kinds.proofs.LevelsReach as reach
@@ -20,30 +20,6 @@ use Rattle.graph_kinds.proofs.CostsLeast.{some_least, least_some}
 use Rattle.graph_kinds.proofs.CostsCheapest.{path_end, IsCheapest, cheapest}
 use Rattle.graph_kinds.proofs.CostsOnly.{only_law}
 use Rattle.graph_kinds.proofs.LevelsLaws.{all_law, in_some_level}
-
--- two rising lists of the same numbers are one
-same_rising : (xs ys : List ℕ) → IsAscending xs → IsAscending ys → ((z : ℕ) → In z xs → In z ys) →
-    ((z : ℕ) → In z ys → In z xs)
-    → xs ≡ ys
-same_rising [] [] r s f k = refl
-same_rising [] (y ∷ ys) r s f k = absurd (k y (inl refl))
-same_rising (x ∷ xs) [] r s f k = absurd (f x (inl refl))
-same_rising (x ∷ xs) (y ∷ ys) r s f k =
-    let same : x ≡ y = elim (f x (inl refl)) as (λ _. x ≡ y) [
-      | inl e ↦ sym e
-      | inr h ↦ elim (k y (inl refl)) as (λ _. x ≡ y) [ inl e ↦ e | inr i ↦ absurd (omega (arith, s.0 x h, r.0 y i)) ]
-    ] in
-    let rest = same_rising xs ys r.1 s.1 (λ z h. later z (r.0 z h) (f z (inr h)) same)
-    (λ z h. sooner z (s.0 z h) (k z (inr h)) same) in
-    λ i. same i ∷ rest i
-  where
-    later : (z : ℕ) → x < z → In z (y ∷ ys) → x ≡ y → In z ys
-    later z lt (inl e) same = absurd (omega arith)
-    later z lt (inr h) same = h
-
-    sooner : (z : ℕ) → y < z → In z (x ∷ xs) → x ≡ y → In z xs
-    sooner z lt (inl e) same = absurd (omega arith)
-    sooner z lt (inr h) same = h
 
 -- functions that agree on a list give one joined list, one first item that passes
 same_flat : (f k : ℕ → List ℕ) (xs : List ℕ) → ((x : ℕ) → In x xs → f x ≡ k x) → flat_map f xs ≡ flat_map k xs

@@ -66,7 +66,7 @@ MatchPush PushWon v place seen x e w = Won v place seen e w
 MatchPush (PushLost ripe found) v place seen x e w = (ripe ≡ x) × Missed v place seen found w
 
 -- what setting a mark came to: it's an event where the word that was found is unmarked, else a load
-pub record Marked (v : View) (place found : ℕ) (e : Event) (w : View) : Type 0 where
+pub record MatchMark (v : View) (place found : ℕ) (e : Event) (w : View) : Type 0 where
   pub won : mark_of found ≡ 0 → Won v place found e w
   pub was : mark_of found ≡ 1 → Looked v place found w
 

@@ -10,7 +10,7 @@ ghost use Rattle.packed_link.specs.declared.link.Life.{Life};
 ghost use Rattle.core_rule.specs.Fronts.{MayFreezeEdge, MayFreezeHead};
 ghost use Rattle.core_rule.specs.OwnEvents.{freeze_edge_event, freeze_head_event};
 ghost use Rattle.graph_table.specs.Tokens.{IsOf};
-ghost use Rattle.graph_table.specs.Table.{Marked};
+ghost use Rattle.graph_table.specs.Table.{MatchMark};
 
 use crate::held::Spent;
 use crate::table::{GraphTable, Token};
@@ -24,7 +24,7 @@ impl GraphTable {
         requires table { IsOf self.now token.old }
         requires number { token.old.view.numbered ≡ true }
         requires may { MayFreezeHead token.old.view from.now }
-        ensures marked { Marked token.old.view (second_at self.now.sizes from.now.index) result
+        ensures marked { MatchMark token.old.view (second_at self.now.sizes from.now.index) result
             (freeze_head_event token.old.view from.now result) token.new.view }
         ensures table { IsOf self.now token.new }
     {
@@ -40,7 +40,7 @@ impl GraphTable {
         requires table { IsOf self.now token.old }
         requires number { token.old.view.numbered ≡ true }
         requires may { (source : Life) × (place : ℕ) × MayFreezeEdge token.old.view source place life }
-        ensures marked { Marked token.old.view (link_at self.now.sizes life.index) result.0
+        ensures marked { MatchMark token.old.view (link_at self.now.sizes life.index) result.0
             (freeze_edge_event token.old.view life result.0) token.new.view }
         ensures node { result.1 ≡ life }
         ensures table { IsOf self.now token.new }

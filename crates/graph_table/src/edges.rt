@@ -11,7 +11,7 @@ ghost use Rattle.core_rule.specs.Fronts.{MayMarkEdge, MayRaise, MayUnlinkEdge};
 ghost use Rattle.core_rule.specs.OwnEvents.{mark_edge_event, raise_event, unlink_edge_event};
 ghost use Rattle.core_rule.specs.Plays.{Won};
 ghost use Rattle.graph_table.specs.Tokens.{IsOf};
-ghost use Rattle.graph_table.specs.Table.{Marked, MatchLink, MatchUnlink};
+ghost use Rattle.graph_table.specs.Table.{MatchLink, MatchMark, MatchUnlink};
 ghost use Rattle.graph_table.specs.Filled.{MayLinkFilledEdge, MayReplaceByFilled, filled_edge_event, replaced_event};
 
 use crate::answers::{LinkTried, UnlinkTried};
@@ -63,7 +63,7 @@ impl GraphTable {
         requires table { IsOf self.now token.old }
         requires number { token.old.view.numbered ≡ true }
         requires may { (source : Life) × MayMarkEdge token.old.view source life }
-        ensures marked { Marked token.old.view (link_at self.now.sizes life.index) result
+        ensures marked { MatchMark token.old.view (link_at self.now.sizes life.index) result
             (mark_edge_event token.old.view life result) token.new.view }
         ensures table { IsOf self.now token.new }
     {

@@ -22,7 +22,7 @@ mod tokens;
 mod vertices;
 
 pub use answers::{Field, LinkTried, Popped, PushTried, Tried, UnlinkTried};
+pub use graph_kinds::Memory;
 pub use held::{Fresh, Ripe, Spent};
 pub use laws::an_edge_is_linked_as_it_was_filled;
-pub use opening::Memory;
 pub use table::{GraphTable, Token};

@@ -8,12 +8,9 @@ ghost use Rattle.graph_table.specs.Tokens.{IsOf};
 
 use crate::table::{GraphTable, Token};
 use atomic_table::Table;
+use graph_kinds::Memory;
 use packed_link::{Layout, Link};
 use std::alloc::{AllocError, Global};
-
-/// Memory was wanted.
-#[derive(Debug, Drop)]
-pub struct Memory;
 
 impl GraphTable {
     /// A new table, all of whose nodes are free, and its first token, in O(number of words). The journal is empty, and

@@ -64,11 +64,11 @@ impl Deed for Brand {
 }
 
 /// An exchange, a mark or an add.
-pub struct Turn<D> {
+pub struct Turning<D> {
     deed: PhantomData<D>,
 }
 
-impl<D: Deed> Play<(), View> for Turn<D> {
+impl<D: Deed> Play<(), View> for Turning<D> {
     ghost use Rattle.core_rule.specs.Plays.{turning};
 
     ghost then = { turning D.wins D.event };

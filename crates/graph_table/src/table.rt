@@ -10,7 +10,7 @@ ghost use Rattle.core_rule.specs.Plays.{Looked, Stored};
 ghost use Rattle.graph_table.specs.Tokens.{IsOf};
 ghost use Rattle.graph_table.specs.Table.{Turned};
 
-use crate::rule::{Deed, Law, Look, Store, Turn};
+use crate::rule::{Deed, Law, Look, Store, Turning};
 use atomic_table::{Seat, Table};
 use core_rule::View;
 use packed_link::{Layout, Life, Link};
@@ -107,7 +107,7 @@ impl GraphTable {
     {
         self.table
             .shared
-            .compare_exchange::<Turn<D>>(&mut token.seat, place as usize, seen, new)
+            .compare_exchange::<Turning<D>>(&mut token.seat, place as usize, seen, new)
     }
 
     /// Bits are set in a word. Answers the word found.
@@ -127,7 +127,7 @@ impl GraphTable {
     {
         self.table
             .shared
-            .fetch_or::<Turn<D>>(&mut token.seat, place as usize, bits)
+            .fetch_or::<Turning<D>>(&mut token.seat, place as usize, bits)
     }
 
     /// The mark is set in a word. Answers the word found.
@@ -154,7 +154,7 @@ impl GraphTable {
     {
         self.table
             .shared
-            .fetch_add::<Turn<D>>(&mut token.seat, place as usize, 1)
+            .fetch_add::<Turning<D>>(&mut token.seat, place as usize, 1)
     }
 
     /// A word is stored.

@@ -8,7 +8,7 @@ ghost use Rattle.packed_link.specs.Layout.{link_at};
 ghost use Rattle.core_rule.specs.Fronts.{MayMarkVertex, MayUnlinkVertex};
 ghost use Rattle.core_rule.specs.OwnEvents.{mark_vertex_event, unlink_vertex_event};
 ghost use Rattle.graph_table.specs.Tokens.{IsOf};
-ghost use Rattle.graph_table.specs.Table.{Marked, MatchLink, MatchUnlink};
+ghost use Rattle.graph_table.specs.Table.{MatchLink, MatchMark, MatchUnlink};
 ghost use Rattle.graph_table.specs.Filled.{MayLinkFilledVertex, filled_vertex_event};
 
 use crate::answers::{LinkTried, UnlinkTried};
@@ -45,7 +45,7 @@ impl GraphTable {
         requires table { IsOf self.now token.old }
         requires number { token.old.view.numbered ≡ true }
         requires may { MayMarkVertex token.old.view life }
-        ensures marked { Marked token.old.view (link_at self.now.sizes life.index) result
+        ensures marked { MatchMark token.old.view (link_at self.now.sizes life.index) result
             (mark_vertex_event token.old.view life result) token.new.view }
         ensures table { IsOf self.now token.new }
     {

@@ -11,7 +11,7 @@ use Rattle.graph_kinds.specs.History.{Every}
 use Rattle.packed_link.specs.Link.{index_of, mark_of, nowhere}
 use Rattle.packed_link.specs.Layout.{Sizes, IsLayout, link_at, second_at, epoch_at}
 use Rattle.packed_link.specs.declared.link.Life.{Life}
-use Rattle.core_chain.specs.Chain.{Position, Head}
+use Rattle.core_chain.specs.Chain.{ChainWord, Head}
 use Rattle.core_chain.specs.Chain.{Node as At}
 use Rattle.core_counts.specs.Spending.{AreFinished, GetsNone, GotOnly}
 use Rattle.core_counts.proofs.KnownSpentNodes.{got_itself, got_begins, got_done, got_more}
@@ -92,7 +92,7 @@ gets_edge : (v : View) (x y : Life) (found : ℕ) (t : View) → GetsNone (Some 
 gets_edge v x y found t = record { unlinks = refl; closes = λ is. absurd (cc); gives = λ _ is. absurd (cc) }
 
 -- a path of frozen words stays
-path_on : (x : Life) (t u : View) → u.sizes ≡ t.sizes → KeepsFrozen x t u → IsUnlinkedVertex t x → (p : Position)
+path_on : (x : Life) (t u : View) → u.sizes ≡ t.sizes → KeepsFrozen x t u → IsUnlinkedVertex t x → (p : ChainWord)
     (ys : List ℕ) (place : ℕ) → FrozenPath t.sizes t.front x.index p ys place
     → FrozenPath u.sizes u.front x.index p ys place
 path_on x t u sizes k m p [] place h = ap (λ (s : Sizes). list_word s x.index p) sizes ∙ h

@@ -12,7 +12,7 @@ use Rattle.scan_record.specs.Asked.{root_of}
 use Rattle.scan_record.specs.Scan.{ScanValue, IsScan, IsComplete, new_row, blank_life}
 use Rattle.scan_record.specs.ScanGraph.{graph_of_scan}
 use Rattle.scan_record.proofs.GraphOfScan.{keys_law}
-use Rattle.scan_record.proofs.Rising.{any_place}
+use Rattle.scan_record.proofs.FoundItems.{any_place}
 use Rattle.scan_record.proofs.ScanFacts.{row_key}
 use Rattle.path_costs.specs.Heap.{states_of, state_of}
 use Rattle.path_costs.specs.Search.{key_of_row, row_cost, parent_of, HasPair, IsFollowed, HasParent, IsReached}

@@ -3,8 +3,7 @@ use Rattle.std.proofs.Common.{◌≡◌, ◌≢◌, ℕ, zero, suc, ◌+◌, ◌
 use Rattle.std.proofs.Common.{◌++◌, length, get_or, map, filter_map, Option, Some, None, is_some, inl, inr, refl, sym}
 use Rattle.std.proofs.Common.{ap, subst, arith, ◌∙◌}
 use Rattle.std.specs.Prelude.{All, find, flat_map, option_map}
-use Rattle.std.specs.List.{list_any, cons_option}
-use Rattle.std.specs.List.Sorted.{IsStrictlyIncreasing}
+use Rattle.std.specs.List.{AllPairs, list_any, cons_option}
 use Rattle.std.specs.declared.cmp.Ordering.{Ordering}
 use Rattle.std.specs.declared.cmp.Ordering.TheVariants.{Less, Equal, Greater}
 use Rattle.std.specs.Ordering.{nat_cmp, eq_by_cmp, ordering_then, is_eq}
@@ -18,13 +17,15 @@ use Rattle.std.proofs.lemmas.List.Elements.{All-nil, All-cons, All-head, All-tai
 use Rattle.std.proofs.lemmas.List.Elements.{All-from_get_or}
 use Rattle.graph_kinds.specs.Graph.{Graph, pair_cmp, has, weight_of, neighbours}
 use Rattle.graph_kinds.specs.Levels.{stands_in}
+use Rattle.graph_kinds.proofs.PathsLists.{In, stands, in_standing}
+use Rattle.graph_kinds.proofs.PathsPairs.{IsAscending, neighbours_rise, same_rising}
 use Rattle.scan_record.specs.declared.rows.VertexRow.{VertexRow}
 use Rattle.scan_record.specs.declared.rows.EdgeRow.{EdgeRow}
 use Rattle.scan_record.specs.Scan.{ScanValue, IsScan, IsComplete, row_at, edge_at, edges_of, new_row, blank_life}
 use Rattle.scan_record.specs.Scan.{blank_edge}
 use Rattle.scan_record.specs.ScanGraph.{pair_of, pairs_of, graph_of_scan, target_keys, leads_to, weight_to}
 use Rattle.scan_record.proofs.Edges.{length-edges_of, get_or-edges_of}
-use Rattle.scan_record.proofs.Rising.{Pairwise, pairwise_all, rises, any_map, itself, same_rising}
+use Rattle.scan_record.proofs.FoundItems.{any_map, itself}
 
 -- what is true at each place of a row is true of all its edges
 pub all_edges : (P : EdgeRow → Type 0) (s : ScanValue) (k : ℕ) → IsScan s → k < length s.rows →
@@ -37,17 +38,16 @@ all_edges P s k is h at =
     subst P (sym (get_or-edges_of s (row_at s k) n inside)) (at ((row_at s k).first + n) (omega arith)))
 
 -- the edges of a row stand by rising key
-pub edges_climb : (s : ScanValue) (k : ℕ) → IsScan s → k < length s.rows → Pairwise (λ e f. e.key < f.key)
+pub edges_climb : (s : ScanValue) (k : ℕ) → IsScan s → k < length s.rows → AllPairs (λ e f. e.key < f.key)
     (edges_of s (row_at s k))
-edges_climb s k is h =
+edges_climb s k is h i j d lt l =
     let row = row_at s k in
     let edges = edges_of s row in
     let long : length edges ≡ row.count = length-edges_of s k is h in
-    pairwise_all (λ e f. e.key < f.key) edges (λ i j d lt l.
     let at : (n : ℕ) → n < length edges → get_or edges n d ≡ edge_at s (row.first + n) = λ n inside.
     get_or_default edges n d blank_edge inside ∙ get_or-edges_of s row n (omega arith) in
     rw (at i (omega arith), at j l) (is.rising k (row.first + i) (row.first + j) h (omega arith) (omega arith)
-    (omega arith)))
+    (omega arith))
 
 -- pairs tie where both keys are equal
 pub pair_total : IsTotalOrder pair_cmp
@@ -189,34 +189,38 @@ leads_standing b (edge ∷ edges) =
           ]
     ]
 
-targets_above : (x : ℕ) (edges : List EdgeRow) → All (λ e. x < e.key) edges → All (λ y. x < y) (target_keys edges)
-targets_above x [] all = All-nil (λ y. x < y)
-targets_above x (edge ∷ edges) all =
-    let later = targets_above x edges (All-tail (λ e. x < e.key) edge edges all) in
-    elim edge.target as (λ o. All (λ y. x < y) (cons_option (option_map (λ _. edge.key) o) (target_keys edges))) [
+targets_above : (x z : ℕ) (edges : List EdgeRow) → All (λ e. x < e.key) edges → In z (target_keys edges) → x < z
+targets_above x z [] all h = absurd h
+targets_above x z (edge ∷ edges) all h =
+    let later = targets_above x z edges (All-tail (λ e. x < e.key) edge edges all) in
+    elim edge.target as (λ o. In z (cons_option (option_map (λ _. edge.key) o) (target_keys edges)) → x < z) [
       | None ↦ later
-      | Some t ↦ All-cons (λ y. x < y) edge.key (target_keys edges) (All-head (λ e. x < e.key) edge edges all) later
-    ]
+      | Some t ↦ λ k. elim k as (λ _. x < z) [
+        | inl e ↦ subst (λ (n : ℕ). x < n) e (All-head (λ e. x < e.key) edge edges all)
+        | inr l ↦ later l
+      ]
+    ] h
 
-targets_rise : (edges : List EdgeRow) → Pairwise (λ e f. e.key < f.key) edges →
-    Pairwise (λ x y. x < y) (target_keys edges)
+targets_rise : (edges : List EdgeRow) → AllPairs (λ e f. e.key < f.key) edges → IsAscending (target_keys edges)
 targets_rise [] chain = tt
 targets_rise (edge ∷ edges) chain =
-    let later = targets_rise edges chain.1 in
-    elim edge.target as
-    (λ o. Pairwise (λ x y. x < y) (cons_option (option_map (λ _. edge.key) o) (target_keys edges))) [
+    let first : All (λ e. edge.key < e.key) edges = λ k d h. chain zero (suc k) d (omega arith) (omega arith) in
+    let later = targets_rise edges (λ i j d lt h. chain (suc i) (suc j) d (omega arith) (omega arith)) in
+    elim edge.target as (λ o. IsAscending (cons_option (option_map (λ _. edge.key) o) (target_keys edges))) [
       | None ↦ later
-      | Some t ↦ (targets_above edge.key edges chain.0, later)
+      | Some t ↦ ((λ z h. targets_above edge.key z edges first h), later)
     ]
 
-pub neighbours_law : ((g : Graph) (x y : ℕ) → stands_in (neighbours g x) y ≡ is_some (weight_of g x y)) →
-    ((g : Graph) (x : ℕ) → IsStrictlyIncreasing (neighbours g x))
+pub neighbours_law : ((g : Graph) (x y : ℕ) → stands_in (neighbours g x) y ≡ is_some (weight_of g x y))
     → (s : ScanValue) (k : ℕ) → IsScan s → IsComplete s → k < length s.rows → neighbours (graph_of_scan s)
     (row_at s k).key ≡ target_keys (edges_of s (row_at s k))
-neighbours_law pairs rising s k is full h =
+neighbours_law pairs s k is full h =
     let g = graph_of_scan s in
+    let key = (row_at s k).key in
     let edges = edges_of s (row_at s k) in
-    same_rising (neighbours g (row_at s k).key) (target_keys edges)
-    (rises (neighbours g (row_at s k).key) (rising g (row_at s k).key)) (targets_rise edges (edges_climb s k is h))
-    (λ z. pairs g (row_at s k).key z ∙ ap (λ (o : Option ℕ). is_some o) (weights_law s k z is full h)
-    ∙ leads_standing z edges)
+    let same : (z : ℕ) → stands_in (neighbours g key) z ≡ stands_in (target_keys edges) z = λ z.
+    pairs g key z ∙ ap (λ (o : Option ℕ). is_some o) (weights_law s k z is full h) ∙ leads_standing z edges in
+    same_rising (neighbours g key) (target_keys edges) (neighbours_rise g key)
+    (targets_rise edges (edges_climb s k is h))
+    (λ z on. in_standing (target_keys edges) z (sym (same z) ∙ stands (neighbours g key) z on))
+    (λ z on. in_standing (neighbours g key) z (same z ∙ stands (target_keys edges) z on))

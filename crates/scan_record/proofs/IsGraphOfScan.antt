@@ -12,7 +12,7 @@ use Rattle.scan_record.specs.declared.rows.VertexRow.{VertexRow}
 use Rattle.scan_record.specs.declared.rows.EdgeRow.{EdgeRow}
 use Rattle.scan_record.specs.Scan.{ScanValue, IsScan, IsComplete, row_at, edges_of, new_row, blank_life}
 use Rattle.scan_record.specs.ScanGraph.{pairs_of, graph_of_scan, leads_to, weight_to}
-use Rattle.scan_record.proofs.Rising.{any_none, any_place, itself}
+use Rattle.scan_record.proofs.FoundItems.{any_none, any_place, itself}
 use Rattle.scan_record.proofs.GraphOfScan.{all_edges, pair_total, look_none, all_apart, weights_law, keys_law}
 
 -- an edge of weight 1 or more whose target is the row of its key

@@ -18,7 +18,7 @@ use Rattle.graph_kinds.proofs.PathsPairs as pairs
 -- the out-neighbours of a row's key are the keys of its edges with a target
 pub row_neighbours : (s : ScanValue) (k : ℕ) → IsScan s → IsComplete s → k < length s.rows → neighbours
     (graph_of_scan s) (row_at s k).key ≡ target_keys (edges_of s (row_at s k))
-row_neighbours = neighbours_law pairs.neighbours_law pairs.rising_law
+row_neighbours = neighbours_law pairs.neighbours_law
 
 any_place : (key : ℕ) (d : VertexRow) (rows : List VertexRow) (k : ℕ) → k < length rows → (get_or rows k d).key ≡ key
     → list_any (λ (row : VertexRow). row.key == key) rows ≡ true

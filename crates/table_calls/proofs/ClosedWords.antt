@@ -34,7 +34,7 @@ use Rattle.core_rule.proofs.FrozenWordStays.{head_frozen_word}
 use Rattle.core_rule.proofs.OwnByView.{own_list_still, own_made_same, own_ripe_still, own_spent_still, own_word_still}
 use Rattle.core_rule.proofs.RetiredStays.{retired_still}
 use Rattle.core_rule.proofs.ViewShows.{step_grows, step_view, store_steps, look_steps, win_steps}
-use Rattle.graph_table.specs.Table.{Marked, MatchTried}
+use Rattle.graph_table.specs.Table.{MatchMark, MatchTried}
 use Rattle.graph_table.specs.declared.answers.Tried.{Tried}
 use Rattle.graph_table.specs.declared.answers.Tried.TheVariants.{Won as TriedWon, Lost as TriedLost}
 use Rattle.table_calls.specs.Closing.{IsClosedList, KeepsRetired}
@@ -75,7 +75,7 @@ closed_on v w own z t spares x c =
 
 -- the head is closed, now or before
 pub head_closed : (v w : View) (x : Life) (place found : ℕ) → IsLayout v.sizes → IsLayout w.sizes → v.numbered ≡ true
-    → IsSound v → IsUnlinkedVertex v x → place ≡ second_at v.sizes x.index → Marked v place found
+    → IsSound v → IsUnlinkedVertex v x → place ≡ second_at v.sizes x.index → MatchMark v place found
     (freeze_head_event v x found) w → IsClosedList w x
 head_closed v w x place found z z' has s u at marked = ⊎_elim
     (λ (live : mark_of found ≡ 0).

@@ -23,7 +23,7 @@ use Rattle.core_rule.specs.Views.{Steps}
 use Rattle.core_rule.specs.declared.view.View.{View}
 use Rattle.core_rule.proofs.ViewShows.{win_steps, step_view, leads_to_vertex_still}
 use Rattle.graph_table.specs.Filled.{MayLinkFilledVertex}
-use Rattle.graph_table.specs.Table.{Marked, MatchLink, MatchUnlink}
+use Rattle.graph_table.specs.Table.{MatchMark, MatchLink, MatchUnlink}
 use Rattle.graph_table.specs.declared.answers.LinkTried.{LinkTried}
 use Rattle.graph_table.specs.declared.answers.LinkTried.TheVariants.{Won as LinkWon, Lost as LinkLost}
 use Rattle.graph_table.specs.declared.answers.UnlinkTried.{UnlinkTried}
@@ -88,14 +88,14 @@ linked_uses (LinkLost fresh found) v w place seen x e has s p q r m = loaded_use
 
 -- behind a mark a token rests on
 pub marked_rests : (v : View) (place found : ℕ) (e : Event) (w : View) → IsSound v → e.kind ≢ PopFree →
-    (e.kind ≢ Announce) × (e.kind ≢ Withdraw) → Marked v place found e w → IsResting true v → IsResting true w
+    (e.kind ≢ Announce) × (e.kind ≢ Withdraw) → MatchMark v place found e w → IsResting true v → IsResting true w
 marked_rests v place found e w s takes spares m n = ⊎_elim
     (λ (t : Steps v (Some e) w). rests_on true v w (Some e) t takes spares n)
     (λ (t : Steps v None w). rests_on true v w None t tt tt n)
     (marked_steps v place found e w n.numbered s m)
 
 pub marked_uses : (v : View) (place found : ℕ) (e : Event) (w : View) → v.numbered ≡ true → IsSound v
-    → pops e.kind ≡ false → moves e.kind ≡ false → raises e.kind ≡ false → Marked v place found e w
+    → pops e.kind ≡ false → moves e.kind ≡ false → raises e.kind ≡ false → MatchMark v place found e w
     → uses_of w ≡ uses_of v
 marked_uses v place found e w has s p q r m = ⊎_elim
     (λ (t : Steps v (Some e) w). same_uses v w (Some e) t p q r)

@@ -21,7 +21,7 @@ use Rattle.core_rule.specs.declared.view.View.{View}
 use Rattle.core_rule.proofs.OwnByKind.{own_fresh_by_kind}
 use Rattle.core_rule.proofs.ViewShows.{look_steps, win_steps, step_view, step_goes_on, vertex_still, key_still}
 use Rattle.core_rule.proofs.ViewShows.{life_shown, head_shown, vertex_link_shown}
-use Rattle.graph_table.specs.Table.{Marked}
+use Rattle.graph_table.specs.Table.{MatchMark}
 use Rattle.table_calls.specs.Loads.{HasLoaded}
 use Rattle.table_calls.specs.Resting.{IsResting, IsHolding, uses_of}
 use Rattle.table_calls.specs.Vertices.{IsFound, word_in}
@@ -182,7 +182,7 @@ bit x = ⊎_elim (λ (h : mark_of x < 1). inl (omega (arith, h))) (λ (h : 1 ≤
 
 -- behind a mark, set now or before
 pub marked_steps : (v : View) (place found : ℕ) (e : Event) (w : View) → v.numbered ≡ true → IsSound v
-    → Marked v place found e w → Steps v (Some e) w ⊎ Steps v None w
+    → MatchMark v place found e w → Steps v (Some e) w ⊎ Steps v None w
 marked_steps v place found e w has s m = ⊎_elim (λ (live : mark_of found ≡ 0). inl
     (win_steps v place found e w has s (m.won live))) (λ (dead : mark_of found ≡ 1). inr
     (look_steps v place found w has s (m.was dead))) (bit found)

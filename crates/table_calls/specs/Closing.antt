@@ -7,7 +7,7 @@ use Rattle.core_rule.specs.Fronts.{MayFreezeEdge}
 use Rattle.core_rule.specs.OwnEvents.{freeze_edge_event}
 use Rattle.core_rule.specs.Retired.{IsRetired}
 use Rattle.core_rule.specs.declared.view.View.{View}
-use Rattle.graph_table.specs.Table.{Marked}
+use Rattle.graph_table.specs.Table.{MatchMark}
 use Rattle.table_calls.specs.Loads.{HasLoaded}
 use Rattle.table_calls.specs.Vertices.{word_in}
 use Rattle.core_stretches.specs.Holdings.{IsUnlinkedVertex}
@@ -22,7 +22,7 @@ pub record FreezesFirst (v : View) (from : Life) (found : ℕ) (x : Life) (w : V
   pub then : View
   pub loaded : HasLoaded v then
   pub may : MayFreezeEdge then from (second_at then.sizes from.index) x
-  pub marked : Marked then (link_at then.sizes x.index) found (freeze_edge_event then x found) w
+  pub marked : MatchMark then (link_at then.sizes x.index) found (freeze_edge_event then x found) w
 
 -- what the token retired is retired still
 pub record KeepsRetired (v w : View) : Type 0 where

@@ -8,7 +8,7 @@ use Rattle.core_rule.specs.Fronts.{MetVertex, key_in}
 use Rattle.core_rule.specs.OwnEvents.{mark_vertex_event}
 use Rattle.core_rule.specs.declared.view.View.{View}
 use Rattle.core_stretches.specs.Holdings.{IsUnlinkedVertex}
-use Rattle.graph_table.specs.Table.{Marked}
+use Rattle.graph_table.specs.Table.{MatchMark}
 use Rattle.graph_table.specs.declared.answers.LinkTried.{LinkTried}
 use Rattle.graph_table.specs.declared.answers.LinkTried.TheVariants.{Won as LinkWon, Lost as LinkLost}
 use Rattle.graph_table.specs.declared.answers.UnlinkTried.{UnlinkTried}
@@ -58,7 +58,7 @@ pub record MarksVertex (v : View) (bucket found : ℕ) (w : View) : Type 0 where
   pub loaded : HasLoaded v then
   pub life : Life
   pub vertex : IsFound then bucket life
-  pub marked : Marked then (link_at then.sizes life.index) found (mark_vertex_event then life found) w
+  pub marked : MatchMark then (link_at then.sizes life.index) found (mark_vertex_event then life found) w
 
 -- a word led to no vertex, or was marked, or led to a vertex that is unmarked
 pub record IsNoneDead (v : View) (place : ℕ) (w : View) : Type 0 where

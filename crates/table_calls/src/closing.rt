@@ -4,7 +4,7 @@ ghost use Rattle.std.specs.Prelude.{◌≡◌, true, IfSome, IsNone};
 ghost use Rattle.packed_link.specs.Layout.{second_at};
 ghost use Rattle.core_rule.specs.OwnEvents.{freeze_head_event};
 ghost use Rattle.graph_table.specs.Tokens.{IsOf};
-ghost use Rattle.graph_table.specs.Table.{Marked};
+ghost use Rattle.graph_table.specs.Table.{MatchMark};
 ghost use Rattle.table_calls.specs.Closing.{FreezesFirst, IsClosedList};
 ghost use Rattle.table_calls.specs.Edges.{IsEmptyList};
 ghost use Rattle.table_calls.specs.Resting.{IsResting, uses_of};
@@ -20,7 +20,7 @@ pub fn close_list(table: &GraphTable, token: &mut Token, from: &Spent) -> u64
     requires unlinked { IsUnlinkedVertex token.old.view from.now }
     ensures table { IsOf table.now token.new }
     ensures resting { IsResting true token.new.view }
-    ensures marked { Marked token.old.view (second_at table.now.sizes from.now.index) result
+    ensures marked { MatchMark token.old.view (second_at table.now.sizes from.now.index) result
         (freeze_head_event token.old.view from.now result) token.new.view }
     ensures unlinked { IsUnlinkedVertex token.new.view from.now }
     ensures closed { IsClosedList token.new.view from.now }

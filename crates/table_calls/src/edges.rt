@@ -14,7 +14,7 @@ ghost use Rattle.core_rule.specs.Stretches.{HasPass};
 ghost use Rattle.core_rule.specs.Views.{GoesOn};
 ghost use Rattle.graph_table.specs.Filled.{MayLinkFilledEdge, filled_edge_event};
 ghost use Rattle.graph_table.specs.Tokens.{IsOf};
-ghost use Rattle.graph_table.specs.Table.{Marked, MatchLink};
+ghost use Rattle.graph_table.specs.Table.{MatchLink, MatchMark};
 ghost use Rattle.table_calls.specs.Edges.{IsEmptyList, IsNoEdge, IsNoRoom, RaisesFor};
 ghost use Rattle.table_calls.specs.Loads.{HasLoaded};
 ghost use Rattle.table_calls.specs.Resting.{IsHolding, IsResting, uses_of};
@@ -198,7 +198,7 @@ pub fn mark_in(table: &GraphTable, token: &mut Token, edge: Edge) -> u64
     requires may { MayMarkEdge token.old.view edge.source edge.life }
     ensures table { IsOf table.now token.new }
     ensures resting { IsResting true token.new.view }
-    ensures marked { Marked token.old.view (link_at table.now.sizes edge.life.index) result
+    ensures marked { MatchMark token.old.view (link_at table.now.sizes edge.life.index) result
         (mark_edge_event token.old.view edge.life result) token.new.view }
     ensures uses { uses_of token.new.view ≡ uses_of token.old.view }
 {

@@ -5,5 +5,5 @@ pub returns : goal.returns
 returns c = record {
   keys = keys_law;
   weights = weights_law;
-  neighbours = neighbours_law c.neighbours_rise.ensures.pairs c.neighbours_rise.ensures.rising;
+  neighbours = neighbours_law c.neighbours_rise.ensures.pairs;
 }

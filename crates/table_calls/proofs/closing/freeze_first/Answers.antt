@@ -6,7 +6,7 @@ use Rattle.core_rule.specs.Fronts.{MayFreezeEdge}
 use Rattle.core_rule.specs.OwnEvents.{freeze_edge_event}
 use Rattle.core_rule.specs.Views.{Steps}
 use Rattle.core_rule.proofs.ViewShows.{look_steps}
-use Rattle.graph_table.specs.Table.{Marked}
+use Rattle.graph_table.specs.Table.{MatchMark}
 use Rattle.table_calls.specs.Closing.{FreezesFirst}
 use Rattle.table_calls.specs.Vertices.{word_in}
 use Rattle.table_calls.proofs.ClosedWords.{closed_on, may_freeze, next_on}
@@ -316,6 +316,6 @@ returns-clause-freezes c =
       then = v2;
       loaded = l2;
       may = may;
-      marked = subst (λ (q : Sizes). Marked v2 (link_at q y.index) found e v3) (sym c.load-2.ensures.table.sizes) m3;
+      marked = subst (λ (q : Sizes). MatchMark v2 (link_at q y.index) found e v3) (sym c.load-2.ensures.table.sizes) m3;
     } in
     subst (λ (l : Life). FreezesFirst v x found l v3) (sym c.freeze_edge-found.ensures.node) told
