@@ -106,7 +106,7 @@ abbrev pub place_in : Class → List Event → ℕ
 place_in Own front = length front - 1
 place_in _ front = length front
 
--- how many events of a journal there are up to the first mark of a vertex life, without it; all, where no event marks it
+-- how many events of a journal there are before the first mark of a vertex life; all, if no event marks it
 abbrev pub before_mark : Life → List Event → ℕ
 before_mark x [] = 0
 before_mark x (e ∷ es) = cond (marks_vertex e.kind && same_life x e.life) 0 (1 + before_mark x es)
