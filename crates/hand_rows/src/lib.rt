@@ -4,10 +4,12 @@
 //! crate.
 #![tactic(auto)]
 
+mod lent;
 mod pairs;
 #[cfg(test)]
 mod tests;
 mod turns;
 
+pub use lent::{enter, link_prepared, look, mark_or_answer, prepare};
 pub use pairs::{pair, split};
 pub use turns::{Turns, count_there, take_both, take_turns};

@@ -1,6 +1,6 @@
 //! Two hands on one table: the second is made of a token that is split off the first one's.
 
-ghost use Rattle.std.specs.Prelude.{◌≡◌, [], true, false, IfOk};
+ghost use Rattle.std.specs.Prelude.{◌≡◌, [], true, false, None, IfOk};
 ghost use Rattle.core_stretches.specs.Holdings.{HasNoPass};
 ghost use Rattle.graph_table.specs.Tokens.{IsOf};
 ghost use Rattle.graph_updates.specs.Hands.{IsHandOf, IsInOrder};
@@ -17,6 +17,7 @@ pub fn split(table: &GraphTable, hand: &mut Hand) -> Token
     ensures hand { IsHandOf table.now hand.new }
     ensures closed { HasNoPass hand.new.token.view }
     ensures order { IsInOrder hand.new }
+    ensures spare { hand.new.spare ≡ hand.old.spare }
     ensures token { IsOf table.now result }
     ensures right { result.view.draws ≡ hand.old.token.view.draws }
     ensures none { result.view.numbered ≡ false }
@@ -39,9 +40,11 @@ pub fn pair(
     ensures one { IfOk result (λ all. IsHandOf table.now all.0) }
     ensures one_closed { IfOk result (λ all. HasNoPass all.0.token.view) }
     ensures one_order { IfOk result (λ all. IsInOrder all.0) }
+    ensures one_bare { IfOk result (λ all. all.0.spare ≡ None) }
     ensures two { IfOk result (λ all. IsHandOf table.now all.1) }
     ensures two_closed { IfOk result (λ all. HasNoPass all.1.token.view) }
     ensures two_order { IfOk result (λ all. IsInOrder all.1) }
+    ensures two_bare { IfOk result (λ all. all.1.spare ≡ None) }
     ensures left { IfOk result (λ all. IsOf table.now all.2) }
     ensures right { IfOk result (λ all. all.2.view.draws ≡ true) }
     ensures none { IfOk result (λ all. all.2.view.numbered ≡ false) }

@@ -1,12 +1,16 @@
 //! The rows on one thread, and two hands on two.
 
-use crate::{Turns, count_there, pair, take_both, take_turns};
+use crate::{
+    Turns, count_there, enter, link_prepared, look, mark_or_answer, pair, prepare, take_both,
+    take_turns,
+};
 use graph_kinds::Outcome;
 use graph_table::GraphTable;
 use graph_updates::{
     Begun, Hand, HandCause, Settled, add_vertex, begin, finish, has_vertex, remove_vertex, settle,
 };
 use packed_link::Layout;
+use vertex_list::{Found, Linked};
 
 #[test]
 fn one_hand_answers_as_the_graph_of_one_caller(rt: HostRuntime) {
@@ -101,13 +105,32 @@ fn what_two_hands_added_and_did_not_remove_is_there(rt: HostRuntime) {
 }
 
 #[test]
-fn a_third_hand_finds_no_number(rt: HostRuntime) {
+fn one_of_two_links_of_a_key_is_lost(rt: HostRuntime) {
     let (table, token) = GraphTable::new(rt.alloc(), Layout::new(2, 2, 1)).expect(&rt, "memory");
-    let Ok((_one, _two, left)) = pair(rt.alloc(), &table, token) else {
+    let Ok((mut one, mut two, left)) = pair(rt.alloc(), &table, token) else {
         panic!(rt; "two hands")
     };
+    enter(&table, &mut one).expect(&rt, "a use");
+    enter(&table, &mut two).expect(&rt, "a use");
+    // Both find the key missing and fill a node for it; the first link is done.
+    let (gap, fresh) = prepare(&table, one.token(), 5).expect(&rt, "node");
+    let (gap_too, fresh_too) = prepare(&table, two.token(), 5).expect(&rt, "node");
+    let Linked::Done(life) = link_prepared(&table, two.token(), 5, gap_too, fresh_too) else {
+        panic!(rt; "lost")
+    };
+    let Linked::Lost(_fresh) = link_prepared(&table, one.token(), 5, gap, fresh) else {
+        panic!(rt; "linked twice")
+    };
+    let Found::Here(seen) = look(&table, one.token(), 5) else {
+        panic!(rt; "not there")
+    };
+    assert!(rt; seen.life == life);
+    // All numbers are drawn.
     let Err(refusal) = Hand::new(rt.alloc(), &table, left) else {
         panic!(rt; "a third hand")
     };
     assert!(rt; refusal.cause == HandCause::NoNumber);
+    // Of two marks of one life the second is answered behind the first.
+    assert!(rt; !mark_or_answer(&table, one.token(), 5, seen.life));
+    assert!(rt; mark_or_answer(&table, one.token(), 5, seen.life));
 }
