@@ -1,19 +1,19 @@
 -- A mark keeps the chain, and so does what changes nothing on it.
 use Rattle.std.proofs.Common.{◌≡◌, ◌≢◌, ℕ, ◌+◌, refl, sym, ap, ◌∙◌, subst, arith}
 use Rattle.packed_link.specs.Link.{nowhere}
-use Rattle.core_chain.specs.Chain.{Chain, ChainWord, Head, Node, IsOn, IsChain, Precedes, rank_of, since_of}
+use Rattle.core_chain.specs.Chain.{Chain, ChainWord, Head, Next, IsOn, IsChain, Precedes, rank_of, since_of}
 use Rattle.core_chain.specs.Steps.{SetsMark, Untouched, IsFrozenTo, Keeps}
 use Rattle.core_chain.proofs.Orders.{if_same, LeadsOnChain, NotPast, RisesBehind, IsChain-by, before_still}
 
 -- what is on the one chain is on the other
 pub IsOn-back : (c d : Chain) → ((x : ℕ) → d.on x ≡ c.on x) → (q : ChainWord) → IsOn d q → IsOn c q
 IsOn-back c d stays Head on = tt
-IsOn-back c d stays (Node x) on = sym (stays x) ∙ on
+IsOn-back c d stays (Next x) on = sym (stays x) ∙ on
 
 -- the same nodes with the same keys, linked by the same steps, and words that lead where they led and lose no mark
 module _ (c d : Chain) (chain : IsChain c) (stays : (x : ℕ) → d.on x ≡ c.on x)
-    (keys : (x : ℕ) → IsOn c (Node x) → d.key x ≡ c.key x)
-    (sinces : (x : ℕ) → IsOn c (Node x) → d.since x ≡ c.since x)
+    (keys : (x : ℕ) → IsOn c (Next x) → d.key x ≡ c.key x)
+    (sinces : (x : ℕ) → IsOn c (Next x) → d.since x ≡ c.since x)
     (links : (p : ChainWord) → IsOn c p → d.next p ≡ c.next p) where
   back : (q : ChainWord) → IsOn d q → IsOn c q
   back q on = IsOn-back c d stays q on
@@ -23,11 +23,11 @@ module _ (c d : Chain) (chain : IsChain c) (stays : (x : ℕ) → d.on x ≡ c.o
 
   rank : (q : ChainWord) → IsOn c q → rank_of d q ≡ rank_of c q
   rank Head on = refl
-  rank (Node x) on = ap (λ (k : ℕ). k + 1) (keys x on)
+  rank (Next x) on = ap (λ (k : ℕ). k + 1) (keys x on)
 
   since : (q : ChainWord) → IsOn c q → since_of d q ≡ since_of c q
   since Head on = refl
-  since (Node x) on = sinces x on
+  since (Next x) on = sinces x on
 
   later : (q r : ChainWord) → IsOn c q → IsOn c r → Precedes c q r → Precedes d q r
   later q r on_q on_r before = before_still c d q r (rank q on_q) (rank r on_r) (since q on_q) (since r on_r) before
@@ -40,7 +40,7 @@ module _ (c d : Chain) (chain : IsChain c) (stays : (x : ℕ) → d.on x ≡ c.o
   leads q on some =
       let to : c.next q ≡ d.next q = sym (links q (back q on)) in
       let next = chain.leads q (back q on) (λ e. some (sym to ∙ e)) in
-      subst (LeadsOnChain d q) to (forth (Node (c.next q)) next.0, later q (Node (c.next q)) (back q on) next.0 next.1)
+      subst (LeadsOnChain d q) to (forth (Next (c.next q)) next.0, later q (Next (c.next q)) (back q on) next.0 next.1)
 
   upto : (q r : ChainWord) → IsOn d q → IsOn d r → Precedes d q r → NotPast d r (d.next q)
   upto q r on_q on_r before =
@@ -49,7 +49,7 @@ module _ (c d : Chain) (chain : IsChain c) (stays : (x : ℕ) → d.on x ≡ c.o
       let next = (chain.leads q (back q on_q) some).0 in
       subst (NotPast d r) (sym (links q (back q on_q))) (
         some,
-        λ f. chain.gap q r (back q on_q) (back r on_r) low (still r (Node (c.next q)) (back r on_r) next f),
+        λ f. chain.gap q r (back q on_q) (back r on_r) low (still r (Next (c.next q)) (back r on_r) next f),
       )
 
   alone : (q r : ChainWord)
@@ -70,12 +70,12 @@ module _ (c d : Chain) (chain : IsChain c) (stays : (x : ℕ) → d.on x ≡ c.o
       let some' : c.next q ≢ nowhere = λ e. some (sym to ∙ e) in
       let next = (chain.leads q on' some').0 in
       let a = rank q on' in
-      let b = rank (Node (c.next q)) next in
+      let b = rank (Next (c.next q)) next in
       subst (RisesBehind d q) to (λ u. let f = chain.rises q on' (unmarked q on' u) some' in omega arith)
 
   -- a chain that has these is a chain
   pub IsChain-same : KeepsMarks → IsChain d
-  IsChain-same unmarked = IsChain-by d (λ y on. chain.named y (back (Node y) on)) leads upto alone (rises unmarked)
+  IsChain-same unmarked = IsChain-by d (λ y on. chain.named y (back (Next y) on)) leads upto alone (rises unmarked)
 
   -- what was frozen is frozen, where marks stay
   pub IsFrozenTo-same : ((p : ChainWord) → IsOn c p → c.mark p ≡ 1 → d.mark p ≡ 1)

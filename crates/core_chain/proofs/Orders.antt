@@ -4,15 +4,15 @@ use Rattle.std.proofs.lemmas.Bool.{cases_eq, cases_order}
 use Rattle.packed_link.specs.Link.{nowhere}
 use Rattle.core_chain.specs.Walk.{StandsBelow}
 use Rattle.core_chain.specs.Steps.{ChangesOnly}
-use Rattle.core_chain.specs.Chain.{Chain, ChainWord, Head, Node, IsOn, IsChain, Precedes, rank_of, since_of}
+use Rattle.core_chain.specs.Chain.{Chain, ChainWord, Head, Next, IsOn, IsChain, Precedes, rank_of, since_of}
 
 -- two words are one, or they aren't
 cases_same : (p q : ChainWord) → (p ≡ q) ⊎ (p ≢ q)
 cases_same Head Head = inl refl
-cases_same Head (Node y) = inr (λ e. cc)
-cases_same (Node x) Head = inr (λ e. cc)
-cases_same (Node x) (Node y) =
-    ⊎_elim (λ (e : x ≡ y). inl (ap Node e)) (λ (ne : x ≢ y). inr (λ e. ne (cc))) (cases_eq x y)
+cases_same Head (Next y) = inr (λ e. cc)
+cases_same (Next x) Head = inr (λ e. cc)
+cases_same (Next x) (Next y) =
+    ⊎_elim (λ (e : x ≡ y). inl (ap Next e)) (λ (ne : x ≢ y). inr (λ e. ne (cc))) (cases_eq x y)
 
 -- what holds where two words are one, and where they aren't
 pub if_same : {P : Type 0} (p q : ChainWord) → (p ≡ q → P) → (p ≢ q → P) → P
@@ -51,18 +51,18 @@ before_then c p q r before then = grind arith
 
 -- a word that leads to a node leads to one on the chain, behind itself
 abbrev pub LeadsOnChain : Chain → ChainWord → ℕ → Type 0
-LeadsOnChain c p x = IsOn c (Node x) × Precedes c p (Node x)
+LeadsOnChain c p x = IsOn c (Next x) × Precedes c p (Next x)
 
 -- a word that leads to a node leads no further than another word
 abbrev pub NotPast : Chain → ChainWord → ℕ → Type 0
-NotPast c q x = (x ≢ nowhere) × (Precedes c q (Node x) → ⊥)
+NotPast c q x = (x ≢ nowhere) × (Precedes c q (Next x) → ⊥)
 
 -- an unmarked word leads to a greater key
 abbrev pub RisesBehind : Chain → ChainWord → ℕ → Type 0
-RisesBehind c p x = c.mark p ≡ 0 → rank_of c p < rank_of c (Node x)
+RisesBehind c p x = c.mark p ≡ 0 → rank_of c p < rank_of c (Next x)
 
 -- a chain, by what its words lead to
-pub IsChain-by : (c : Chain) → ((x : ℕ) → IsOn c (Node x) → x ≢ nowhere)
+pub IsChain-by : (c : Chain) → ((x : ℕ) → IsOn c (Next x) → x ≢ nowhere)
     → ((p : ChainWord) → IsOn c p → c.next p ≢ nowhere → LeadsOnChain c p (c.next p))
     → ((p q : ChainWord) → IsOn c p → IsOn c q → Precedes c p q → NotPast c q (c.next p))
     → ((p q : ChainWord) → IsOn c p → IsOn c q → rank_of c p ≡ rank_of c q → since_of c p ≡ since_of c q → p ≡ q)
@@ -79,13 +79,13 @@ IsChain-by c named leads upto alone rises = record {
 -- keys that stay leave each word at its place of the order of keys
 pub rank_of-changed : (c d : Chain) (at : ChainWord) → ChangesOnly c d at → (q : ChainWord) → rank_of d q ≡ rank_of c q
 rank_of-changed c d at change Head = refl
-rank_of-changed c d at change (Node x) = ap (λ (k : ℕ). k + 1) (change.key x)
+rank_of-changed c d at change (Next x) = ap (λ (k : ℕ). k + 1) (change.key x)
 
 -- a word of the chain stays linked by the same step
 pub since_of-changed : (c d : Chain) (at : ChainWord)
     → ChangesOnly c d at → (q : ChainWord) → IsOn c q → since_of d q ≡ since_of c q
 since_of-changed c d at change Head on = refl
-since_of-changed c d at change (Node x) on = change.since x on
+since_of-changed c d at change (Next x) on = change.since x on
 
 -- two words that have their keys and their steps still stand in the same order
 pub before_still : (c d : Chain) (p q : ChainWord) → rank_of d p ≡ rank_of c p → rank_of d q ≡ rank_of c q
@@ -93,17 +93,17 @@ pub before_still : (c d : Chain) (p q : ChainWord) → rank_of d p ≡ rank_of c
 before_still c d p q a b e f before = grind arith
 
 -- a word that stands before a node's key has a lesser one, and stands before the node
-pub IsBelow-rank : (c : Chain) (p : ChainWord) (x : ℕ) → StandsBelow c p (c.key x) → rank_of c p < rank_of c (Node x)
+pub IsBelow-rank : (c : Chain) (p : ChainWord) (x : ℕ) → StandsBelow c p (c.key x) → rank_of c p < rank_of c (Next x)
 IsBelow-rank c Head x below = omega arith
-IsBelow-rank c (Node y) x below = omega arith
+IsBelow-rank c (Next y) x below = omega arith
 
-pub IsBelow-precedes : (c : Chain) (p : ChainWord) (x : ℕ) → StandsBelow c p (c.key x) → Precedes c p (Node x)
+pub IsBelow-precedes : (c : Chain) (p : ChainWord) (x : ℕ) → StandsBelow c p (c.key x) → Precedes c p (Next x)
 IsBelow-precedes c p x below = inl (IsBelow-rank c p x below)
 
 -- and the other way round, where the key is greater
-pub Precedes-below : (c : Chain) (p : ChainWord) (x : ℕ) → rank_of c p < rank_of c (Node x) → StandsBelow c p (c.key x)
+pub Precedes-below : (c : Chain) (p : ChainWord) (x : ℕ) → rank_of c p < rank_of c (Next x) → StandsBelow c p (c.key x)
 Precedes-below c Head x before = tt
-Precedes-below c (Node y) x before = omega arith
+Precedes-below c (Next y) x before = omega arith
 
 -- at most one word leads to a node
 pub one_leads : (c : Chain) (p q : ChainWord)
@@ -112,8 +112,8 @@ one_leads c p q chain on_p on_q some same =
     let to_p = (chain.leads p on_p some).1 in
     let to_q = (chain.leads q on_q (λ none. some (same ∙ none))).1 in
     by_order c p q chain on_p on_q (λ e. e)
-    (λ low. absurd (chain.gap p q on_p on_q low (subst (λ (y : ℕ). Precedes c q (Node y)) (sym same) to_q)))
-    (λ high. absurd (chain.gap q p on_q on_p high (subst (λ (y : ℕ). Precedes c p (Node y)) same to_p)))
+    (λ low. absurd (chain.gap p q on_p on_q low (subst (λ (y : ℕ). Precedes c q (Next y)) (sym same) to_q)))
+    (λ high. absurd (chain.gap q p on_q on_p high (subst (λ (y : ℕ). Precedes c p (Next y)) same to_p)))
 
 -- behind an unmarked word every key is greater
 pub rises_behind : (c : Chain) (p q : ChainWord)
@@ -122,6 +122,6 @@ rises_behind c p q chain on_p on_q unmarked before =
     let some = chain.last p q on_p on_q before in
     let next = chain.leads p on_p some in
     let high = chain.rises p on_p unmarked some in
-    by_order c (Node (c.next p)) q chain next.0 on_q
-    (λ e. let a : rank_of c (Node (c.next p)) ≡ rank_of c q = ap (rank_of c) e in omega arith) (λ low. omega arith)
+    by_order c (Next (c.next p)) q chain next.0 on_q
+    (λ e. let a : rank_of c (Next (c.next p)) ≡ rank_of c q = ap (rank_of c) e in omega arith) (λ low. omega arith)
     (λ high. absurd (chain.gap p q on_p on_q before high))

@@ -2,7 +2,7 @@
 use Rattle.std.proofs.Common.{◌≡◌, ℕ, ◌<◌, ◌^◌, Bool, IsTrue, ap, ◌∙◌, arith}
 use Rattle.packed_link.specs.Link.{pack, index_of, mark_of, with_mark}
 use Rattle.packed_link.proofs.Links.{index_of-pack, mark_of-pack, mark_of-with_mark, index_of-with_mark, index_of-bound}
-use Rattle.core_chain.specs.Chain.{Chain, ChainWord, Node}
+use Rattle.core_chain.specs.Chain.{Chain, ChainWord, Next}
 use Rattle.core_chain.specs.Steps.{ChangesOnly, Joins, Departs, CanInsert, Inserts, CanReplace, Replaces}
 use Rattle.core_chain.specs.Steps.{SetsMark, CanUnlink, Unlinks, Untouched}
 use Rattle.core_chain.specs.Table.{Places, chain_in, WritesWord, StandsAlone, StandsElsewhere}
@@ -39,16 +39,16 @@ module _ (old new : ℕ → ℕ) (places : Places) (on on' : ℕ → Bool) (sinc
   }
 
   -- a marked link to a node that may replace another replaces it
-  pub Replaces-in : (node fresh tag : ℕ) → StandsAlone places (Node node) → fresh < 2 ^ 24
+  pub Replaces-in : (node fresh tag : ℕ) → StandsAlone places (Next node) → fresh < 2 ^ 24
       → CanReplace (chain_in old places on since) node fresh → since node < since' fresh
-      → WritesWord old new (places.word_at (Node node)) (pack fresh 1 tag) → Joins on on' fresh
+      → WritesWord old new (places.word_at (Next node)) (pack fresh 1 tag) → Joins on on' fresh
       → Replaces (chain_in old places on since) (chain_in new places on' since') node fresh
   Replaces-in node fresh tag alone small can later writes joins = record {
     can = can;
     marked = ap mark_of writes.written ∙ mark_of-pack fresh 1 tag small (omega arith);
     leads = ap index_of writes.written ∙ index_of-pack fresh 1 tag small;
     later = later;
-    words = ChangesOnly-in (Node node) (pack fresh 1 tag) alone writes;
+    words = ChangesOnly-in (Next node) (pack fresh 1 tag) alone writes;
     nodes = joins;
   }
 
@@ -66,10 +66,10 @@ module _ (old new : ℕ → ℕ) (places : Places) (on on' : ℕ → Bool) (sinc
   -- an unmarked link to the successor of a node that may be unlinked unlinks it
   pub Unlinks-in : (at : ChainWord) (node tag : ℕ) → StandsAlone places at → CanUnlink
       (chain_in old places on since) at node
-      → WritesWord old new (places.word_at at) (pack (index_of (old (places.word_at (Node node)))) 0 tag)
+      → WritesWord old new (places.word_at at) (pack (index_of (old (places.word_at (Next node)))) 0 tag)
       → Departs on on' node → Unlinks (chain_in old places on since) (chain_in new places on' since') at node
   Unlinks-in at node tag alone can writes leaves =
-      let word : ℕ = old (places.word_at (Node node)) in
+      let word : ℕ = old (places.word_at (Next node)) in
       let small = index_of-bound word in
       record {
         can = can;

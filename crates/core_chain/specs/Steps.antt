@@ -1,7 +1,7 @@
 -- The steps that change one word of a chain, what each needs, and what none of them takes back.
 use Rattle.std.specs.Prelude.{◌≡◌, ◌≢◌, ℕ, ◌<◌, Bool, IsTrue}
 use Rattle.packed_link.specs.Link.{nowhere}
-use Rattle.core_chain.specs.Chain.{Chain, ChainWord, Head, Node, IsOn, Precedes}
+use Rattle.core_chain.specs.Chain.{Chain, ChainWord, Head, Next, IsOn, Precedes}
 use Rattle.core_chain.specs.Walk.{Passes}
 
 -- every word but one stays, and so do all keys; a node on the chain stays linked by the same step
@@ -9,7 +9,7 @@ pub record ChangesOnly (old new : Chain) (at : ChainWord) : Type 0 where
   pub next : (p : ChainWord) → p ≢ at → new.next p ≡ old.next p
   pub mark : (p : ChainWord) → p ≢ at → new.mark p ≡ old.mark p
   pub key : (x : ℕ) → new.key x ≡ old.key x
-  pub since : (x : ℕ) → IsOn old (Node x) → new.since x ≡ old.since x
+  pub since : (x : ℕ) → IsOn old (Next x) → new.since x ≡ old.since x
 
 -- one node joins those on a chain, and every other stays as it is
 pub record Joins (old new : ℕ → Bool) (node : ℕ) : Type 0 where
@@ -27,8 +27,8 @@ pub record CanInsert (chain : Chain) (at : ChainWord) (node : ℕ) : Type 0 wher
   pub passes : Passes chain at (chain.key node)
   pub unmarked : chain.mark at ≡ 0
   pub named : node ≢ nowhere
-  pub absent : IsOn chain (Node node) → ⊥
-  pub filled : chain.next (Node node) ≡ chain.next at
+  pub absent : IsOn chain (Next node) → ⊥
+  pub filled : chain.next (Next node) ≡ chain.next at
 
 -- a node is inserted: the word of its predecessor leads to it now
 pub record Inserts (old new : Chain) (at : ChainWord) (node : ℕ) : Type 0 where
@@ -41,20 +41,20 @@ pub record Inserts (old new : Chain) (at : ChainWord) (node : ℕ) : Type 0 wher
 -- a node may be replaced by another: it is on the chain and unmarked; the other isn't on the chain, has the same key,
 -- and its own link is filled with the successor
 pub record CanReplace (chain : Chain) (node fresh : ℕ) : Type 0 where
-  pub present : IsOn chain (Node node)
-  pub unmarked : chain.mark (Node node) ≡ 0
+  pub present : IsOn chain (Next node)
+  pub unmarked : chain.mark (Next node) ≡ 0
   pub named : fresh ≢ nowhere
-  pub absent : IsOn chain (Node fresh) → ⊥
+  pub absent : IsOn chain (Next fresh) → ⊥
   pub key : chain.key fresh ≡ chain.key node
-  pub filled : chain.next (Node fresh) ≡ chain.next (Node node)
+  pub filled : chain.next (Next fresh) ≡ chain.next (Next node)
 
 -- a node is replaced: its word has its mark and leads to the node of its key that joins the chain behind it
 pub record Replaces (old new : Chain) (node fresh : ℕ) : Type 0 where
   pub can : CanReplace old node fresh
-  pub marked : new.mark (Node node) ≡ 1
-  pub leads : new.next (Node node) ≡ fresh
+  pub marked : new.mark (Next node) ≡ 1
+  pub leads : new.next (Next node) ≡ fresh
   pub later : old.since node < new.since fresh
-  pub words : ChangesOnly old new (Node node)
+  pub words : ChangesOnly old new (Next node)
   pub nodes : Joins old.on new.on fresh
 
 -- a word gets its mark, whether or not it had it before, and all else stays
@@ -66,8 +66,8 @@ pub record SetsMark (old new : Chain) (at : ChainWord) : Type 0 where
 
 -- a node on the chain is marked, which is its logical removal
 pub record Marks (old new : Chain) (node : ℕ) : Type 0 where
-  pub present : IsOn old (Node node)
-  pub sets : SetsMark old new (Node node)
+  pub present : IsOn old (Next node)
+  pub sets : SetsMark old new (Next node)
 
 -- a word may be made to lead past a node: it is on the chain and unmarked, and leads to the node, which is marked
 pub record CanUnlink (chain : Chain) (at : ChainWord) (node : ℕ) : Type 0 where
@@ -75,12 +75,12 @@ pub record CanUnlink (chain : Chain) (at : ChainWord) (node : ℕ) : Type 0 wher
   pub unmarked : chain.mark at ≡ 0
   pub named : node ≢ nowhere
   pub led : chain.next at ≡ node
-  pub marked : chain.mark (Node node) ≡ 1
+  pub marked : chain.mark (Next node) ≡ 1
 
 -- a node is unlinked: the word of its predecessor leads to its successor now
 pub record Unlinks (old new : Chain) (at : ChainWord) (node : ℕ) : Type 0 where
   pub can : CanUnlink old at node
-  pub leads : new.next at ≡ old.next (Node node)
+  pub leads : new.next at ≡ old.next (Next node)
   pub unmarked : new.mark at ≡ 0
   pub words : ChangesOnly old new at
   pub nodes : Departs old.on new.on node
@@ -95,13 +95,13 @@ pub record Freezes (old new : Chain) (end : ChainWord) (node : ℕ) : Type 0 whe
   pub frozen : IsFrozenTo old end
   pub named : node ≢ nowhere
   pub led : old.next end ≡ node
-  pub sets : SetsMark old new (Node node)
+  pub sets : SetsMark old new (Next node)
 
 -- nothing on the chain changes
 pub record Untouched (old new : Chain) : Type 0 where
   pub nodes : (x : ℕ) → new.on x ≡ old.on x
-  pub key : (x : ℕ) → IsOn old (Node x) → new.key x ≡ old.key x
-  pub since : (x : ℕ) → IsOn old (Node x) → new.since x ≡ old.since x
+  pub key : (x : ℕ) → IsOn old (Next x) → new.key x ≡ old.key x
+  pub since : (x : ℕ) → IsOn old (Next x) → new.since x ≡ old.since x
   pub next : (p : ChainWord) → IsOn old p → new.next p ≡ old.next p
   pub mark : (p : ChainWord) → IsOn old p → new.mark p ≡ old.mark p
 

@@ -1,7 +1,7 @@
 -- Chains over the words of one table of packed links.
 use Rattle.std.specs.Prelude.{◌≡◌, ◌≢◌, ℕ, Bool, IsTrue}
 use Rattle.packed_link.specs.Link.{index_of, mark_of}
-use Rattle.core_chain.specs.Chain.{Chain, ChainWord, Node, IsOn}
+use Rattle.core_chain.specs.Chain.{Chain, ChainWord, Next, IsOn}
 
 -- where the words of a chain stand in a table, and where the keys of nodes do
 pub record Places : Type 0 where
@@ -35,4 +35,4 @@ pub record StandsAlone (places : Places) (at : ChainWord) : Type 0 where
 -- no word of a chain, and no key of a node on it, stands at this place
 pub record StandsElsewhere (chain : Chain) (places : Places) (place : ℕ) : Type 0 where
   pub words : (p : ChainWord) → IsOn chain p → places.word_at p ≢ place
-  pub keys : (x : ℕ) → IsOn chain (Node x) → places.key_at x ≢ place
+  pub keys : (x : ℕ) → IsOn chain (Next x) → places.key_at x ≢ place

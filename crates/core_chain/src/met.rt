@@ -4,14 +4,14 @@
 //! has in mind. They say the same of a chain with finitely many nodes.
 ghost use Rattle.std.specs.Prelude.{◌≡◌, ℕ, ◌<◌, false, List};
 ghost use Rattle.packed_link.specs.Link.{nowhere};
-ghost use Rattle.core_chain.specs.Chain.{Chain, ChainWord, Head, IsChain, IsOn, Node};
+ghost use Rattle.core_chain.specs.Chain.{Chain, ChainWord, Head, IsChain, IsOn, Next};
 ghost use Rattle.core_chain.specs.Met.{IsMet, MeetsFrom};
 
 /// The law of a chain's meaning. Where the nodes on a chain are below some number, they are exactly those that
 /// one meets from its head by following the links, each once, in rising order; two neighbours have one
 /// key only where the first is marked; and what is met so is a chain.
 pub fn a_chain_is_what_is_met()
-    ensures met { (chain : Chain) (size : ℕ) → IsChain chain → ((x : ℕ) → IsOn chain (Node x) → x < size)
+    ensures met { (chain : Chain) (size : ℕ) → IsChain chain → ((x : ℕ) → IsOn chain (Next x) → x < size)
         → (nodes : List ℕ) × IsMet chain nodes }
     ensures whole { (chain : Chain) (nodes : List ℕ) → IsChain chain → MeetsFrom chain Head nodes → IsMet chain nodes }
     ensures one { (chain : Chain) (p : ChainWord) (nodes others : List ℕ)

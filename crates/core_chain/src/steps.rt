@@ -6,7 +6,7 @@
 //! and that a mark, the link of a marked word and a frozen part stay (`Keeps` of `specs/Steps.antt`).
 ghost use Rattle.std.specs.Prelude.{◌≡◌, ◌≢◌, ℕ};
 ghost use Rattle.packed_link.specs.Link.{nowhere};
-ghost use Rattle.core_chain.specs.Chain.{Chain, ChainWord, Head, IsChain, IsOn, Node};
+ghost use Rattle.core_chain.specs.Chain.{Chain, ChainWord, Head, IsChain, IsOn, Next};
 ghost use Rattle.core_chain.specs.Steps.{Freezes, Inserts, IsFrozenTo, Keeps, Replaces, SetsMark, Step, Unlinks};
 ghost use Rattle.core_chain.specs.Steps.{Untouched};
 
@@ -44,11 +44,11 @@ pub fn unlinking_keeps_the_chain()
     ensures chain { (old new : Chain) (at : ChainWord) (node : ℕ)
         → IsChain old → Unlinks old new at node → IsChain new }
     ensures nodes { (old new : Chain) (at : ChainWord) (node : ℕ) → IsChain old → Unlinks old new at node
-        → (p : ChainWord) → IsOn old p → p ≢ Node node → IsOn new p }
+        → (p : ChainWord) → IsOn old p → p ≢ Next node → IsOn new p }
     ensures keeps { (old new : Chain) (at : ChainWord) (node : ℕ)
         → IsChain old → Unlinks old new at node → Keeps old new }
     ensures onward { (old new : Chain) (at : ChainWord) (node : ℕ) → IsChain old → Unlinks old new at node
-        → new.next (Node node) ≢ nowhere → IsOn new (Node (new.next (Node node))) }
+        → new.next (Next node) ≢ nowhere → IsOn new (Next (new.next (Next node))) }
 {}
 
 /// The law of freezing: a marked head is a frozen part, and a mark on the node to which a frozen part leads makes
@@ -56,7 +56,7 @@ pub fn unlinking_keeps_the_chain()
 pub fn freezing_keeps_the_chain()
     ensures head { (old new : Chain) → SetsMark old new Head → IsFrozenTo new Head }
     ensures node { (old new : Chain) (end : ChainWord) (node : ℕ)
-        → IsChain old → Freezes old new end node → IsFrozenTo new (Node node) }
+        → IsChain old → Freezes old new end node → IsFrozenTo new (Next node) }
     ensures chain { (old new : Chain) (end : ChainWord) (node : ℕ)
         → IsChain old → Freezes old new end node → IsChain new }
 {}

@@ -4,7 +4,7 @@
 //! (`chain_in` of `specs/Table.antt`). Several chains stand in one table where their places are disjoint.
 ghost use Rattle.std.specs.Prelude.{◌≡◌, ℕ, ◌<◌, ◌^◌, Bool};
 ghost use Rattle.packed_link.specs.Link.{index_of, pack, with_mark};
-ghost use Rattle.core_chain.specs.Chain.{ChainWord, Node};
+ghost use Rattle.core_chain.specs.Chain.{ChainWord, Next};
 ghost use Rattle.core_chain.specs.Steps.{CanInsert, CanUnlink, Inserts, Joins, Departs, CanReplace, Replaces, SetsMark};
 ghost use Rattle.core_chain.specs.Steps.{Unlinks};
 ghost use Rattle.core_chain.specs.Steps.{Untouched};
@@ -21,9 +21,9 @@ pub fn one_write_is_one_step()
         → WritesWord old new (places.word_at at) (pack node 0 tag) → Joins on on_then node
         → Inserts (chain_in old places on since) (chain_in new places on_then since_then) at node }
     ensures replace { (old new : ℕ → ℕ) (places : Places) (on on_then : ℕ → Bool) (since since_then : ℕ → ℕ)
-        (node fresh tag : ℕ) → KeepsSince on since since_then → StandsAlone places (Node node) → fresh < 2 ^ 24
+        (node fresh tag : ℕ) → KeepsSince on since since_then → StandsAlone places (Next node) → fresh < 2 ^ 24
         → CanReplace (chain_in old places on since) node fresh → since node < since_then fresh
-        → WritesWord old new (places.word_at (Node node)) (pack fresh 1 tag) → Joins on on_then fresh
+        → WritesWord old new (places.word_at (Next node)) (pack fresh 1 tag) → Joins on on_then fresh
         → Replaces (chain_in old places on since) (chain_in new places on_then since_then) node fresh }
     ensures mark { (old new : ℕ → ℕ) (places : Places) (on on_then : ℕ → Bool) (since since_then : ℕ → ℕ)
         (at : ChainWord)
@@ -34,7 +34,7 @@ pub fn one_write_is_one_step()
     ensures unlink { (old new : ℕ → ℕ) (places : Places) (on on_then : ℕ → Bool) (since since_then : ℕ → ℕ)
         (at : ChainWord) (node tag : ℕ)
         → KeepsSince on since since_then → StandsAlone places at → CanUnlink (chain_in old places on since) at node
-        → WritesWord old new (places.word_at at) (pack (index_of (old (places.word_at (Node node)))) 0 tag)
+        → WritesWord old new (places.word_at at) (pack (index_of (old (places.word_at (Next node)))) 0 tag)
         → Departs on on_then node
         → Unlinks (chain_in old places on since) (chain_in new places on_then since_then) at node }
 {}

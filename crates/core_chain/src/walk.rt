@@ -4,14 +4,14 @@
 //! between is absent: keys rise, so nothing stands in the gap (Harris 2001).
 ghost use Rattle.std.specs.Prelude.{◌≡◌, ◌≢◌, ◌↔◌, ℕ, ◌<◌, Contains, List};
 ghost use Rattle.packed_link.specs.Link.{nowhere};
-ghost use Rattle.core_chain.specs.Chain.{Chain, ChainWord, IsChain, IsOn, Node, Precedes};
+ghost use Rattle.core_chain.specs.Chain.{Chain, ChainWord, IsChain, IsOn, Next, Precedes};
 ghost use Rattle.core_chain.specs.Met.{MeetsFrom};
 ghost use Rattle.core_chain.specs.Walk.{StandsBelow, Passes, rest_behind};
 
 /// The law of absence: where a word leads past a key, no node of the key is on the chain.
 pub fn a_key_that_is_passed_is_absent()
     ensures { (chain : Chain) (at : ChainWord) (key x : ℕ)
-        → IsChain chain → Passes chain at key → IsOn chain (Node x) → chain.key x ≢ key }
+        → IsChain chain → Passes chain at key → IsOn chain (Next x) → chain.key x ≢ key }
 {}
 
 /// The law of what stands behind a word: following the links from it, one meets exactly the nodes on the chain
@@ -20,20 +20,20 @@ pub fn a_key_that_is_passed_is_absent()
 pub fn nodes_behind_have_greater_keys()
     ensures behind { (chain : Chain) (p : ChainWord) (nodes : List ℕ) (x : ℕ)
         → IsChain chain → IsOn chain p → MeetsFrom chain p nodes
-        → Contains nodes x ↔ (IsOn chain (Node x) × Precedes chain p (Node x)) }
+        → Contains nodes x ↔ (IsOn chain (Next x) × Precedes chain p (Next x)) }
     ensures greater { (chain : Chain) (p : ChainWord) (nodes : List ℕ) (x : ℕ)
         → IsChain chain → IsOn chain p → chain.mark p ≡ 0 → MeetsFrom chain p nodes
-        → Contains nodes x ↔ (IsOn chain (Node x) × StandsBelow chain p (chain.key x)) }
-    ensures once { (chain : Chain) (x y : ℕ) → IsChain chain → IsOn chain (Node x) → IsOn chain (Node y)
-        → chain.mark (Node x) ≡ 0 → chain.mark (Node y) ≡ 0 → chain.key x ≡ chain.key y → x ≡ y }
+        → Contains nodes x ↔ (IsOn chain (Next x) × StandsBelow chain p (chain.key x)) }
+    ensures once { (chain : Chain) (x y : ℕ) → IsChain chain → IsOn chain (Next x) → IsOn chain (Next y)
+        → chain.mark (Next x) ≡ 0 → chain.mark (Next y) ≡ 0 → chain.key x ≡ chain.key y → x ≡ y }
 {}
 
 /// The law of predecessors: exactly one word of a chain leads to each node on it.
 pub fn one_word_leads_to_a_node()
     ensures at_most_one { (chain : Chain) (p q : ChainWord) → IsChain chain → IsOn chain p → IsOn chain q
         → chain.next p ≢ nowhere → chain.next p ≡ chain.next q → p ≡ q }
-    ensures some { (chain : Chain) (size x : ℕ) → IsChain chain → ((y : ℕ) → IsOn chain (Node y) → y < size)
-        → IsOn chain (Node x) → (p : ChainWord) × IsOn chain p × (chain.next p ≡ x) }
+    ensures some { (chain : Chain) (size x : ℕ) → IsChain chain → ((y : ℕ) → IsOn chain (Next y) → y < size)
+        → IsOn chain (Next x) → (p : ChainWord) × IsOn chain p × (chain.next p ≡ x) }
 {}
 
 /// The law of the rest: what stands behind a word of a chain is a chain again, with that word as its head.

@@ -61,11 +61,11 @@ length_opening : (sizes : Sizes) → length (opening_words sizes) ≡ word_count
 length_opening sizes =
     let f = opening_word sizes in
     let nodes : List Place = flat_map node_places (range_with_len 0 sizes.nodes) in
-    let buckets : List Place = map at.Bucket (range_with_len 0 sizes.buckets) ++ nodes in
+    let buckets : List Place = map at.BucketWord (range_with_len 0 sizes.buckets) ++ nodes in
     omega (
       arith,
-      length_row f at.Announce 0 sizes.callers buckets,
-      length_row f at.Bucket 0 sizes.buckets nodes,
+      length_row f at.AnnounceWord 0 sizes.callers buckets,
+      length_row f at.BucketWord 0 sizes.buckets nodes,
       length_nodes f 0 sizes.nodes,
     )
 
@@ -81,20 +81,20 @@ opening-at sizes p h = by p h
     nodes = flat_map node_places (range_with_len 0 sizes.nodes)
 
     buckets : List Place
-    buckets = map at.Bucket (range_with_len 0 sizes.buckets) ++ nodes
+    buckets = map at.BucketWord (range_with_len 0 sizes.buckets) ++ nodes
 
     behind_callers : (i k : ℕ) → i ≡ 4 + sizes.callers + k → get_or (opening_words sizes) i 0 ≡ get_or
-        (map (opening_word sizes) (map at.Bucket (range_with_len 0 sizes.buckets) ++ flat_map node_places
+        (map (opening_word sizes) (map at.BucketWord (range_with_len 0 sizes.buckets) ++ flat_map node_places
         (range_with_len 0 sizes.nodes))) k 0
     behind_callers i k e =
         let s : i ≡ suc (suc (suc (suc (sizes.callers + k)))) = omega arith in
-        ap (λ j. get_or (opening_words sizes) j 0) s ∙ row_behind (opening_word sizes) at.Announce 0 sizes.callers k
-        (map at.Bucket (range_with_len 0 sizes.buckets) ++ flat_map node_places (range_with_len 0 sizes.nodes))
+        ap (λ j. get_or (opening_words sizes) j 0) s ∙ row_behind (opening_word sizes) at.AnnounceWord 0 sizes.callers k
+        (map at.BucketWord (range_with_len 0 sizes.buckets) ++ flat_map node_places (range_with_len 0 sizes.nodes))
 
     behind_buckets : (i k : ℕ) → i ≡ 4 + sizes.callers + sizes.buckets + k → get_or (opening_words sizes) i 0 ≡ get_or
         (map (opening_word sizes) (flat_map node_places (range_with_len 0 sizes.nodes))) k 0
     behind_buckets i k e = behind_callers i (sizes.buckets + k) (omega arith) ∙ row_behind
-        (opening_word sizes) at.Bucket 0 sizes.buckets k (flat_map node_places (range_with_len 0 sizes.nodes))
+        (opening_word sizes) at.BucketWord 0 sizes.buckets k (flat_map node_places (range_with_len 0 sizes.nodes))
 
     of_node : (i x j : ℕ) → i ≡ 4 + sizes.callers + sizes.buckets + 4 * x + j → x < sizes.nodes → j < 4 → get_or
         (opening_words sizes) i 0 ≡ get_or (map (opening_word sizes) (node_places x)) j 0
@@ -104,23 +104,23 @@ opening-at sizes p h = by p h
         (λ y. get_or (map (opening_word sizes) (node_places y)) j 0) z)
 
     by : (p : Place) → IsPlace sizes p → get_or (opening_words sizes) (place_of sizes p) 0 ≡ opening_word sizes p
-    by at.Meeting h = refl
-    by at.Number h = refl
-    by at.Epoch h = refl
-    by at.Free h = refl
-    by (at.Announce i) h =
+    by at.MeetingWord h = refl
+    by at.NumberWord h = refl
+    by at.EpochWord h = refl
+    by at.FreeWord h = refl
+    by (at.AnnounceWord i) h =
         let s : 4 + i ≡ suc (suc (suc (suc i))) = omega arith in
-        ap (λ j. get_or (opening_words sizes) j 0) s ∙ row_word (opening_word sizes) at.Announce 0 sizes.callers i
-        (map at.Bucket (range_with_len 0 sizes.buckets) ++ flat_map node_places (range_with_len 0 sizes.nodes)) h
-    by (at.Bucket j) h =
+        ap (λ j. get_or (opening_words sizes) j 0) s ∙ row_word (opening_word sizes) at.AnnounceWord 0 sizes.callers i
+        (map at.BucketWord (range_with_len 0 sizes.buckets) ++ flat_map node_places (range_with_len 0 sizes.nodes)) h
+    by (at.BucketWord j) h =
         let z : 0 + j ≡ j = omega arith in
         behind_callers (4 + sizes.callers + j) j refl
-        ∙ row_word (opening_word sizes) at.Bucket 0 sizes.buckets j
+        ∙ row_word (opening_word sizes) at.BucketWord 0 sizes.buckets j
         (flat_map node_places (range_with_len 0 sizes.nodes)) h
-    by (at.Key x) h = of_node (4 + sizes.callers + sizes.buckets + 4 * x) x 0 (omega arith) h (omega arith)
-    by (at.Link x) h = of_node (4 + sizes.callers + sizes.buckets + 4 * x + 1) x 1 refl h (omega arith)
-    by (at.Second x) h = of_node (4 + sizes.callers + sizes.buckets + 4 * x + 2) x 2 refl h (omega arith)
-    by (at.Third x) h = of_node (4 + sizes.callers + sizes.buckets + 4 * x + 3) x 3 refl h (omega arith)
+    by (at.KeyWord x) h = of_node (4 + sizes.callers + sizes.buckets + 4 * x) x 0 (omega arith) h (omega arith)
+    by (at.LinkWord x) h = of_node (4 + sizes.callers + sizes.buckets + 4 * x + 1) x 1 refl h (omega arith)
+    by (at.SecondWord x) h = of_node (4 + sizes.callers + sizes.buckets + 4 * x + 2) x 2 refl h (omega arith)
+    by (at.ThirdWord x) h = of_node (4 + sizes.callers + sizes.buckets + 4 * x + 3) x 3 refl h (omega arith)
 
 rewritten-append : (words : List ℕ) (xs ys : List Event) → rewritten words (xs ++ ys) ≡ rewritten
     (rewritten words xs) ys

@@ -8,27 +8,27 @@ use Rattle.core_journal.specs.declared.event.Event.{Event}
 
 -- the word of each name at opening: all nodes are free, each leads to the next, and the buckets are empty
 abbrev pub opening_word : Sizes → Place → ℕ
-opening_word sizes at.Meeting = 0
-opening_word sizes at.Number = 0
-opening_word sizes at.Epoch = 0
-opening_word sizes at.Free = pack 0 0 0
-opening_word sizes (at.Announce caller) = 0
-opening_word sizes (at.Bucket bucket) = pack nowhere 0 0
-opening_word sizes (at.Key index) = 0
-opening_word sizes (at.Link index) = pack (cond (index + 1 == sizes.nodes) nowhere (index + 1)) 1 0
-opening_word sizes (at.Second index) = 0
-opening_word sizes (at.Third index) = 0
+opening_word sizes at.MeetingWord = 0
+opening_word sizes at.NumberWord = 0
+opening_word sizes at.EpochWord = 0
+opening_word sizes at.FreeWord = pack 0 0 0
+opening_word sizes (at.AnnounceWord caller) = 0
+opening_word sizes (at.BucketWord bucket) = pack nowhere 0 0
+opening_word sizes (at.KeyWord index) = 0
+opening_word sizes (at.LinkWord index) = pack (cond (index + 1 == sizes.nodes) nowhere (index + 1)) 1 0
+opening_word sizes (at.SecondWord index) = 0
+opening_word sizes (at.ThirdWord index) = 0
 
 -- the four words of a node
 abbrev pub node_places : ℕ → List Place
-node_places index = at.Key index ∷ at.Link index ∷ at.Second index ∷ at.Third index ∷ []
+node_places index = at.KeyWord index ∷ at.LinkWord index ∷ at.SecondWord index ∷ at.ThirdWord index ∷ []
 
 -- the names of all words, in the order of their places
 abbrev pub places : Sizes → List Place
 places sizes =
-    (at.Meeting ∷ at.Number ∷ at.Epoch ∷ at.Free ∷ [])
-    ++ (map at.Announce (range_with_len 0 sizes.callers)
-    ++ (map at.Bucket (range_with_len 0 sizes.buckets)
+    (at.MeetingWord ∷ at.NumberWord ∷ at.EpochWord ∷ at.FreeWord ∷ [])
+    ++ (map at.AnnounceWord (range_with_len 0 sizes.callers)
+    ++ (map at.BucketWord (range_with_len 0 sizes.buckets)
     ++ flat_map node_places (range_with_len 0 sizes.nodes)))
 
 -- all words at opening

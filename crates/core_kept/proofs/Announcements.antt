@@ -2,7 +2,7 @@
 -- epoch
 -- that is no later than the pass's birth.
 use Rattle.std.proofs.Common.{◌≡◌, ◌≢◌, ℕ, ◌<◌, ◌≤◌, List, [], true, false, refl, ap, ◌∙◌, subst, arith}
-use Rattle.packed_link.specs.Layout.{Sizes, Announce, epoch_at, announce_at}
+use Rattle.packed_link.specs.Layout.{Sizes, AnnounceWord, epoch_at, announce_at}
 use Rattle.core_epoch.specs.Clock.{Announcements}
 use Rattle.core_epoch.specs.Steps.{KeepsPass, ClockStep, announce, withdraw, move, rest}
 use Rattle.core_epoch.proofs.Births.{announcements_new, announcements_kept}
@@ -132,4 +132,4 @@ pub announcements : (sizes : Sizes) (journal : List Event) → IsKept sizes jour
 announcements sizes journal kept = holds_all sizes (λ (s : State) (w : ℕ → ℕ). Announcements sizes.callers
     (clock_by sizes s w)) (announcements_step sizes)
     (announcements_new sizes.callers (clock_by sizes (opening sizes) (word_at sizes [])) record
-    { closed = λ i. refl; silent = λ i small. word_first sizes (Announce i) small }) journal kept
+    { closed = λ i. refl; silent = λ i small. word_first sizes (AnnounceWord i) small }) journal kept

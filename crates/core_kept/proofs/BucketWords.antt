@@ -3,7 +3,7 @@ use Rattle.std.proofs.Common.{◌≡◌, ◌≢◌, ℕ, ◌<◌, List, ap, ◌�
 use mathlib.Core.Logic.{dite}
 use native.Mathlib.Decide.{ℕ_discrete}
 use Rattle.packed_link.specs.Link.{index_of, mark_of, tag_of}
-use Rattle.packed_link.specs.Layout.{Sizes, IsLayout, bucket_at, Bucket}
+use Rattle.packed_link.specs.Layout.{Sizes, IsLayout, bucket_at, BucketWord}
 use Rattle.packed_link.proofs.Links.{mark_of-pack}
 use Rattle.core_journal.specs.declared.event.Kind.TheVariants.{LinkVertex, UnlinkVertex, ReplaceEdge}
 use Rattle.core_journal.specs.declared.event.Event.{Event}
@@ -46,4 +46,4 @@ unmarked_step sizes z past e kept c _ by ok w a = other_word sizes past e w a c 
 pub bucket_unmarked : (sizes : Sizes) → IsLayout sizes → (journal : List Event) → IsKept sizes journal → (j : ℕ)
     → j < sizes.buckets → mark_of (word_at sizes journal (bucket_at sizes j)) ≡ 0
 bucket_unmarked sizes z journal kept j low = (holds_all sizes (AreUnmarked sizes) (unmarked_step sizes z)
-    (record { each = λ i there. ap mark_of (word_first sizes (Bucket i) there) }) journal kept).each j low
+    (record { each = λ i there. ap mark_of (word_first sizes (BucketWord i) there) }) journal kept).each j low

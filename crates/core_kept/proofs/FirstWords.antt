@@ -1,6 +1,6 @@
 -- Words 1, 2 and 3: how many numbers are drawn, the epoch, and the changes of the free list.
 use Rattle.std.proofs.Common.{◌≡◌, ℕ, List, subst, arith}
-use Rattle.packed_link.specs.Layout.{Sizes, Number, Epoch}
+use Rattle.packed_link.specs.Layout.{Sizes, NumberWord, EpochWord}
 use Rattle.core_journal.specs.declared.event.Kind.TheVariants.{DrawNumber, MoveEpoch}
 use Rattle.core_journal.specs.declared.event.Event.{Event}
 use Rattle.core_journal.specs.Machine.{word_at}
@@ -39,5 +39,5 @@ numbers_step sizes past e kept c _ by ok w a =
 pub numbers : (sizes : Sizes) (journal : List Event) → IsKept sizes journal → FirstWords sizes (state sizes journal)
     (word_at sizes journal)
 numbers sizes journal kept = holds_all sizes (FirstWords sizes) (numbers_step sizes)
-    (record { numbers = word_first sizes Number tt; room = omega arith; epoch = word_first sizes Epoch tt }) journal
-    kept
+    (record { numbers = word_first sizes NumberWord tt; room = omega arith; epoch = word_first sizes EpochWord tt })
+    journal kept

@@ -6,7 +6,7 @@ use Rattle.std.proofs.Common.{◌≡◌, ◌≢◌, ◌⊎◌, ℕ, ◌+◌, ◌
 use Rattle.std.proofs.Common.{◌∙◌, subst, arith, inl, inr, eq-eqb, ne_eqb}
 use Rattle.std.specs.Prelude.{drop}
 use Rattle.packed_link.specs.Link.{pack, nowhere, index_of, tag_of}
-use Rattle.packed_link.specs.Layout.{Sizes, IsLayout, Free as FreeWord, Link as LinkWord, free_at, link_at}
+use Rattle.packed_link.specs.Layout.{Sizes, IsLayout, FreeWord, LinkWord, free_at, link_at}
 use Rattle.core_epoch.specs.Free.{FreeList, Leads, KeepsOthers, TakesFirst, GivesBack, LeavesFree, Change, take, give}
 use Rattle.core_epoch.specs.Free.{leave, IsUnchanged}
 use Rattle.core_epoch.proofs.FreeList.{free_new, free_kept, unchanged_kept}

@@ -8,7 +8,7 @@ use Rattle.graph_kinds.specs.Levels.{stands_in}
 use Rattle.graph_kinds.specs.History.{Every}
 use Rattle.packed_link.specs.Link.{nowhere}
 use Rattle.packed_link.specs.Layout.{Sizes, link_at}
-use Rattle.core_chain.specs.Chain.{Chain, ChainWord, Head, Node, IsOn, IsChain, Precedes}
+use Rattle.core_chain.specs.Chain.{Chain, ChainWord, Head, Next, IsOn, IsChain, Precedes}
 use Rattle.core_chain.specs.Met.{MeetsFrom, RisesAlong, IsMet}
 use Rattle.core_chain.specs.Steps.{Inserts, Replaces, Unlinks, SetsMark, Untouched, Joins, Departs}
 use Rattle.core_chain.specs.Table.{Places}
@@ -65,8 +65,8 @@ pub meets_same : (c d : Chain) (p : ChainWord) (xs : List ℕ) → IsChain c →
 meets_same c d p [] chain on same met = same p on ∙ met
 meets_same c d p (x ∷ xs) chain on same met =
     let some : c.next p ≢ nowhere = λ e. met.1 (sym met.0 ∙ e) in
-    let there : IsOn c (Node x) = subst (λ (y : ℕ). IsOn c (Node y)) met.0 (chain.leads p on some).0 in
-    (same p on ∙ met.0, met.1, meets_same c d (Node x) xs chain there same met.2)
+    let there : IsOn c (Next x) = subst (λ (y : ℕ). IsOn c (Next y)) met.0 (chain.leads p on some).0 in
+    (same p on ∙ met.0, met.1, meets_same c d (Next x) xs chain there same met.2)
 
 -- after a mark, and where nothing changes
 pub meets_marked : (c d : Chain) (at : ChainWord) (xs : List ℕ) → IsChain c → SetsMark c d at → MeetsFrom c Head xs
@@ -79,13 +79,13 @@ meets_untouched c d xs chain same met = meets_same c d Head xs chain tt same.nex
 
 -- words that differ from one lead on as before, from a word that leads where another led
 moved : (c d : Chain) (at p q : ChainWord) (xs : List ℕ) → ((r : ChainWord) → r ≢ at → d.next r ≡ c.next r) → Every
-    (λ x. Node x ≢ at) xs → d.next q ≡ c.next p → MeetsFrom c p xs → MeetsFrom d q xs
+    (λ x. Next x ≢ at) xs → d.next q ≡ c.next p → MeetsFrom c p xs → MeetsFrom d q xs
 moved c d at p q [] others apart same met = same ∙ met
 moved c d at p q (x ∷ xs) others apart same met = (
   same ∙ met.0,
   met.1,
-  moved c d at (Node x) (Node x) xs others apart.1
-      (others (Node x) apart.0) met.2,
+  moved c d at (Next x) (Next x) xs others apart.1
+      (others (Next x) apart.0) met.2,
 )
 
 -- a word doesn't stand behind another
@@ -93,46 +93,46 @@ abbrev pub IsUpTo : Chain → ChainWord → ChainWord → Type 0
 IsUpTo c q p = (q ≡ p) ⊎ Precedes c q p
 
 -- so it stands before what stands behind that
-before_next : (c : Chain) (q p : ChainWord) (x : ℕ) → IsUpTo c q p → Precedes c p (Node x) → Precedes c q (Node x)
-before_next c q p x upto low = ⊎_elim (λ same. subst (λ (r : ChainWord). Precedes c r (Node x)) (sym same) low)
-    (λ before. before_then c q p (Node x) before low) upto
+before_next : (c : Chain) (q p : ChainWord) (x : ℕ) → IsUpTo c q p → Precedes c p (Next x) → Precedes c q (Next x)
+before_next c q p x upto low = ⊎_elim (λ same. subst (λ (r : ChainWord). Precedes c r (Next x)) (sym same) low)
+    (λ before. before_then c q p (Next x) before low) upto
 
 -- what rises behind a word stands at no such word
 apart_from : (c : Chain) (at p : ChainWord) (xs : List ℕ) → IsUpTo c at p → RisesAlong c p xs → Every
-    (λ x. Node x ≢ at) xs
+    (λ x. Next x ≢ at) xs
 apart_from c at p [] upto rising = tt
 apart_from c at p (x ∷ xs) upto rising =
     let low = before_next c at p x upto rising.0 in
-    ((λ e. before_same c at (Node x) low (sym e)), apart_from c at (Node x) xs (inr low) rising.1)
+    ((λ e. before_same c at (Next x) low (sym e)), apart_from c at (Next x) xs (inr low) rising.1)
 
 -- what rises behind a node is no such node
-risen : (c : Chain) (p : ChainWord) (n : ℕ) (xs : List ℕ) → IsUpTo c (Node n) p → RisesAlong c p xs → Every
+risen : (c : Chain) (p : ChainWord) (n : ℕ) (xs : List ℕ) → IsUpTo c (Next n) p → RisesAlong c p xs → Every
     (λ x. x ≢ n) xs
 risen c p n [] upto rising = tt
 risen c p n (x ∷ xs) upto rising =
-    let low = before_next c (Node n) p x upto rising.0 in
-    ((λ e. before_same c (Node n) (Node x) low (ap Node (sym e))), risen c (Node x) n xs (inr low) rising.1)
+    let low = before_next c (Next n) p x upto rising.0 in
+    ((λ e. before_same c (Next n) (Next x) low (ap Next (sym e))), risen c (Next x) n xs (inr low) rising.1)
 
 -- the words of a chain among those of the layout: the links of nodes, and a head that is none of these
 pub record AreLinks (sizes : Sizes) (places : Places) : Type 0 where
-  pub links : (x : ℕ) → places.word_at (Node x) ≡ link_at sizes x
+  pub links : (x : ℕ) → places.word_at (Next x) ≡ link_at sizes x
   pub apart : (x : ℕ) → places.word_at Head ≢ link_at sizes x
 
 -- a node that is inserted behind the link of a node stands behind that node
-put_in : (sizes : Sizes) (c d : Chain) (x n : ℕ) (p : ChainWord) (xs : List ℕ) → PutsNode c d (Node x) n → p ≢ Node x
+put_in : (sizes : Sizes) (c d : Chain) (x n : ℕ) (p : ChainWord) (xs : List ℕ) → PutsNode c d (Next x) n → p ≢ Next x
     → MeetsFrom c p xs → RisesAlong c p xs → MeetsFrom d p (put_behind (λ y. link_at sizes x == link_at sizes y) n xs)
 put_in sizes c d x n p [] step ne met rising = step.words.next p ne ∙ met
 put_in sizes c d x n p (y ∷ ys) step ne met rising = dite (ℕ_discrete y x)
     (λ same.
     let here : (link_at sizes x == link_at sizes y) ≡ true = eq-eqb (link_at sizes x) (link_at sizes y)
     (omega (arith, same)) in
-    let not_new : Node n ≢ Node x = λ e. let z : n ≡ x = cc in step.absent
-    (subst (λ (q : ChainWord). IsOn c q) (ap Node (sym z)) step.present) in
-    let to : d.next (Node n) ≡ c.next (Node y) = step.words.next (Node n) not_new ∙
-    (step.filled ∙ ap (λ (z : ℕ). c.next (Node z)) (sym same)) in
-    let rest : MeetsFrom d (Node n) ys = moved c d (Node x) (Node y) (Node n) ys step.words.next
-    (apart_from c (Node x) (Node y) ys (inl (ap Node (sym same))) rising.1) to met.2 in
-    let led : d.next (Node y) ≡ n = ap (λ (z : ℕ). d.next (Node z)) same ∙ step.leads in
+    let not_new : Next n ≢ Next x = λ e. let z : n ≡ x = cc in step.absent
+    (subst (λ (q : ChainWord). IsOn c q) (ap Next (sym z)) step.present) in
+    let to : d.next (Next n) ≡ c.next (Next y) = step.words.next (Next n) not_new ∙
+    (step.filled ∙ ap (λ (z : ℕ). c.next (Next z)) (sym same)) in
+    let rest : MeetsFrom d (Next n) ys = moved c d (Next x) (Next y) (Next n) ys step.words.next
+    (apart_from c (Next x) (Next y) ys (inl (ap Next (sym same))) rising.1) to met.2 in
+    let led : d.next (Next y) ≡ n = ap (λ (z : ℕ). d.next (Next z)) same ∙ step.leads in
     subst (λ (b : Bool). MeetsFrom d p (cond b (y ∷ n ∷ ys) (y ∷ put_behind
     (λ z. link_at sizes x == link_at sizes z) n ys))) (sym here)
     (step.words.next p ne ∙ met.0, met.1, (led, step.named, rest)))
@@ -143,7 +143,7 @@ put_in sizes c d x n p (y ∷ ys) step ne met rising = dite (ℕ_discrete y x)
     (λ z. link_at sizes x == link_at sizes z) n ys))) (sym here) (
       step.words.next p ne ∙ met.0,
       met.1,
-      put_in sizes c d x n (Node y) ys step
+      put_in sizes c d x n (Next y) ys step
           (λ e. let z : y ≡ x = cc in other z) met.2 rising.1,
     ))
 
@@ -153,32 +153,32 @@ module _ (sizes : Sizes) (places : Places) (are : AreLinks sizes places) where
   at_head y xs = ap (λ (b : Bool). cond b (y ∷ xs) (put_behind (λ x. places.word_at Head == link_at sizes x) y xs))
       (eq-eqb (places.word_at Head) (places.word_at Head) refl)
 
-  at_node : (x y : ℕ) (xs : List ℕ) → linked_in sizes (places.word_at Head) (places.word_at (Node x)) y xs ≡ put_behind
+  at_node : (x y : ℕ) (xs : List ℕ) → linked_in sizes (places.word_at Head) (places.word_at (Next x)) y xs ≡ put_behind
       (λ z. link_at sizes x == link_at sizes z) y xs
   at_node x y xs =
-      ap (λ (b : Bool). cond b (y ∷ xs) (put_behind (λ z. places.word_at (Node x) == link_at sizes z) y xs))
-      (ne_eqb (places.word_at (Node x)) (places.word_at Head) (λ e. are.apart x (sym e ∙ are.links x)))
+      ap (λ (b : Bool). cond b (y ∷ xs) (put_behind (λ z. places.word_at (Next x) == link_at sizes z) y xs))
+      (ne_eqb (places.word_at (Next x)) (places.word_at Head) (λ e. are.apart x (sym e ∙ are.links x)))
       ∙ ap (λ (p : ℕ). put_behind (λ z. p == link_at sizes z) y xs) (are.links x)
 
   -- after a node is inserted one meets the list into which it's linked
   pub meets_inserted : (c d : Chain) (at : ChainWord) (n : ℕ) (xs : List ℕ) → IsChain c → Inserts c d at n
       → MeetsFrom c Head xs → MeetsFrom d Head (linked_in sizes (places.word_at Head) (places.word_at at) n xs)
   meets_inserted c d Head n xs chain step met =
-      let to : d.next (Node n) ≡ c.next Head = step.words.next (Node n) (λ e. absurd (cc)) ∙ step.can.filled in
+      let to : d.next (Next n) ≡ c.next Head = step.words.next (Next n) (λ e. absurd (cc)) ∙ step.can.filled in
       subst (λ (l : List ℕ). MeetsFrom d Head l) (sym (at_head n xs)) (
         step.leads,
         step.can.named,
-        moved c d Head Head (Node n) xs step.words.next
+        moved c d Head Head (Next n) xs step.words.next
             (apart_from c Head Head xs (inl refl) (met_behind c Head xs chain tt met).0) to met,
       )
-  meets_inserted c d (Node x) n xs chain step met =
+  meets_inserted c d (Next x) n xs chain step met =
       subst (λ (l : List ℕ). MeetsFrom d Head l) (sym (at_node x n xs))
-      (put_in sizes c d x n Head xs (PutsNode-inserted c d (Node x) n chain step) (λ e. absurd (cc)) met
+      (put_in sizes c d x n Head xs (PutsNode-inserted c d (Next x) n chain step) (λ e. absurd (cc)) met
       (met_behind c Head xs chain tt met).0)
 
   -- so after a node is replaced
   pub meets_replaced : (c d : Chain) (x n : ℕ) (xs : List ℕ) → IsChain c → Replaces c d x n → MeetsFrom c Head xs
-      → MeetsFrom d Head (linked_in sizes (places.word_at Head) (places.word_at (Node x)) n xs)
+      → MeetsFrom d Head (linked_in sizes (places.word_at Head) (places.word_at (Next x)) n xs)
   meets_replaced c d x n xs chain step met =
       subst (λ (l : List ℕ). MeetsFrom d Head l) (sym (at_node x n xs))
       (put_in sizes c d x n Head xs (PutsNode-replaced c d x n chain step) (λ e. absurd (cc)) met
@@ -186,24 +186,24 @@ module _ (sizes : Sizes) (places : Places) (are : AreLinks sizes places) where
 
 -- a node that is taken out is no more met
 take_out : (c d : Chain) (at : ChainWord) (n : ℕ) (p : ChainWord) (xs : List ℕ) → IsChain c → Unlinks c d at n
-    → IsOn c p → p ≢ Node n → MeetsFrom c p xs → RisesAlong c p xs → MeetsFrom d p (unlinked_from n xs)
+    → IsOn c p → p ≢ Next n → MeetsFrom c p xs → RisesAlong c p xs → MeetsFrom d p (unlinked_from n xs)
 take_out c d at n p [] chain step on ne met rising = if_same p at
     (λ same. absurd (step.can.named (sym step.can.led ∙ (ap c.next (sym same) ∙ met))))
     (λ other. step.words.next p other ∙ met)
 take_out c d at n p (y ∷ ys) chain step on ne met rising =
     let some : c.next p ≢ nowhere = λ e. met.1 (sym met.0 ∙ e) in
-    let there : IsOn c (Node y) = subst (λ (z : ℕ). IsOn c (Node z)) met.0 (chain.leads p on some).0 in
+    let there : IsOn c (Next y) = subst (λ (z : ℕ). IsOn c (Next z)) met.0 (chain.leads p on some).0 in
     if_same p at
     (λ same.
     let is : y ≡ n = sym met.0 ∙ (ap c.next same ∙ step.can.led) in
-    let to : d.next p ≡ c.next (Node y) = ap d.next same ∙ (step.leads ∙ ap (λ (z : ℕ). c.next (Node z)) (sym is)) in
-    let rest : MeetsFrom d p ys = moved c d at (Node y) p ys step.words.next
-    (apart_from c at (Node y) ys (inr (subst (λ (r : ChainWord). Precedes c r (Node y)) same rising.0)) rising.1) to
+    let to : d.next p ≡ c.next (Next y) = ap d.next same ∙ (step.leads ∙ ap (λ (z : ℕ). c.next (Next z)) (sym is)) in
+    let rest : MeetsFrom d p ys = moved c d at (Next y) p ys step.words.next
+    (apart_from c at (Next y) ys (inr (subst (λ (r : ChainWord). Precedes c r (Next y)) same rising.0)) rising.1) to
     met.2 in
     subst (λ (b : Bool). MeetsFrom d p (cond (not b) (y ∷ unlinked_from n ys) (unlinked_from n ys)))
     (sym (eq-eqb y n is))
     (subst (λ (l : List ℕ). MeetsFrom d p l) (sym (unlinked_else n ys
-    (risen c (Node y) n ys (inl (ap Node (sym is))) rising.1))) rest))
+    (risen c (Next y) n ys (inl (ap Next (sym is))) rising.1))) rest))
     (λ other.
     let not_it : y ≢ n = λ is. other (one_leads c p at chain on step.can.present some (met.0 ∙ (is ∙ sym step.can.led)))
     in
@@ -211,7 +211,7 @@ take_out c d at n p (y ∷ ys) chain step on ne met rising =
     (sym (ne_eqb y n not_it)) (
       step.words.next p other ∙ met.0,
       met.1,
-      take_out c d at n (Node y) ys chain step there
+      take_out c d at n (Next y) ys chain step there
           (λ e. let is : y ≡ n = cc in not_it is) met.2 rising.1,
     ))
 
@@ -260,7 +260,7 @@ linked_stands sizes head place n x xs ne = by (place == head)
     by false = put_joins (λ z. place == link_at sizes z) n x xs ne
 
 module _ (sizes : Sizes) (places : Places) (are : AreLinks sizes places) where
-  pub joins_linked : (at : ChainWord) (n : ℕ) (xs : List ℕ) → ((x : ℕ) → at ≡ Node x → stands_in xs x ≡ true) → Joins
+  pub joins_linked : (at : ChainWord) (n : ℕ) (xs : List ℕ) → ((x : ℕ) → at ≡ Next x → stands_in xs x ≡ true) → Joins
       (λ x. stands_in xs x) (λ x. stands_in (linked_in sizes (places.word_at Head) (places.word_at at) n xs) x) n
   joins_linked Head n xs behind = record {
     joins = ap (λ (l : List ℕ). stands_in l n) (at_head sizes places are n xs) ∙ ap (λ (b : Bool). b || stands_in xs n)
@@ -268,7 +268,7 @@ module _ (sizes : Sizes) (places : Places) (are : AreLinks sizes places) where
     others = λ x ne. ap (λ (l : List ℕ). stands_in l x) (at_head sizes places are n xs) ∙ ap
         (λ (b : Bool). b || stands_in xs x) (ne_eqb n x (λ e. ne (sym e)));
   }
-  joins_linked (Node b) n xs behind = record {
+  joins_linked (Next b) n xs behind = record {
     joins = ap (λ (l : List ℕ). stands_in l n) (at_node sizes places are b n xs) ∙ put_stands
         (λ z. link_at sizes b == link_at sizes z) n b xs (eq-eqb (link_at sizes b) (link_at sizes b) refl)
         (behind b refl);
@@ -310,6 +310,6 @@ unlinked_stands n x xs h =
     (ne, sym (l.others x ne) ∙ h)
 
 -- a node off the chain is none of those that are met
-pub each_absent : (c : Chain) (n : ℕ) (xs : List ℕ) → IsMet c xs → (IsOn c (Node n) → ⊥) → Every (λ x. x ≢ n) xs
+pub each_absent : (c : Chain) (n : ℕ) (xs : List ℕ) → IsMet c xs → (IsOn c (Next n) → ⊥) → Every (λ x. x ≢ n) xs
 each_absent c n xs met none = each_such (λ x. x ≢ n) xs (λ x h same. none
     ((met.exactly n).1 (subst (Contains xs) same h)))

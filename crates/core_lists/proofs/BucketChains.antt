@@ -7,9 +7,9 @@ use Rattle.std.proofs.Math.Nat.{mod-lt}
 use mathlib.Core.Logic.{dite}
 use native.Mathlib.Decide.{ℕ_discrete}
 use Rattle.packed_link.specs.Link.{nowhere, index_of, mark_of, tag_of, with_mark}
-use Rattle.packed_link.specs.Layout.{Sizes, IsLayout, Bucket, word_count, bucket_at, key_at, link_at}
+use Rattle.packed_link.specs.Layout.{Sizes, IsLayout, BucketWord, word_count, bucket_at, key_at, link_at}
 use Rattle.packed_link.proofs.Links.{index_of-pack, index_of-bound}
-use Rattle.core_chain.specs.Chain.{Chain, ChainWord, Head, Node, IsOn, IsChain}
+use Rattle.core_chain.specs.Chain.{Chain, ChainWord, Head, Next, IsOn, IsChain}
 use Rattle.core_chain.specs.Met.{MeetsFrom, IsMet}
 use Rattle.core_chain.specs.Steps.{CanInsert, CanUnlink, Inserts, Joins, Departs, Marks, Unlinks, Untouched}
 use Rattle.core_chain.specs.Table.{StandsAlone, chain_in}
@@ -25,7 +25,7 @@ use Rattle.core_journal.specs.declared.event.Kind.TheVariants.{UnlinkVertex, Lin
 use Rattle.core_journal.specs.declared.event.Kind.TheVariants.{FreezeEdge, StoreFree, PushFree, ReplaceEdge}
 use Rattle.core_journal.specs.declared.event.Event.{Event}
 use Rattle.core_journal.specs.Machine.{word_at}
-use Rattle.core_journal.specs.State.{Mode, Linked, Spent, Node as Nodes, State, is_linked, put, linked_in, state_by}
+use Rattle.core_journal.specs.State.{Mode, Linked, Spent, Node, State, is_linked, put, linked_in, state_by}
 use Rattle.core_journal.specs.State.{opening, state, joined_edge}
 use Rattle.core_journal.proofs.MachineWords.{word_first}
 use Rattle.core_kept.specs.Kept.{AllowedAs, IsKept}
@@ -46,7 +46,7 @@ abbrev pub chain_of : Sizes → State → (ℕ → ℕ) → ℕ → Chain
 chain_of sizes s w j = chain_in w (bucket_places sizes j) (is_of_bucket sizes s j) (λ x. 0)
 
 -- a node on a bucket is a linked vertex with a key of the bucket
-pub record IsNodeOfBucket (sizes : Sizes) (v : Nodes) (j : ℕ) : Type 0 where
+pub record IsNodeOfBucket (sizes : Sizes) (v : Node) (j : ℕ) : Type 0 where
   pub linked : v.mode ≡ Linked
   pub vertex : v.vertex ≡ true
   pub of_bucket : v.key % sizes.buckets ≡ j
@@ -73,7 +73,7 @@ in_is sizes s j x v =
     (ap is_linked v.linked) (and_from (s.node x).vertex ((s.node x).key % sizes.buckets == j) v.vertex key)
 
 -- a node that isn't linked, or is no vertex, or has a key of another bucket, is on no chain of this one
-not_in : (sizes : Sizes) (v : Nodes) (j : ℕ) → (IsNodeOfBucket sizes v j → ⊥) →
+not_in : (sizes : Sizes) (v : Node) (j : ℕ) → (IsNodeOfBucket sizes v j → ⊥) →
     (is_linked v.mode && (v.vertex && (v.key % sizes.buckets == j))) ≡ false
 not_in sizes v j none = by (is_linked v.mode && (v.vertex && (v.key % sizes.buckets == j))) refl
   where
@@ -137,7 +137,7 @@ untouched sizes past e w s' j a head links same = record {
     word : (p : ChainWord) → IsOn (bucket_chain sizes past j) p → w (bucket_word sizes j p) ≡ word_at sizes past
         (bucket_word sizes j p)
     word Head on = a.else (bucket_at sizes j) (λ h. head (sym h))
-    word (Node x) on = a.else (link_at sizes x) (λ h. (links x (is_in sizes (state sizes past) j x on)).0 (sym h))
+    word (Next x) on = a.else (link_at sizes x) (λ h. (links x (is_in sizes (state sizes past) j x on)).0 (sym h))
 
 -- the words and the keys of a bucket stand apart from one another
 stands_alone : (sizes : Sizes) (j : ℕ) (at : ChainWord) → j < sizes.buckets → StandsAlone (bucket_places sizes j) at
@@ -145,12 +145,12 @@ stands_alone sizes j Head low = record { words = λ p ne h. word p ne h; keys = 
   where
     word : (p : ChainWord) → p ≢ Head → bucket_word sizes j p ≢ bucket_at sizes j
     word Head ne h = ne refl
-    word (Node x) ne h = omega arith
-stands_alone sizes j (Node n) low = record { words = λ p ne h. word p ne h; keys = λ x h. omega arith }
+    word (Next x) ne h = omega arith
+stands_alone sizes j (Next n) low = record { words = λ p ne h. word p ne h; keys = λ x h. omega arith }
   where
-    word : (p : ChainWord) → p ≢ Node n → bucket_word sizes j p ≢ link_at sizes n
+    word : (p : ChainWord) → p ≢ Next n → bucket_word sizes j p ≢ link_at sizes n
     word Head ne h = omega arith
-    word (Node x) ne h = ne (ap Node (omega arith))
+    word (Next x) ne h = ne (ap Next (omega arith))
 
 module _ (sizes : Sizes) (z : IsLayout sizes) (past : List Event) (kept : IsKept sizes past) where
   -- the key word of a vertex on a chain is its key
@@ -192,7 +192,7 @@ module _ (sizes : Sizes) (z : IsLayout sizes) (past : List Event) (e : Event) (k
       let word = key_word sizes z past kept ok.before _ record
       { linked = v.linked; vertex = v.vertex; of_bucket = refl } in
       record {
-        at = Node ok.before;
+        at = Next ok.before;
         place = sym h.0;
         on = home_in sizes z past kept ok.before link_home v
             (ap (λ (k : ℕ). k % sizes.buckets) (sym word) ∙ ok.gap.bucket ok.before h.0);
@@ -200,7 +200,7 @@ module _ (sizes : Sizes) (z : IsLayout sizes) (past : List Event) (e : Event) (k
       ok.place
 
   -- the state of the node that is linked, and after the event
-  abbrev link_node : Nodes
+  abbrev link_node : Node
   link_node = record (node_in sizes past e.life.index) { mode = Linked; vertex = true; key = e.key }
 
   abbrev link_state : State
@@ -233,7 +233,7 @@ module _ (sizes : Sizes) (z : IsLayout sizes) (past : List Event) (e : Event) (k
       above : (p : ChainWord) → bucket_word sizes link_home p ≡ e.place → StandsBelow
           (bucket_chain sizes past link_home) p (word_at sizes past (key_at sizes e.life.index))
       above Head at = tt
-      above (Node x) at = let k = ok.filled.key_word in let g = ok.gap.below x (sym at) in omega arith
+      above (Next x) at = let k = ok.filled.key_word in let g = ok.gap.below x (sym at) in omega arith
 
   link_near : e.place < word_count sizes
   link_near = omega (arith, ok.place)
@@ -242,16 +242,16 @@ module _ (sizes : Sizes) (z : IsLayout sizes) (past : List Event) (e : Event) (k
   link_nodes : Joins (is_of_bucket sizes (state sizes past) link_home)
       (is_of_bucket sizes link_state link_home) e.life.index
   link_nodes = record {
-    joins = in_is sizes link_state link_home e.life.index (subst (λ (u : Nodes). IsNodeOfBucket sizes u link_home)
+    joins = in_is sizes link_state link_home e.life.index (subst (λ (u : Node). IsNodeOfBucket sizes u link_home)
         (sym (put_same e.life.index link_node (state sizes past).node)) record
         { linked = refl; vertex = refl; of_bucket = refl });
-    others = λ x ne. ap (λ (u : Nodes). is_linked u.mode && (u.vertex && (u.key % sizes.buckets == link_home)))
+    others = λ x ne. ap (λ (u : Node). is_linked u.mode && (u.vertex && (u.key % sizes.buckets == link_home)))
         (put_other e.life.index link_node (state sizes past).node x ne);
   }
 
   link_same : (j : ℕ) → j ≢ link_home → (x : ℕ) → is_of_bucket sizes link_state j x ≡ is_of_bucket sizes
       (state sizes past) j x
-  link_same j ne x = put_case (λ (u : Nodes). (is_linked u.mode && (u.vertex && (u.key % sizes.buckets == j))) ≡
+  link_same j ne x = put_case (λ (u : Node). (is_linked u.mode && (u.vertex && (u.key % sizes.buckets == j))) ≡
       is_of_bucket sizes (state sizes past) j x) e.life.index link_node (state sizes past).node x
       (λ same. not_in sizes link_node j (λ v. ne (sym v.of_bucket)) ∙ sym
       (subst (λ (y : ℕ). is_of_bucket sizes (state sizes past) j y ≡ false) (sym same)
@@ -321,7 +321,7 @@ module _ (sizes : Sizes) (z : IsLayout sizes) (past : List Event) (e : Event) (k
   mark_state = state_by MarkVertex sizes e (state sizes past)
 
   mark_same : (j x : ℕ) → is_of_bucket sizes mark_state j x ≡ is_of_bucket sizes (state sizes past) j x
-  mark_same j x = put_case (λ (u : Nodes). (is_linked u.mode && (u.vertex && (u.key % sizes.buckets == j))) ≡
+  mark_same j x = put_case (λ (u : Node). (is_linked u.mode && (u.vertex && (u.key % sizes.buckets == j))) ≡
       is_of_bucket sizes (state sizes past) j x) e.life.index
       (record (node_in sizes past e.life.index) { marked = true }) (state sizes past).node x
       (λ same. ap (is_of_bucket sizes (state sizes past) j) (sym same)) (λ _. refl)
@@ -333,8 +333,8 @@ module _ (sizes : Sizes) (z : IsLayout sizes) (past : List Event) (e : Event) (k
       present = home_in sizes z past kept e.life.index mark_home ok.linked refl;
       sets = SetsMark-in (word_at sizes past) w (bucket_places sizes mark_home)
           (is_of_bucket sizes (state sizes past) mark_home) (is_of_bucket sizes mark_state mark_home) (λ x. 0) (λ x. 0)
-          (λ x on. refl) (Node e.life.index)
-          (stands_alone sizes mark_home (Node e.life.index) (home_low sizes z past kept
+          (λ x on. refl) (Next e.life.index)
+          (stands_alone sizes mark_home (Next e.life.index) (home_low sizes z past kept
           (node_in sizes past e.life.index).key))
           (writes_at sizes past e w (link_at sizes e.life.index)
           (with_mark (word_at sizes past (link_at sizes e.life.index))) a (sym ok.place)
@@ -360,9 +360,9 @@ module _ (sizes : Sizes) (z : IsLayout sizes) (past : List Event) (e : Event) (k
         (IsBucket sizes (state sizes past) (word_at sizes past)) same b in
         subst (IsBucket sizes mark_state w) (sym same) record {
           chain = IsChain-marked (bucket_chain sizes past mark_home) (chain_of sizes mark_state w mark_home)
-              (Node e.life.index) old.chain mark_sets.sets;
+              (Next e.life.index) old.chain mark_sets.sets;
           met = meets_marked (bucket_chain sizes past mark_home) (chain_of sizes mark_state w mark_home)
-              (Node e.life.index) ((state sizes past).bucket mark_home) old.chain mark_sets.sets old.met;
+              (Next e.life.index) ((state sizes past).bucket mark_home) old.chain mark_sets.sets old.met;
         })
         (λ ne. stays sizes (state sizes past) mark_state (word_at sizes past) w j refl (mark_others j low ne) b)
 
@@ -371,7 +371,7 @@ module _ (sizes : Sizes) (z : IsLayout sizes) (past : List Event) (e : Event) (k
   abbrev cut_home : ℕ
   cut_home = (node_in sizes past e.life.index).key % sizes.buckets
 
-  abbrev cut_node : Nodes
+  abbrev cut_node : Node
   cut_node = record (node_in sizes past e.life.index) {
     mode = Spent;
     who = e.caller;
@@ -402,7 +402,7 @@ module _ (sizes : Sizes) (z : IsLayout sizes) (past : List Event) (e : Event) (k
       let j : ℕ = (node_in sizes past ok.before).key % sizes.buckets in
       let on = home_in sizes z past kept ok.before j (ok.before_linked ok.before h.0) refl in
       subst (IsBucketSpot sizes past e) (led_home j (home_low sizes z past kept (node_in sizes past ok.before).key)
-      (Node ok.before) on (sym h.0)) record { at = Node ok.before; place = sym h.0; on = on })
+      (Next ok.before) on (sym h.0)) record { at = Next ok.before; place = sym h.0; on = on })
       ok.place
 
   cut_can : (s : IsBucketSpot sizes past e cut_home) → CanUnlink (bucket_chain sizes past cut_home) s.at e.life.index
@@ -424,15 +424,15 @@ module _ (sizes : Sizes) (z : IsLayout sizes) (past : List Event) (e : Event) (k
   cut_nodes : Departs (is_of_bucket sizes (state sizes past) cut_home)
       (is_of_bucket sizes cut_state cut_home) e.life.index
   cut_nodes = record {
-    departs = λ h. cut_gone cut_home (subst (λ (u : Nodes). IsNodeOfBucket sizes u cut_home)
+    departs = λ h. cut_gone cut_home (subst (λ (u : Node). IsNodeOfBucket sizes u cut_home)
         (put_same e.life.index cut_node (state sizes past).node) (is_in sizes cut_state cut_home e.life.index h));
-    others = λ x ne. ap (λ (u : Nodes). is_linked u.mode && (u.vertex && (u.key % sizes.buckets == cut_home)))
+    others = λ x ne. ap (λ (u : Node). is_linked u.mode && (u.vertex && (u.key % sizes.buckets == cut_home)))
         (put_other e.life.index cut_node (state sizes past).node x ne);
   }
 
   cut_same : (j : ℕ) → j ≢ cut_home → (x : ℕ) → is_of_bucket sizes cut_state j x ≡ is_of_bucket sizes
       (state sizes past) j x
-  cut_same j ne x = put_case (λ (u : Nodes). (is_linked u.mode && (u.vertex && (u.key % sizes.buckets == j))) ≡
+  cut_same j ne x = put_case (λ (u : Node). (is_linked u.mode && (u.vertex && (u.key % sizes.buckets == j))) ≡
       is_of_bucket sizes (state sizes past) j x) e.life.index cut_node (state sizes past).node x
       (λ same. sym (subst (λ (y : ℕ). is_of_bucket sizes (state sizes past) j y ≡ false) (sym same)
       (not_in sizes (node_in sizes past e.life.index) j (λ v. ne (sym v.of_bucket)))))
@@ -453,7 +453,7 @@ module _ (sizes : Sizes) (z : IsLayout sizes) (past : List Event) (e : Event) (k
         (chain_of sizes cut_state w j)
     cut_others j low ne = untouched sizes past e w cut_state j a (λ h. ne (led_home j low Head tt (sym h)))
         (λ x v. (
-          (λ h. ne (led_home j low (Node x) (in_is sizes (state sizes past) j x v) (sym h))),
+          (λ h. ne (led_home j low (Next x) (in_is sizes (state sizes past) j x v) (sym h))),
           (λ h. omega (arith, ok.place, h)),
         )) (cut_same j ne)
 
@@ -494,11 +494,11 @@ same_list UnlinkVertex o sizes e s j = absurd o
 same_list _ o sizes e s j = refl
 
 -- a node that was on no chain of a bucket and is on none
-put_off : (sizes : Sizes) (s : State) (i : ℕ) (v : Nodes) (j x : ℕ) → (IsNodeOfBucket sizes (s.node i) j → ⊥) →
+put_off : (sizes : Sizes) (s : State) (i : ℕ) (v : Node) (j x : ℕ) → (IsNodeOfBucket sizes (s.node i) j → ⊥) →
     (IsNodeOfBucket sizes v j → ⊥)
     → (is_linked (put i v s.node x).mode && ((put i v s.node x).vertex &&
     ((put i v s.node x).key % sizes.buckets == j))) ≡ is_of_bucket sizes s j x
-put_off sizes s i v j x old new = put_case (λ (u : Nodes). (is_linked u.mode &&
+put_off sizes s i v j x old new = put_case (λ (u : Node). (is_linked u.mode &&
     (u.vertex && (u.key % sizes.buckets == j))) ≡ is_of_bucket sizes s j x) i v s.node x
     (λ same. not_in sizes v j new ∙ sym (subst (λ (y : ℕ). is_of_bucket sizes s j y ≡ false) (sym same)
     (not_in sizes (s.node i) j old)))
@@ -579,7 +579,7 @@ module _ (sizes : Sizes) (z : IsLayout sizes) (past : List Event) (e : Event) (k
   idle_bucket ReplaceEdge o ok =
       let s : State = state sizes past in
       let t : State = joined_edge sizes e s in
-      let v : Nodes = record (node_in sizes past e.life.index) {
+      let v : Node = record (node_in sizes past e.life.index) {
         mode = Linked;
         vertex = false;
         key = e.key;
@@ -592,7 +592,7 @@ module _ (sizes : Sizes) (z : IsLayout sizes) (past : List Event) (e : Event) (k
       let off : IsNodeOfBucket sizes (node_in sizes past e.old.index) j
       → ⊥ = λ v. let u = v.vertex in let t = ok.linked.edge in absurd (cc) in
       let off_then : IsNodeOfBucket sizes (t.node e.old.index) j → ⊥ = λ v. off
-      (subst (λ (n : Nodes). IsNodeOfBucket sizes n j) (old_joined sizes past e ok) v) in
+      (subst (λ (n : Node). IsNodeOfBucket sizes n j) (old_joined sizes past e ok) v) in
       untouched sizes past e w (state_by ReplaceEdge sizes e s) j a (λ h. omega (arith, ok.place, h, low))
       (λ x v. (
         (λ h. let same : x ≡ e.old.index = omega (arith, ok.place, h) in off
@@ -646,8 +646,8 @@ buckets_step sizes z past e kept c k by ok w a = record {
 -- at opening each bucket is empty
 buckets_first : (sizes : Sizes) (j : ℕ) → j < sizes.buckets → IsBucket sizes (opening sizes) (word_at sizes []) j
 buckets_first sizes j low =
-    let none : index_of (word_at sizes [] (bucket_at sizes j)) ≡ nowhere = ap index_of (word_first sizes (Bucket j) low)
-    ∙ index_of-pack nowhere 0 0 (omega arith) in
+    let none : index_of (word_at sizes [] (bucket_at sizes j)) ≡ nowhere
+    = ap index_of (word_first sizes (BucketWord j) low) ∙ index_of-pack nowhere 0 0 (omega arith) in
     record {
       chain = IsChain-from_IsMet (chain_of sizes (opening sizes) (word_at sizes []) j) [] record {
         met = none;

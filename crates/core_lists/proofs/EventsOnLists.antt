@@ -2,7 +2,7 @@
 use Rattle.std.proofs.Common.{◌≡◌, ◌≢◌, ℕ, List, [], ◌∷◌, ◌++◌, refl, sym, ap, ◌∙◌, subst, arith}
 use Rattle.packed_link.specs.Link.{index_of}
 use Rattle.packed_link.specs.Layout.{Sizes, IsLayout}
-use Rattle.core_chain.specs.Chain.{Head, Node}
+use Rattle.core_chain.specs.Chain.{Head, Next}
 use Rattle.core_chain.specs.Steps.{Inserts, Marks, Unlinks, SetsMark, Freezes, Untouched}
 use Rattle.core_journal.specs.declared.event.Kind.{Kind}
 use Rattle.core_journal.specs.declared.event.Kind.TheVariants.{LinkEdge, MarkEdge, UnlinkEdge, FreezeHead, FreezeEdge}
@@ -82,9 +82,9 @@ module _ (sizes : Sizes) (z : IsLayout sizes) (past : List Event) (e : Event) (k
       record {
         present = ((listing sizes z past kept).source e.life.index ok.there ok.linked.linked ok.linked.edge).on;
         sets = subst (λ (t : State). SetsMark (edge_chain sizes past home) (list_chain sizes t words home)
-            (Node e.life.index)) (next_state sizes past e MarkEdge is)
+            (Next e.life.index)) (next_state sizes past e MarkEdge is)
             (mark_sets sizes past e (state_by MarkEdge sizes e (state sizes past)) (λ _. refl)
-            (λ y. since_still MarkEdge tt sizes e (state sizes past) y) home (Node e.life.index) (sym ok.place)
+            (λ y. since_still MarkEdge tt sizes e (state sizes past) y) home (Next e.life.index) (sym ok.place)
             (omega (arith, ok.place, ok.there)) ok.word words (after_event sizes past e));
       }
 
@@ -129,9 +129,9 @@ module _ (sizes : Sizes) (z : IsLayout sizes) (past : List Event) (e : Event) (k
         named = λ none. omega (arith, ok.there, z.few_nodes, none);
         led = ap (λ (p : ℕ). index_of (word_at sizes past p)) d.place_is ∙ ok.leads;
         sets = subst (λ (t : State). SetsMark (edge_chain sizes past home) (list_chain sizes t words home)
-            (Node e.life.index)) (next_state sizes past e FreezeEdge is)
+            (Next e.life.index)) (next_state sizes past e FreezeEdge is)
             (mark_sets sizes past e (state_by FreezeEdge sizes e (state sizes past)) (λ _. refl)
-            (λ y. since_still FreezeEdge tt sizes e (state sizes past) y) home (Node e.life.index) (sym ok.place)
+            (λ y. since_still FreezeEdge tt sizes e (state sizes past) y) home (Next e.life.index) (sym ok.place)
             (omega (arith, ok.place, ok.there)) ok.word words (after_event sizes past e));
       }
 

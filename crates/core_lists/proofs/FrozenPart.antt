@@ -8,7 +8,7 @@ use native.Mathlib.Decide.{ℕ_discrete}
 use Rattle.graph_kinds.specs.Levels.{stands_in}
 use Rattle.packed_link.specs.Link.{nowhere, index_of, mark_of, mark_bit}
 use Rattle.packed_link.specs.Layout.{Sizes, IsLayout, link_at}
-use Rattle.core_chain.specs.Chain.{Chain, ChainWord, Head, Node, IsOn, Precedes}
+use Rattle.core_chain.specs.Chain.{Chain, ChainWord, Head, Next, IsOn, Precedes}
 use Rattle.core_chain.specs.Met.{RisesAlong}
 use Rattle.core_chain.specs.Steps.{IsFrozenTo}
 use Rattle.core_chain.proofs.Orders.{before_then}
@@ -32,14 +32,14 @@ pub record IsEnd (sizes : Sizes) (journal : List Event) (x place : ℕ) : Type 0
   pub place_is : list_word sizes x at ≡ place
   pub on : IsOn (edge_chain sizes journal x) at
   pub head : (state sizes journal).frozen x ≡ true
-  pub part : (y : ℕ) → at ≡ Node y → stands_in (frozen_part (state sizes journal) x) y ≡ true
+  pub part : (y : ℕ) → at ≡ Next y → stands_in (frozen_part (state sizes journal) x) y ≡ true
 
 pub frozen_end : (sizes : Sizes) (journal : List Event) (x place : ℕ) → IsFrozenWord sizes journal x place
     → IsEnd sizes journal x place
 frozen_end sizes journal x place f = ⊎_elim
     (λ h. record { at = Head; place_is = sym h; on = tt; head = f.head; part = λ y p. absurd (cc) })
     (λ (h : (y : ℕ) × (stands_in (frozen_part (state sizes journal) x) y ≡ true) × (place ≡ link_at sizes y)). record {
-      at = Node h.0;
+      at = Next h.0;
       place_is = sym h.2;
       on = part_listed (state sizes journal).node (state sizes journal).edges (state sizes journal).frozen x h.0 h.1;
       head = f.head;
@@ -74,16 +74,16 @@ frozen_parts sizes z journal kept =
 -- each node that rises behind a word stands behind it
 rises_behind : (c : Chain) (p : ChainWord) (xs : List ℕ) (v : ℕ) → RisesAlong c p xs → stands_in xs v ≡ true →
     Precedes c p
-    (Node v)
+    (Next v)
 rises_behind c p [] v rising on = absurd (cc)
 rises_behind c p (x ∷ xs) v rising on =
-    stands_case (Precedes c p (Node v)) x v xs on (λ same. subst (λ (u : ℕ). Precedes c p (Node u)) same rising.0)
-    (λ _ later. before_then c p (Node x) (Node v) rising.0 (rises_behind c (Node x) xs v rising.1 later))
+    stands_case (Precedes c p (Next v)) x v xs on (λ same. subst (λ (u : ℕ). Precedes c p (Next u)) same rising.0)
+    (λ _ later. before_then c p (Next x) (Next v) rising.0 (rises_behind c (Next x) xs v rising.1 later))
 
 -- what stands no further than a node of the longest part that passes a test is in it, where the nodes rise
 part_before : (c : Chain) (test : ℕ → Bool) (p : ChainWord) (xs : List ℕ) (y v : ℕ) → RisesAlong c p xs → stands_in
     (take_while test xs)
-    y ≡ true → stands_in xs v ≡ true → (Precedes c (Node y) (Node v) → ⊥) → stands_in (take_while test xs)
+    y ≡ true → stands_in xs v ≡ true → (Precedes c (Next y) (Next v) → ⊥) → stands_in (take_while test xs)
     v ≡ true
 part_before c test p [] y v rising h on not_behind = absurd (cc)
 part_before c test p (x ∷ xs) y v rising h on not_behind =
@@ -93,9 +93,9 @@ part_before c test p (x ∷ xs) y v rising h on not_behind =
     (λ same. stands_here x v (take_while test xs) same)
     (λ _ later. stands_later x v (take_while test xs) (stands_case (stands_in (take_while test xs) v ≡ true) x y
     (take_while test xs) (sym (ap (λ (l : List ℕ). stands_in l y) (part_more test x xs e)) ∙ h)
-    (λ same. absurd (not_behind (subst (λ (u : ℕ). Precedes c (Node u) (Node v)) same
-    (rises_behind c (Node x) xs v rising.1 later))))
-    (λ _ more. part_before c test (Node x) xs y v rising.1 more later not_behind))))
+    (λ same. absurd (not_behind (subst (λ (u : ℕ). Precedes c (Next u) (Next v)) same
+    (rises_behind c (Next x) xs v rising.1 later))))
+    (λ _ more. part_before c test (Next x) xs y v rising.1 more later not_behind))))
     (λ e. let t : false ≡ true = sym (ap (λ (l : List ℕ). stands_in l y) (part_end test x xs e)) ∙ h in absurd (cc))
 
 module _ (sizes : Sizes) (z : IsLayout sizes) (journal : List Event) (kept : IsKept sizes journal) (x : ℕ)
@@ -111,13 +111,13 @@ module _ (sizes : Sizes) (z : IsLayout sizes) (journal : List Event) (kept : IsK
 
   -- and so are all words up to one of it
   before_marked : (at p : ChainWord)
-      → ((y : ℕ) → at ≡ Node y → stands_in (frozen_part (state sizes journal) x) y ≡ true)
+      → ((y : ℕ) → at ≡ Next y → stands_in (frozen_part (state sizes journal) x) y ≡ true)
       → IsOn (edge_chain sizes journal x) p → (Precedes (edge_chain sizes journal x) at p → ⊥) →
       (edge_chain sizes journal x).mark p ≡ 1
   before_marked at Head part on not_behind = (((contents sizes z journal kept).each x o.there).vertex o.used
       o.vertex).second_mark ∙ ap mark_bit head
-  before_marked Head (Node v) part on not_behind = absurd (not_behind (inl (omega arith)))
-  before_marked (Node y) (Node v) part on not_behind =
+  before_marked Head (Next v) part on not_behind = absurd (not_behind (inl (omega arith)))
+  before_marked (Next y) (Next v) part on not_behind =
       let s : State = state sizes journal in
       let test : ℕ → Bool = λ u. (s.node u).marked in
       let h : stands_in (take_while test (s.edges x)) y ≡ true = subst

@@ -2,7 +2,7 @@
 use Rattle.std.proofs.Common.{◌≡◌, ◌≢◌, ℕ, List, [], ◌∷◌, ◌++◌, refl, sym, ap, ap₂, ◌∙◌, subst}
 use Rattle.packed_link.specs.Link.{index_of, nowhere}
 use Rattle.packed_link.specs.Layout.{Sizes, IsLayout, link_at}
-use Rattle.core_chain.specs.Chain.{ChainWord, Head, Node}
+use Rattle.core_chain.specs.Chain.{ChainWord, Head, Next}
 use Rattle.core_chain.specs.Met.{MeetsFrom}
 use Rattle.core_journal.specs.declared.event.Event.{Event}
 use Rattle.core_journal.specs.Machine.{word_at}
@@ -25,7 +25,7 @@ module _ (sizes : Sizes) (journal : List Event) (x : ℕ) where
     some,
     refl,
   )
-  path_more at (d ∷ ds) place y h f leads some = (h.0, h.1, h.2, path_more (Node d) ds place y h.3 f leads some)
+  path_more at (d ∷ ds) place y h f leads some = (h.0, h.1, h.2, path_more (Next d) ds place y h.3 f leads some)
 
   -- where its last word leads to none, what one meets from its first position are these edges
   path_met : (at : ChainWord) (ys nodes : List ℕ) (place : ℕ) → FrozenPath sizes journal x at ys place → index_of
@@ -36,8 +36,8 @@ module _ (sizes : Sizes) (journal : List Event) (x : ℕ) where
   path_met at (d ∷ ds) [] place h none m = absurd (h.2 (sym h.1 ∙ m))
   path_met at (d ∷ ds) (y ∷ ys) place h none m =
       let same : y ≡ d = sym m.0 ∙ h.1 in
-      ap₂ (λ (a : ℕ) (l : List ℕ). a ∷ l) same (path_met (Node d) ds ys place h.3 none
-      (subst (λ (i : ℕ). MeetsFrom (edge_chain sizes journal x) (Node i) ys) same m.2))
+      ap₂ (λ (a : ℕ) (l : List ℕ). a ∷ l) same (path_met (Next d) ds ys place h.3 none
+      (subst (λ (i : ℕ). MeetsFrom (edge_chain sizes journal x) (Next i) ys) same m.2))
 
   -- so the path from the head meets the list
   pub path_all : IsLayout sizes → IsKept sizes journal → KeepsList sizes journal x → (ys : List ℕ) (place : ℕ)

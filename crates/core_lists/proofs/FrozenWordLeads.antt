@@ -5,7 +5,7 @@ use Rattle.std.specs.Prelude.{take_while}
 use Rattle.graph_kinds.specs.Levels.{stands_in}
 use Rattle.packed_link.specs.Link.{nowhere, index_of}
 use Rattle.packed_link.specs.Layout.{Sizes, IsLayout}
-use Rattle.core_chain.specs.Chain.{Chain, ChainWord, Head, Node}
+use Rattle.core_chain.specs.Chain.{Chain, ChainWord, Head, Next}
 use Rattle.core_chain.specs.Met.{MeetsFrom}
 use Rattle.core_journal.specs.declared.event.Event.{Event}
 use Rattle.core_journal.specs.Machine.{word_at}
@@ -29,14 +29,14 @@ module _ (c : Chain) (test : ℕ → Bool) where
 
   later_in : (p : ChainWord) (xs : List ℕ) (z y : ℕ) → MeetsFrom c p xs → stands_in (take_while test xs) z ≡ true →
       c.next
-      (Node z) ≡ y → y ≢ nowhere → test y ≡ true → stands_in (take_while test xs) y ≡ true
+      (Next z) ≡ y → y ≢ nowhere → test y ≡ true → stands_in (take_while test xs) y ≡ true
   later_in p [] z y m h n some t = absurd (cc)
   later_in p (x ∷ xs) z y m h n some t = yes_no (stands_in (take_while test (x ∷ xs)) y ≡ true) (test x)
       (λ e. ap (λ (l : List ℕ). stands_in l y) (part_more test x xs e) ∙ stands_later x y (take_while test xs)
       (stands_case (stands_in (take_while test xs) y ≡ true) x z (take_while test xs)
       (sym (ap (λ (l : List ℕ). stands_in l z) (part_more test x xs e)) ∙ h)
-      (λ same. first_in (Node x) xs y m.2 (ap (λ (u : ℕ). c.next (Node u)) same ∙ n) some t)
-      (λ _ later. later_in (Node x) xs z y m.2 later n some t)))
+      (λ same. first_in (Next x) xs y m.2 (ap (λ (u : ℕ). c.next (Next u)) same ∙ n) some t)
+      (λ _ later. later_in (Next x) xs z y m.2 later n some t)))
       (λ e. let f : false ≡ true = sym (ap (λ (l : List ℕ). stands_in l z) (part_end test x xs e)) ∙ h in absurd (cc))
 
   first_ends : (p : ChainWord) (xs : List ℕ) (v : ℕ) → MeetsFrom c p xs → c.next p ≡ nowhere → stands_in xs v ≡ true
@@ -46,15 +46,15 @@ module _ (c : Chain) (test : ℕ → Bool) where
 
   later_ends : (p : ChainWord) (xs : List ℕ) (z v : ℕ) → MeetsFrom c p xs → stands_in (take_while test xs) z ≡ true →
       c.next
-      (Node z) ≡ nowhere → stands_in xs v ≡ true → test v ≡ true
+      (Next z) ≡ nowhere → stands_in xs v ≡ true → test v ≡ true
   later_ends p [] z v m h n on = absurd (cc)
   later_ends p (x ∷ xs) z v m h n on = yes_no (test v ≡ true) (test x)
       (λ e. stands_case (test v ≡ true) x v xs on
       (λ same. ap test (sym same) ∙ e)
       (λ _ behind. stands_case (test v ≡ true) x z (take_while test xs)
       (sym (ap (λ (l : List ℕ). stands_in l z) (part_more test x xs e)) ∙ h)
-      (λ same. first_ends (Node x) xs v m.2 (ap (λ (u : ℕ). c.next (Node u)) same ∙ n) behind)
-      (λ _ later. later_ends (Node x) xs z v m.2 later n behind)))
+      (λ same. first_ends (Next x) xs v m.2 (ap (λ (u : ℕ). c.next (Next u)) same ∙ n) behind)
+      (λ _ later. later_ends (Next x) xs z v m.2 later n behind)))
       (λ e. let f : false ≡ true = sym (ap (λ (l : List ℕ). stands_in l z) (part_end test x xs e)) ∙ h in absurd (cc))
 
 module _ (sizes : Sizes) (z : IsLayout sizes) (journal : List Event) (kept : IsKept sizes journal) (x place : ℕ)
@@ -71,12 +71,12 @@ module _ (sizes : Sizes) (z : IsLayout sizes) (journal : List Event) (kept : IsK
   in_part : (y : ℕ) → stands_in (take_while test list) y ≡ true → is_frozen (state sizes journal) x y ≡ true
   in_part y h = subst (λ (b : Bool). stands_in (cond b (take_while test list) []) y ≡ true) (sym f.head) h
 
-  next_at : (at : ChainWord) → list_word sizes x at ≡ place → ((v : ℕ) → at ≡ Node v → is_frozen
+  next_at : (at : ChainWord) → list_word sizes x at ≡ place → ((v : ℕ) → at ≡ Next v → is_frozen
       (state sizes journal) x v ≡ true) → (y : ℕ) → index_of (word_at sizes journal place) ≡ y → y ≢ nowhere
       → test y ≡ true → is_frozen (state sizes journal) x y ≡ true
   next_at Head is part y leads some t = in_part y (first_in (edge_chain sizes journal x) test Head list y
       (kept_met sizes z journal kept x k).met (ap (λ (i : ℕ). index_of (word_at sizes journal i)) is ∙ leads) some t)
-  next_at (Node v) is part y leads some t = in_part y (later_in (edge_chain sizes journal x) test Head list v y
+  next_at (Next v) is part y leads some t = in_part y (later_in (edge_chain sizes journal x) test Head list v y
       (kept_met sizes z journal kept x k).met (in_list v (part v refl))
       (ap (λ (i : ℕ). index_of (word_at sizes journal i)) is ∙ leads) some t)
 
@@ -85,12 +85,12 @@ module _ (sizes : Sizes) (z : IsLayout sizes) (journal : List Event) (kept : IsK
       (state sizes journal) x y ≡ true
   frozen_next = let d = frozen_end sizes journal x place f in next_at d.at d.place_is d.part
 
-  ends_at : (at : ChainWord) → list_word sizes x at ≡ place → ((v : ℕ) → at ≡ Node v → is_frozen
+  ends_at : (at : ChainWord) → list_word sizes x at ≡ place → ((v : ℕ) → at ≡ Next v → is_frozen
       (state sizes journal) x v ≡ true) → index_of (word_at sizes journal place) ≡ nowhere → (v : ℕ)
       → stands_in list v ≡ true → test v ≡ true
   ends_at Head is part none v on = first_ends (edge_chain sizes journal x) test Head list v
       (kept_met sizes z journal kept x k).met (ap (λ (i : ℕ). index_of (word_at sizes journal i)) is ∙ none) on
-  ends_at (Node u) is part none v on = later_ends (edge_chain sizes journal x) test Head list u v
+  ends_at (Next u) is part none v on = later_ends (edge_chain sizes journal x) test Head list u v
       (kept_met sizes z journal kept x k).met (in_list u (part u refl))
       (ap (λ (i : ℕ). index_of (word_at sizes journal i)) is ∙ none) on
 

@@ -11,7 +11,7 @@ use Rattle.graph_kinds.specs.Levels.{stands_in}
 use Rattle.packed_link.specs.Link.{index_of, mark_of, nowhere}
 use Rattle.packed_link.specs.Layout.{Sizes, IsLayout, bucket_at, key_at, link_at, second_at}
 use Rattle.packed_link.specs.declared.link.Life.{Life}
-use Rattle.core_chain.specs.Chain.{Chain, ChainWord, Head, Node, IsOn, IsChain, Precedes, rank_of}
+use Rattle.core_chain.specs.Chain.{Chain, ChainWord, Head, Next, IsOn, IsChain, Precedes, rank_of}
 use Rattle.core_chain.specs.Met.{MeetsFrom}
 use Rattle.core_chain.proofs.Orders.{by_rank, one_leads, before_same}
 use Rattle.core_journal.specs.declared.event.Event.{Event}
@@ -38,45 +38,45 @@ leads_to_vertex sizes z journal kept j x p low on next there =
     let c = ((buckets sizes z journal kept).each j low).chain in
     let some : (bucket_chain sizes journal j).next p ≢ nowhere = λ h. omega (arith, h, next, there, z.few_nodes) in
     let goes = (c.leads p on some).0 in
-    let v = is_in sizes (state sizes journal) j x (subst (λ (y : ℕ). IsOn (bucket_chain sizes journal j) (Node y)) next
+    let v = is_in sizes (state sizes journal) j x (subst (λ (y : ℕ). IsOn (bucket_chain sizes journal j) (Next y)) next
     goes) in
     record { linked = v.linked; vertex = v.vertex }
 
 -- the node whose link a word is
 abbrev node_of : ChainWord → ℕ
 node_of Head = 0
-node_of (Node x) = x
+node_of (Next x) = x
 
 -- along a chain, a word behind which a node of the longest prefix that passes a test stands is the first, or of that
 -- prefix
-before_part : (c : Chain) → IsChain c → (test : ℕ → Bool) (p : ℕ) → IsOn c (Node p) → (q : ChainWord) (xs : List ℕ)
-    → IsOn c q → MeetsFrom c q xs → Precedes c q (Node p) → c.next (Node p) ≢ nowhere → stands_in (take_while test xs)
-    (c.next (Node p)) ≡ true → stands_in (take_while test xs) p ≡ true
+before_part : (c : Chain) → IsChain c → (test : ℕ → Bool) (p : ℕ) → IsOn c (Next p) → (q : ChainWord) (xs : List ℕ)
+    → IsOn c q → MeetsFrom c q xs → Precedes c q (Next p) → c.next (Next p) ≢ nowhere → stands_in (take_while test xs)
+    (c.next (Next p)) ≡ true → stands_in (take_while test xs) p ≡ true
 before_part c is test p on q [] here met before some h = absurd (cc)
 before_part c is test p on q (a ∷ rest) here met before some h =
     let leads : c.next q ≡ a = met.0 in
     let there = is.leads q here (λ none. met.1 (sym leads ∙ none)) in
-    let on_a : IsOn c (Node a) = subst (λ (y : ℕ). IsOn c (Node y)) leads there.0 in
-    let next : Precedes c (Node a) (Node p) → stands_in (take_while test rest) (c.next (Node p)) ≡ true → stands_in
+    let on_a : IsOn c (Next a) = subst (λ (y : ℕ). IsOn c (Next y)) leads there.0 in
+    let next : Precedes c (Next a) (Next p) → stands_in (take_while test rest) (c.next (Next p)) ≡ true → stands_in
     (take_while test rest)
-    p ≡ true = λ low. before_part c is test p on (Node a) rest on_a met.2 low some in
+    p ≡ true = λ low. before_part c is test p on (Next a) rest on_a met.2 low some in
     yes_no (stands_in (take_while test (a ∷ rest)) p ≡ true) (test a)
     (λ t. ap (λ (l : List ℕ). stands_in l p) (take_while-cons test a rest ∙ ap
     (λ (b : Bool). cond b (a ∷ take_while test rest) []) t)
-    ∙ stands_case (stands_in (a ∷ take_while test rest) p ≡ true) a (c.next (Node p)) (take_while test rest)
-    (sym (ap (λ (l : List ℕ). stands_in l (c.next (Node p)))
+    ∙ stands_case (stands_in (a ∷ take_while test rest) p ≡ true) a (c.next (Next p)) (take_while test rest)
+    (sym (ap (λ (l : List ℕ). stands_in l (c.next (Next p)))
     (take_while-cons test a rest ∙ ap (λ (b : Bool). cond b (a ∷ take_while test rest) []) t)) ∙ h)
-    (λ same. let one : Node p ≡ q = one_leads c (Node p) q is on here some (sym same ∙ sym leads) in absurd
-    (before_same c q (Node p) before (sym one)))
+    (λ same. let one : Next p ≡ q = one_leads c (Next p) q is on here some (sym same ∙ sym leads) in absurd
+    (before_same c q (Next p) before (sym one)))
     (λ _ later. dite (ℕ_discrete a p)
     (λ same. stands_here a p (take_while test rest) same)
-    (λ ne. stands_later a p (take_while test rest) (by_rank c (Node a) (Node p)
-    (λ e f. absurd (ne (ap node_of (is.alone (Node a) (Node p) on_a on e f))))
+    (λ ne. stands_later a p (take_while test rest) (by_rank c (Next a) (Next p)
+    (λ e f. absurd (ne (ap node_of (is.alone (Next a) (Next p) on_a on e f))))
     (λ low. next low later)
-    (λ high. absurd (is.gap q (Node p) here on before (subst (λ (y : ℕ). Precedes c (Node p) (Node y))
+    (λ high. absurd (is.gap q (Next p) here on before (subst (λ (y : ℕ). Precedes c (Next p) (Next y))
     (sym leads) high)))))))
-    (λ f. let none : stands_in [] (c.next (Node p)) ≡ true = sym
-    (ap (λ (l : List ℕ). stands_in l (c.next (Node p))) (take_while-cons test a rest ∙ ap
+    (λ f. let none : stands_in [] (c.next (Next p)) ≡ true = sym
+    (ap (λ (l : List ℕ). stands_in l (c.next (Next p))) (take_while-cons test a rest ∙ ap
     (λ (b : Bool). cond b (a ∷ take_while test rest) []) f)) ∙ h in absurd (cc))
 
 -- the unmarked second word of a vertex, or the unmarked link of an edge of it, leads to linked edges
@@ -102,7 +102,7 @@ module _ (sizes : Sizes) (z : IsLayout sizes) (journal : List Event) (kept : IsK
   on_list x y p has on next there =
       let c = ((lists sizes z journal kept).each x (has_open sizes journal x has)).chain in
       let some : (edge_chain sizes journal x).next p ≢ nowhere = λ h. omega (arith, h, next, there, z.few_nodes) in
-      subst (λ (i : ℕ). IsOn (edge_chain sizes journal x) (Node i)) next (c.leads p on some).0
+      subst (λ (i : ℕ). IsOn (edge_chain sizes journal x) (Next i)) next (c.leads p on some).0
 
   edge_of : (x y : ℕ) → HasList sizes journal x → is_listed (state sizes journal) x y ≡ true → is_frozen
       (state sizes journal) x y ≡ false → IsLinkedEdge sizes journal y
@@ -129,9 +129,9 @@ module _ (sizes : Sizes) (z : IsLayout sizes) (journal : List Event) (kept : IsK
       let at = (sources sizes z journal kept).each p within from.linked in
       let x : ℕ = (node_in sizes journal p).source.index in
       let c = (lists sizes z journal kept).each x (has_open sizes journal x at.list) in
-      let some : (edge_chain sizes journal x).next (Node p) ≢ nowhere = λ h. omega
+      let some : (edge_chain sizes journal x).next (Next p) ≢ nowhere = λ h. omega
       (arith, h, next, there, z.few_nodes) in
-      edge_of x y at.list (on_list x y (Node p) at.list at.on next there)
+      edge_of x y at.list (on_list x y (Next p) at.list at.on next there)
       (yes_no (is_frozen (state sizes journal) x y ≡ false) (is_frozen (state sizes journal) x y)
       (λ t. let part = frozen_before x p at.on c.chain c.met some
       (subst (λ (i : ℕ). is_frozen (state sizes journal) x i ≡ true) (sym next) t) in
@@ -142,14 +142,14 @@ module _ (sizes : Sizes) (z : IsLayout sizes) (journal : List Event) (kept : IsK
     where
       frozen_before : (x p : ℕ) → is_listed (state sizes journal) x p ≡ true → IsChain (edge_chain sizes journal x)
           → MeetsFrom (edge_chain sizes journal x) Head ((state sizes journal).edges x) →
-          (edge_chain sizes journal x).next (Node p) ≢ nowhere
-          → is_frozen (state sizes journal) x ((edge_chain sizes journal x).next (Node p)) ≡ true → is_frozen
+          (edge_chain sizes journal x).next (Next p) ≢ nowhere
+          → is_frozen (state sizes journal) x ((edge_chain sizes journal x).next (Next p)) ≡ true → is_frozen
           (state sizes journal) x p ≡ true
       frozen_before x p on chain met some h = by ((state sizes journal).frozen x) h
         where
           by : (b : Bool) → stands_in (cond b (take_while (λ i. (node_in sizes journal i).marked)
               ((state sizes journal).edges x)) [])
-              ((edge_chain sizes journal x).next (Node p)) ≡ true
+              ((edge_chain sizes journal x).next (Next p)) ≡ true
               → stands_in (cond b (take_while (λ i. (node_in sizes journal i).marked) ((state sizes journal).edges x))
               []) p ≡ true
           by true t = before_part (edge_chain sizes journal x) chain (λ i. (node_in sizes journal i).marked) p on Head
@@ -195,7 +195,7 @@ leads_same word word' P Q same more l = ⊎_elim (λ (none : index_of word ≡ n
 
 module _ (sizes : Sizes) (z : IsLayout sizes) (journal : List Event) (kept : IsKept sizes journal) where
   -- a node on the chain of a bucket
-  on_bucket : (j y : ℕ) → IsOn (bucket_chain sizes journal j) (Node y) → IsLinkedFirst sizes journal j y
+  on_bucket : (j y : ℕ) → IsOn (bucket_chain sizes journal j) (Next y) → IsLinkedFirst sizes journal j y
   on_bucket j y on =
       let v = is_in sizes (state sizes journal) j y on in
       record {
@@ -217,11 +217,11 @@ module _ (sizes : Sizes) (z : IsLayout sizes) (journal : List Event) (kept : IsK
   vertex_leads x v = leads_case (word_at sizes journal (link_at sizes x)) (IsLinkedBehind sizes journal x)
       (λ some.
       let j : ℕ = (node_in sizes journal x).key % sizes.buckets in
-      let on : IsOn (bucket_chain sizes journal j) (Node x) = home_in sizes z journal kept x j v refl in
+      let on : IsOn (bucket_chain sizes journal j) (Next x) = home_in sizes z journal kept x j v refl in
       let goes = ((buckets sizes z journal kept).each j (home_low sizes z journal kept
-      (node_in sizes journal x).key)).chain.leads (Node x) on some in
-      let low : rank_of (bucket_chain sizes journal j) (Node x) < rank_of (bucket_chain sizes journal j)
-      (Node (index_of (word_at sizes journal (link_at sizes x)))) = ⊎_elim (λ h. h)
+      (node_in sizes journal x).key)).chain.leads (Next x) on some in
+      let low : rank_of (bucket_chain sizes journal j) (Next x) < rank_of (bucket_chain sizes journal j)
+      (Next (index_of (word_at sizes journal (link_at sizes x)))) = ⊎_elim (λ h. h)
       (λ h. absurd (let u = h.1 in omega arith)) goes.1 in
       let y = on_bucket j (index_of (word_at sizes journal (link_at sizes x))) goes.0 in
       record {
@@ -253,7 +253,7 @@ module _ (sizes : Sizes) (z : IsLayout sizes) (journal : List Event) (kept : IsK
       let at = (sources sizes z journal kept).each x within v in
       let home : ℕ = (node_in sizes journal x).source.index in
       let chain = ((lists sizes z journal kept).each home (has_open sizes journal home at.list)).chain in
-      let goes = chain.leads (Node x) at.on some in
+      let goes = chain.leads (Next x) at.on some in
       let there = ((listing sizes z journal kept).on home (index_of (word_at sizes journal (link_at sizes x)))
       goes.0).there in
       let y = leads_from_edge sizes z journal kept (node_in sizes journal x).source x
@@ -262,11 +262,11 @@ module _ (sizes : Sizes) (z : IsLayout sizes) (journal : List Event) (kept : IsK
         there = there;
         linked = y.linked;
         kind = y.edge ∙ sym v.edge;
-        rising = ⊎_elim {A = rank_of (edge_chain sizes journal home) (Node x) < rank_of (edge_chain sizes journal home)
-            (Node (index_of (word_at sizes journal (link_at sizes x))))}
+        rising = ⊎_elim {A = rank_of (edge_chain sizes journal home) (Next x) < rank_of (edge_chain sizes journal home)
+            (Next (index_of (word_at sizes journal (link_at sizes x))))}
             (λ low. omega (arith, low)) (λ same. let u = same.0 in omega (arith, u)) goes.1;
         strictly = λ c. ⊎_elim {A = (node_in sizes journal x).vertex ≡ true} (λ t. let f = v.edge in absurd (cc))
-            (λ live. let low = chain.rises (Node x) at.on live some in omega (arith, low)) c;
+            (λ live. let low = chain.rises (Next x) at.on live some in omega (arith, low)) c;
         bucket = λ t. let f = v.edge in absurd (cc);
         source = λ _. one_source home (index_of (word_at sizes journal (link_at sizes x))) x goes.0 at.on;
       })

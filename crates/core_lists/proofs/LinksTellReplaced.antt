@@ -23,7 +23,7 @@ use Rattle.core_kept.specs.Edges.{IsReplaceEdge}
 use Rattle.core_lists.specs.Chains.{life_in, HasList}
 use Rattle.core_kept.specs.Facts.{HasMet}
 use Rattle.core_lists.specs.Walks.{IsMetBehind}
-use Rattle.core_chain.specs.Chain.{Node as At}
+use Rattle.core_chain.specs.Chain.{Next}
 use Rattle.core_lists.proofs.ListChains.{lists}
 use Rattle.core_lists.proofs.ListHoldsKept.{has_open}
 use Rattle.core_lists.proofs.MetWordsLead.{walk_link}
@@ -289,7 +289,7 @@ same_key_marked sizes z journal kept x there r some same = record {
     rises live = ⊎_elim
         (λ (l : (home : ℕ) × HasList sizes journal home × (is_listed (state sizes journal) home x ≡ true)).
         let low = ((lists sizes z journal kept).each l.0 (has_open sizes journal l.0 l.1)).chain.rises
-        (At x) l.2 live some in omega (arith, low))
+        (Next x) l.2 live some in omega (arith, low))
         (λ (m : (caller : ℕ) × HasMet sizes journal caller x). ⊎_elim
         (λ (none : index_of (word_at sizes journal (link_at sizes x)) ≡ nowhere). absurd (some none))
         (λ (b : IsMetBehind sizes journal m.0 x (index_of (word_at sizes journal (link_at sizes x)))). b.strictly

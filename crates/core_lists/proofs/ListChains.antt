@@ -9,7 +9,7 @@ use Rattle.packed_link.specs.Link.{nowhere, index_of, mark_of, tag_of, with_mark
 use Rattle.packed_link.specs.Layout.{Sizes, IsLayout, word_count, key_at, link_at, second_at}
 use Rattle.packed_link.specs.declared.link.Life.{Life}
 use Rattle.packed_link.proofs.Links.{index_of-pack, index_of-bound}
-use Rattle.core_chain.specs.Chain.{Chain, ChainWord, Head, Node, IsOn, IsChain}
+use Rattle.core_chain.specs.Chain.{Chain, ChainWord, Head, Next, IsOn, IsChain}
 use Rattle.core_chain.specs.Met.{MeetsFrom, IsMet}
 use Rattle.core_chain.specs.Steps.{CanInsert, CanUnlink, Inserts, Joins, Unlinks, SetsMark, Untouched, CanReplace}
 use Rattle.core_chain.specs.Steps.{Replaces}
@@ -28,7 +28,7 @@ use Rattle.core_journal.specs.declared.event.Event.{Event}
 use Rattle.core_journal.specs.Machine.{word_at}
 use Rattle.core_journal.specs.State.{Free, Fresh, Linked, Spent, State, linked_in, unlinked_from, state_by}
 use Rattle.core_journal.specs.State.{state, joined_edge}
-use Rattle.core_journal.specs.State.{Node as Nodes}
+use Rattle.core_journal.specs.State.{Node}
 use Rattle.core_kept.specs.Kept.{AllowedAs, IsKept}
 use Rattle.core_kept.specs.Nodes.{node_in, IsUsed, is_listed}
 use Rattle.core_kept.specs.Edges.{IsLinkEdge, IsUnlinkEdge, IsReplaceEdge}
@@ -67,12 +67,12 @@ alone sizes x Head = record { words = λ p ne h. word p ne h; keys = λ y h. ome
   where
     word : (p : ChainWord) → p ≢ Head → list_word sizes x p ≢ second_at sizes x
     word Head ne h = ne refl
-    word (Node y) ne h = omega arith
-alone sizes x (Node n) = record { words = λ p ne h. word p ne h; keys = λ y h. omega arith }
+    word (Next y) ne h = omega arith
+alone sizes x (Next n) = record { words = λ p ne h. word p ne h; keys = λ y h. omega arith }
   where
-    word : (p : ChainWord) → p ≢ Node n → list_word sizes x p ≢ link_at sizes n
+    word : (p : ChainWord) → p ≢ Next n → list_word sizes x p ≢ link_at sizes n
     word Head ne h = omega arith
-    word (Node y) ne h = ne (ap Node (omega arith))
+    word (Next y) ne h = ne (ap Next (omega arith))
 
 -- a list that stays
 pub stays : (sizes : Sizes) (s s' : State) (w w' : ℕ → ℕ) (x : ℕ) → s'.edges x ≡ s.edges x → Untouched
@@ -118,7 +118,7 @@ untouched sizes past e w s' x a off still same = record {
     word : (p : ChainWord) → IsOn (edge_chain sizes past x) p → w (list_word sizes x p) ≡ word_at sizes past
         (list_word sizes x p)
     word Head on = a.else (second_at sizes x) (λ h. off.head (sym h))
-    word (Node y) on = a.else (link_at sizes y) (λ h. off.links y on (sym h))
+    word (Next y) on = a.else (link_at sizes y) (λ h. off.links y on (sym h))
 
 -- the kinds that change no list of edges
 abbrev pub IsOffLists : Kind → Type 0
@@ -315,7 +315,7 @@ pub record IsListSpot (sizes : Sizes) (past : List Event) (e : Event) (x : ℕ) 
   pub at : ChainWord
   pub place : list_word sizes x at ≡ e.place
   pub on : IsOn (edge_chain sizes past x) at
-  pub behind : (y : ℕ) → at ≡ Node y → stands_in ((state sizes past).edges x) y ≡ true
+  pub behind : (y : ℕ) → at ≡ Next y → stands_in ((state sizes past).edges x) y ≡ true
 
 -- an edge is linked: it's inserted into the list of its source
 module _ (sizes : Sizes) (z : IsLayout sizes) (past : List Event) (e : Event) (kept : IsKept sizes past)
@@ -340,7 +340,7 @@ module _ (sizes : Sizes) (z : IsLayout sizes) (past : List Event) (e : Event) (k
       (λ h.
       let t = link_behind ok.before h.1 h.0 in
       record {
-        at = Node ok.before;
+        at = Next ok.before;
         place = sym h.0;
         on = t;
         behind = λ y p. let q : ok.before ≡ y = cc in subst
@@ -371,10 +371,10 @@ module _ (sizes : Sizes) (z : IsLayout sizes) (past : List Event) (e : Event) (k
       above : (p : ChainWord) → list_word sizes link_home p ≡ e.place → StandsBelow (edge_chain sizes past link_home) p
           (word_at sizes past (key_at sizes e.life.index))
       above Head at = tt
-      above (Node y) at = let k = ok.filled.key_word in let g = ok.gap.below y (sym at) in omega arith
+      above (Next y) at = let k = ok.filled.key_word in let g = ok.gap.below y (sym at) in omega arith
 
   link_still : (x : ℕ) → IsLinkedStill sizes past link_state x
-  link_still x y on = put_case (λ (v : Nodes). v.since ≡ (node_in sizes past y).since) e.life.index
+  link_still x y on = put_case (λ (v : Node). v.since ≡ (node_in sizes past y).since) e.life.index
       (record (node_in sizes past e.life.index) {
         mode = Linked;
         vertex = false;
@@ -471,7 +471,7 @@ module _ (sizes : Sizes) (z : IsLayout sizes) (past : List Event) (e : Event) (k
         (λ y. stands_in (linked_in sizes (second_at sizes new_home) p e.life.index ((state sizes past).edges new_home))
         y)
         e.life.index) (sym ok.place)
-        (joins_linked sizes (list_places sizes new_home) (list_links sizes new_home) (Node e.old.index) e.life.index
+        (joins_linked sizes (list_places sizes new_home) (list_links sizes new_home) (Next e.old.index) e.life.index
         ((state sizes past).edges new_home) (λ y at. let q : e.old.index ≡ y = cc in subst
         (λ (v : ℕ). stands_in ((state sizes past).edges new_home) v ≡ true) q new_on))
 
@@ -480,7 +480,7 @@ module _ (sizes : Sizes) (z : IsLayout sizes) (past : List Event) (e : Event) (k
     new_else y ne =
         let j : State = joined_edge sizes e (state sizes past) in
         handed_since (j.node e.old.index).source.index (marked_state j e.old.index) y
-        ∙ (put_since j e.old.index (record (j.node e.old.index) { marked = true }) refl y ∙ ap (λ (v : Nodes). v.since)
+        ∙ (put_since j e.old.index (record (j.node e.old.index) { marked = true }) refl y ∙ ap (λ (v : Node). v.since)
         (put_other e.life.index (record (node_in sizes past e.life.index) {
           mode = Linked;
           vertex = false;
@@ -520,7 +520,7 @@ module _ (sizes : Sizes) (z : IsLayout sizes) (past : List Event) (e : Event) (k
         let j : State = joined_edge sizes e (state sizes past) in
         handed_since (j.node e.old.index).source.index (marked_state j e.old.index) e.life.index
         ∙ (put_since j e.old.index (record (j.node e.old.index) { marked = true }) refl e.life.index ∙ ap
-        (λ (v : Nodes). v.since) (put_same e.life.index (record
+        (λ (v : Node). v.since) (put_same e.life.index (record
         (node_in sizes past e.life.index) {
           mode = Linked;
           vertex = false;
@@ -540,7 +540,7 @@ module _ (sizes : Sizes) (z : IsLayout sizes) (past : List Event) (e : Event) (k
           Replaces-in (word_at sizes past) w (list_places sizes new_home) (is_listed (state sizes past) new_home)
           (is_listed new_state new_home) (λ y. (node_in sizes past y).since) (λ y. (new_state.node y).since)
           (new_still new_home) e.old.index e.life.index (tag_of (word_at sizes past e.place))
-          (alone sizes new_home (Node e.old.index)) (omega (arith, ok.there, z.few_nodes)) new_can
+          (alone sizes new_home (Next e.old.index)) (omega (arith, ok.there, z.few_nodes)) new_can
           (omega (arith, new_since, low)) (writes_at sizes past e w _ _ a (sym ok.place)
           (omega (arith, ok.place, ok.old_there)) ok.word) new_nodes
 
@@ -581,7 +581,7 @@ module _ (sizes : Sizes) (z : IsLayout sizes) (past : List Event) (e : Event) (k
       (λ h.
       let t = cut_behind ok.before h.1 h.0 in
       record {
-        at = Node ok.before;
+        at = Next ok.before;
         place = sym h.0;
         on = t;
         behind = λ y p. let q : ok.before ≡ y = cc in subst
@@ -697,12 +697,12 @@ list_after sizes z past e kept UnlinkEdge ok w a x o b = cut_list sizes z past e
 list_after sizes z past e kept MarkEdge ok w a x o b = mark_list sizes past e
     (state_by MarkEdge sizes e (state sizes past)) (λ _. refl)
     (λ y. since_still MarkEdge tt sizes e (state sizes past) y) (node_in sizes past e.life.index).source.index
-    (Node e.life.index) (sym ok.place) (omega (arith, ok.place, ok.there)) ok.word w a x
+    (Next e.life.index) (sym ok.place) (omega (arith, ok.place, ok.there)) ok.word w a x
     (off_mark sizes z past e kept x ok.place) b
 list_after sizes z past e kept FreezeEdge ok w a x o b = mark_list sizes past e
     (state_by FreezeEdge sizes e (state sizes past)) (λ _. refl)
     (λ y. since_still FreezeEdge tt sizes e (state sizes past) y) (node_in sizes past e.life.index).source.index
-    (Node e.life.index) (sym ok.place) (omega (arith, ok.place, ok.there)) ok.word w a x
+    (Next e.life.index) (sym ok.place) (omega (arith, ok.place, ok.there)) ok.word w a x
     (off_mark sizes z past e kept x ok.place) b
 list_after sizes z past e kept FreezeHead ok w a x o b = mark_list sizes past e
     (state_by FreezeHead sizes e (state sizes past)) (λ _. refl)

@@ -5,7 +5,7 @@ use Rattle.graph_kinds.specs.Levels.{stands_in}
 use Rattle.packed_link.specs.Layout.{Sizes, IsLayout, link_at, second_at}
 use Rattle.packed_link.specs.Link.{mark_of, mark_bit}
 use Rattle.packed_link.specs.declared.link.Life.{Life}
-use Rattle.core_chain.specs.Chain.{Node as At, Precedes, rank_of}
+use Rattle.core_chain.specs.Chain.{Next, Precedes, rank_of}
 use Rattle.core_chain.proofs.Orders.{by_order, rises_behind}
 use Rattle.core_journal.specs.declared.event.Kind.{Kind}
 use Rattle.core_journal.specs.declared.event.Kind.TheVariants.{PopFree, LinkVertex, UnlinkVertex, LinkEdge, UnlinkEdge}
@@ -364,7 +364,7 @@ list_key sizes z journal kept x has l f =
     (((contents sizes z journal kept).each l.index i.there).edge used d.edge).key_word ∙
     (sym n.of_key ∙ ap (λ (e : Event). e.key) which)
 
-same_node : (x y : ℕ) → At x ≡ At y → x ≡ y
+same_node : (x y : ℕ) → Next x ≡ Next y → x ≡ y
 same_node x y e = cc
 
 -- the mark of an edge on a list is that of its node
@@ -389,16 +389,16 @@ list_mark sizes z journal kept x has l i live =
 list_older : (sizes : Sizes) → IsLayout sizes → (journal : List Event) → IsKept sizes journal → (x : ℕ)
     → HasList sizes journal x → (k l : Life) → IsInList sizes journal x k → IsInList sizes journal x l →
     (edge_chain sizes journal x).key k.index ≡ (edge_chain sizes journal x).key l.index
-    → Precedes (edge_chain sizes journal x) (At k.index) (At l.index) → IsOlder sizes journal k l
+    → Precedes (edge_chain sizes journal x) (Next k.index) (Next l.index) → IsOlder sizes journal k l
 list_older sizes z journal kept x has k l i j keys low = record {
   marked = yes_no (edge_marked journal k ≡ true) (edge_marked journal k) (λ t. t)
       (λ f.
-      let rises = rises_behind (edge_chain sizes journal x) (At k.index) (At l.index)
+      let rises = rises_behind (edge_chain sizes journal x) (Next k.index) (Next l.index)
       ((lists sizes z journal kept).each x (has_open sizes journal x has)).chain i.on j.on
       (list_mark sizes z journal kept x has k i f) low in
       absurd (omega (arith, rises, keys)));
-  before = ⊎_elim {A = rank_of (edge_chain sizes journal x) (At k.index) < rank_of (edge_chain sizes journal x)
-      (At l.index)} (λ less. absurd (omega (arith, less, keys))) (λ same. same.1) low;
+  before = ⊎_elim {A = rank_of (edge_chain sizes journal x) (Next k.index) < rank_of (edge_chain sizes journal x)
+      (Next l.index)} (λ less. absurd (omega (arith, less, keys))) (λ same. same.1) low;
 }
 
 -- of two edges of one source and one key, on a list that isn't frozen to its end, one is marked and older
@@ -411,7 +411,7 @@ one_listed sizes z journal kept x has k l a b same =
     let j = of_edge sizes z journal kept x has l b in
     let keys : (edge_chain sizes journal x).key k.index ≡ (edge_chain sizes journal x).key l.index = list_key sizes z
     journal kept x has k a ∙ (same ∙ sym (list_key sizes z journal kept x has l b)) in
-    by_order (edge_chain sizes journal x) (At k.index) (At l.index)
+    by_order (edge_chain sizes journal x) (Next k.index) (Next l.index)
     ((lists sizes z journal kept).each x (has_open sizes journal x has)).chain i.on j.on
     (λ e. let at : k.index ≡ l.index = same_node k.index l.index e in inl
     (λ n. record {

@@ -6,7 +6,7 @@ use Rattle.std.proofs.Common.{subst, arith, ⊎_elim}
 use Rattle.graph_kinds.specs.Levels.{stands_in}
 use Rattle.packed_link.specs.Link.{index_of, mark_of, nowhere}
 use Rattle.packed_link.specs.Layout.{Sizes, IsLayout, link_at, second_at}
-use Rattle.core_chain.specs.Chain.{Node as At}
+use Rattle.core_chain.specs.Chain.{Next}
 use Rattle.core_journal.specs.declared.event.Kind.{Kind}
 use Rattle.core_journal.specs.declared.event.Kind.TheVariants.{PopFree, LinkVertex, LinkEdge, UnlinkEdge, ReplaceEdge}
 use Rattle.core_journal.specs.declared.event.Event.{Event}
@@ -107,7 +107,7 @@ module _ (sizes : Sizes) (z : IsLayout sizes) (journal : List Event) (kept : IsK
   next_reach x there r some = ⊎_elim
       (λ (l : (home : ℕ) × HasList sizes journal home × (is_listed (state sizes journal) home x ≡ true)).
       let goes =
-      ((lists sizes z journal kept).each l.0 (has_open sizes journal l.0 l.1)).chain.leads (At x) l.2 some in (
+      ((lists sizes z journal kept).each l.0 (has_open sizes journal l.0 l.1)).chain.leads (Next x) l.2 some in (
         ((listing sizes z journal kept).on l.0 (index_of (word_at sizes journal (link_at sizes x))) goes.0).there,
         inl
             (l.0, l.1, goes.0),

@@ -2,7 +2,7 @@
 use Rattle.std.proofs.Common.{◌≡◌, ℕ, ◌%◌, Bool, true, false, List, Some, refl, sym, ap, ◌∙◌, subst, arith}
 use Rattle.packed_link.specs.Layout.{Sizes, IsLayout}
 use Rattle.packed_link.specs.declared.link.Life.{Life}
-use Rattle.core_chain.specs.Chain.{Node}
+use Rattle.core_chain.specs.Chain.{Next}
 use Rattle.core_journal.specs.declared.event.Event.{Event}
 use Rattle.core_journal.specs.GraphOf.{present_key}
 use Rattle.core_journal.specs.Life.{key_of, vertex_marked, unlinked}
@@ -16,7 +16,7 @@ use Rattle.core_kept.proofs.LinkedVertices.{IsLiveVertex, linked_stays, live_ver
 use Rattle.core_kept.proofs.Named.{life_is, named}
 use Rattle.core_kept.proofs.NodesInPlace.{used_there}
 
-same_node : (x y : ℕ) → Node x ≡ Node y → x ≡ y
+same_node : (x y : ℕ) → Next x ≡ Next y → x ≡ y
 same_node x y e = cc
 
 module _ (sizes : Sizes) (z : IsLayout sizes) (journal : List Event) (kept : IsKept sizes journal) where
@@ -78,7 +78,7 @@ module _ (sizes : Sizes) (z : IsLayout sizes) (journal : List Event) (kept : IsK
       let key_y = key_word sizes z journal kept y.index j (is_in sizes (state sizes journal) j y.index b.on)
       ∙ u.key_is in
       let same : x.index ≡ y.index = same_node x.index y.index
-      (((buckets sizes z journal kept).each j (home_low sizes z journal kept k)).chain.alone (Node x.index)
-      (Node y.index) a.on b.on (omega (arith, key_x, key_y)) refl) in
+      (((buckets sizes z journal kept).each j (home_low sizes z journal kept k)).chain.alone (Next x.index)
+      (Next y.index) a.on b.on (omega (arith, key_x, key_y)) refl) in
       let tags : x.tag ≡ y.tag = v.life ∙ (ap (λ (i : ℕ). (node_in sizes journal i).tag) same ∙ sym u.life) in
       λ i. record { index = same i; tag = tags i }

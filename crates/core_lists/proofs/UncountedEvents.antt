@@ -4,7 +4,7 @@ use Rattle.std.proofs.Common.{sym, ap, ◌∙◌, subst, arith, append_assoc, ap
 use Rattle.std.specs.Prelude.{◌==◌, slice_get}
 use Rattle.std.specs.List.{list_any}
 use Rattle.packed_link.specs.Layout.{Sizes, IsLayout, free_at}
-use Rattle.core_chain.specs.Chain.{Chain, ChainWord, Head, Node as On, IsOn}
+use Rattle.core_chain.specs.Chain.{Chain, ChainWord, Head, Next, IsOn}
 use Rattle.core_chain.specs.Steps.{Untouched}
 use Rattle.core_journal.specs.declared.event.Kind.{Kind}
 use Rattle.core_journal.specs.declared.event.Kind.TheVariants.{DrawNumber, StorePrivate, Announce, Withdraw, MoveEpoch}
@@ -30,13 +30,13 @@ use Rattle.core_lists.proofs.EffectOfKinds.{effect}
 -- a chain that isn't touched, twice
 untouched_on : (old mid : Chain) → Untouched old mid → (p : ChainWord) → IsOn old p → IsOn mid p
 untouched_on old mid u Head h = tt
-untouched_on old mid u (On x) h = subst IsTrue (sym (u.nodes x)) h
+untouched_on old mid u (Next x) h = subst IsTrue (sym (u.nodes x)) h
 
 untouched_twice : (old mid new : Chain) → Untouched old mid → Untouched mid new → Untouched old new
 untouched_twice old mid new a b = record {
   nodes = λ x. b.nodes x ∙ a.nodes x;
-  key = λ x h. b.key x (untouched_on old mid a (On x) h) ∙ a.key x h;
-  since = λ x h. b.since x (untouched_on old mid a (On x) h) ∙ a.since x h;
+  key = λ x h. b.key x (untouched_on old mid a (Next x) h) ∙ a.key x h;
+  since = λ x h. b.since x (untouched_on old mid a (Next x) h) ∙ a.since x h;
   next = λ p h. b.next p (untouched_on old mid a p h) ∙ a.next p h;
   mark = λ p h. b.mark p (untouched_on old mid a p h) ∙ a.mark p h;
 }

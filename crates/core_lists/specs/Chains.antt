@@ -3,7 +3,7 @@ use Rattle.std.specs.Prelude.{◌≡◌, ℕ, ◌%◌, ◌<◌, ◌⊎◌, true,
 use Rattle.packed_link.specs.Link.{index_of, nowhere}
 use Rattle.packed_link.specs.Layout.{Sizes, bucket_at, key_at, link_at, second_at}
 use Rattle.packed_link.specs.declared.link.Life.{Life}
-use Rattle.core_chain.specs.Chain.{Chain, ChainWord, Head, Node}
+use Rattle.core_chain.specs.Chain.{Chain, ChainWord, Head, Next}
 use Rattle.core_chain.specs.Met.{IsMet}
 use Rattle.core_chain.specs.Table.{Places, chain_in}
 use Rattle.core_journal.specs.declared.event.Event.{Event}
@@ -16,7 +16,7 @@ use Rattle.core_kept.specs.Freezing.{IsFrozenWord}
 -- the words of a bucket: its own word is the head, and each vertex has its link
 abbrev pub bucket_word : Sizes → ℕ → ChainWord → ℕ
 bucket_word sizes j Head = bucket_at sizes j
-bucket_word sizes j (Node x) = link_at sizes x
+bucket_word sizes j (Next x) = link_at sizes x
 
 -- where the words and the keys of a bucket's chain stand in the table
 abbrev pub bucket_places : Sizes → ℕ → Places
@@ -25,7 +25,7 @@ bucket_places sizes j = record { word_at = bucket_word sizes j; key_at = key_at 
 -- the words of the list of a vertex: its second word is the head, and each edge has its link
 abbrev pub list_word : Sizes → ℕ → ChainWord → ℕ
 list_word sizes x Head = second_at sizes x
-list_word sizes x (Node y) = link_at sizes y
+list_word sizes x (Next y) = link_at sizes y
 
 -- where the words and the keys of a vertex's list stand in the table
 abbrev pub list_places : Sizes → ℕ → Places

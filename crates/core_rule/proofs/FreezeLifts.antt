@@ -7,7 +7,7 @@ use Rattle.graph_kinds.specs.Levels.{stands_in}
 use Rattle.packed_link.specs.Link.{pack, index_of, mark_of, mark_bit, nowhere}
 use Rattle.packed_link.specs.Layout.{Sizes, IsLayout, link_at, second_at}
 use Rattle.packed_link.specs.declared.link.Life.{Life}
-use Rattle.core_chain.specs.Chain.{ChainWord, Head, Node, IsOn}
+use Rattle.core_chain.specs.Chain.{ChainWord, Head, Next, IsOn}
 use Rattle.core_chain.proofs.Orders.{one_leads}
 use Rattle.core_journal.specs.declared.event.Kind.{Kind}
 use Rattle.core_journal.specs.declared.event.Kind.TheVariants.{PopFree, LinkVertex, MarkVertex, UnlinkVertex, LinkEdge}
@@ -16,7 +16,7 @@ use Rattle.core_journal.specs.declared.event.Kind.TheVariants.{PushFree, Replace
 use Rattle.core_journal.specs.declared.event.Event.{Event}
 use Rattle.core_journal.specs.Prefix.{IsPrefix}
 use Rattle.core_journal.specs.Machine.{word_at}
-use Rattle.core_journal.specs.State.{Mode, Free, Fresh, Linked, Spent, Node as Nodes, State, put, handed, unlinked_from}
+use Rattle.core_journal.specs.State.{Mode, Free, Fresh, Linked, Spent, Node, State, put, handed, unlinked_from}
 use Rattle.core_journal.specs.State.{joined_edge, state_by, state}
 use Rattle.core_journal.proofs.Lists.{prefix_trans, prefix_snoc, prefix_refl}
 use Rattle.core_journal.proofs.States.{state-snoc}
@@ -54,7 +54,7 @@ pub lift_store_free : (v : View) → IsLayout v.sizes → (next : ℕ) (x : Life
 lift_store_free v z next x m journal r =
     let s = own_spent v z journal r x.index m.life.there m.ripe.stamped.spent in
     let tag : (node_in v.sizes journal x.index).tag ≡ (node_in v.sizes v.front x.index).tag = ap
-    (λ (u : Nodes). u.tag) s.node in
+    (λ (u : Node). u.tag) s.node in
     let unfresh : (node_in v.sizes v.front x.index).mode ≢ Fresh = λ h. let t = m.ripe.stamped.spent.spent in absurd
     (cc) in
     record {
@@ -66,7 +66,7 @@ lift_store_free v z next x m journal r =
       word = ap (λ (t : ℕ). pack next 1 t) (m.life.tag ∙ sym tag);
       ripe = still_ripe v z journal r x.index m.ripe;
       own_list = λ h. finished_stays v.sizes z x.index v.front journal r.front r.kept tag
-          (m.own_list (sym (ap (λ (u : Nodes). u.vertex) s.node) ∙ h));
+          (m.own_list (sym (ap (λ (u : Node). u.vertex) s.node) ∙ h));
       list = old_finished v.sizes z x.index v.front journal r.front r.kept unfresh tag m.list;
     }
 
@@ -77,18 +77,18 @@ record IsUsedOn (tag source x : ℕ) (s : State) : Type 0 where
   pub on : is_listed s source x ≡ true
 
 -- a node that is linked or spent, in this life
-abbrev IsUsedIn : ℕ → Nodes → Type 0
+abbrev IsUsedIn : ℕ → Node → Type 0
 IsUsedIn tag v = (v.tag ≡ tag) × IsUsed v.mode
 
 module _ (tag source x : ℕ) where
-  in_put : (s : State) (i : ℕ) (u : Nodes) → IsUsedIn tag (s.node x) →
+  in_put : (s : State) (i : ℕ) (u : Node) → IsUsedIn tag (s.node x) →
       (x ≡ i → IsUsedIn tag (s.node i) → IsUsedIn tag u) → IsUsedIn tag
       (put i u s.node x)
-  in_put s i u c new = put_case (λ (y : Nodes). IsUsedIn tag y) i u s.node x
+  in_put s i u c new = put_case (λ (y : Node). IsUsedIn tag y) i u s.node x
       (λ same. new same (subst (λ (y : ℕ). IsUsedIn tag (s.node y)) same c)) (λ _. c)
 
   in_handed : (s : State) (i : ℕ) → IsUsedIn tag (s.node x) → IsUsedIn tag ((handed i s).node x)
-  in_handed s i c = handed_case (λ (y : Nodes). IsUsedIn tag y) s i x c (λ _ _ _. (c.0, tt))
+  in_handed s i c = handed_case (λ (y : Node). IsUsedIn tag y) s i x c (λ _ _ _. (c.0, tt))
 
 -- a frozen word of the list of a vertex that is spent with a caller, which leads to a node, at a front
 module _ (sizes : Sizes) (z : IsLayout sizes) (caller last place x : ℕ) (source : Life) (front : List Event)
@@ -106,22 +106,22 @@ module _ (sizes : Sizes) (z : IsLayout sizes) (caller last place x : ℕ) (sourc
         { spent = spent.spent; mine = spent.mine }
 
     source_tag : (node_in sizes journal source.index).tag ≡ (node_in sizes front source.index).tag
-    source_tag = ap (λ (u : Nodes). u.tag) source_still.node
+    source_tag = ap (λ (u : Node). u.tag) source_still.node
 
     source_now : IsVertex sizes journal source
     source_now = record {
       there = vertex.there;
       life = vertex.life ∙ sym source_tag;
-      used = subst IsUsed (sym (ap (λ (u : Nodes). u.mode) source_still.node)) vertex.used;
-      vertex = ap (λ (u : Nodes). u.vertex) source_still.node ∙ vertex.vertex;
+      used = subst IsUsed (sym (ap (λ (u : Node). u.mode) source_still.node)) vertex.used;
+      vertex = ap (λ (u : Node). u.vertex) source_still.node ∙ vertex.vertex;
     }
 
     spent_now : IsSpentVertex sizes journal caller source.index
     spent_now = record {
-      spent = ap (λ (u : Nodes). u.mode) source_still.node
+      spent = ap (λ (u : Node). u.mode) source_still.node
           ∙ spent.spent;
       vertex = source_now.vertex;
-      mine = ap (λ (u : Nodes). u.who) source_still.node ∙ spent.mine;
+      mine = ap (λ (u : Node). u.who) source_still.node ∙ spent.mine;
     }
 
     head_now : (state sizes journal).frozen source.index ≡ true
@@ -158,15 +158,15 @@ module _ (sizes : Sizes) (z : IsLayout sizes) (caller last place x : ℕ) (sourc
         let y = h.0 in
         let mine = handed_over y h.1 in
         let s = spent_stays sizes z caller last y mine.1 front journal p kept quiet within mine.0 in
-        let mode : (node_in sizes journal y).mode ≡ Spent = ap (λ (u : Nodes). u.mode) s.node ∙ mine.0.spent in
+        let mode : (node_in sizes journal y).mode ≡ Spent = ap (λ (u : Node). u.mode) s.node ∙ mine.0.spent in
         let part : is_frozen (state sizes journal) source.index y ≡ true = part_stays sizes z source.index y front
-        journal p kept source_tag (ap (λ (u : Nodes). u.tag) s.node) h.1 (subst IsUsed (sym mode) tt) in
+        journal p kept source_tag (ap (λ (u : Node). u.tag) s.node) h.1 (subst IsUsed (sym mode) tt) in
         record {
           frozen = record { head = head_now; at = inr (y, part, h.2) };
           same = ap (word_at sizes journal) h.2 ∙ (s.link ∙ ap (word_at sizes front) (sym h.2));
           marked = ap (λ (i : ℕ). mark_of (word_at sizes journal i)) h.2 ∙
               (((link_words sizes z journal kept).each y mine.1).spent mode).marked;
-          at = Node y;
+          at = Next y;
           at_place = sym h.2;
           on = part_listed (state sizes journal).node (state sizes journal).edges
               (state sizes journal).frozen source.index y part;

@@ -4,7 +4,7 @@ use Rattle.std.proofs.Common.{mod-lt}
 use Rattle.packed_link.specs.Link.{index_of, mark_of, nowhere}
 use Rattle.packed_link.specs.Layout.{IsLayout, bucket_at, key_at, second_at}
 use Rattle.packed_link.specs.declared.link.Life.{Life}
-use Rattle.core_chain.specs.Chain.{ChainWord, Head, Node, IsOn}
+use Rattle.core_chain.specs.Chain.{ChainWord, Head, Next, IsOn}
 use Rattle.core_chain.specs.Walk.{StandsBelow}
 use Rattle.core_chain.proofs.Walks.{none_of_key}
 use Rattle.core_journal.specs.declared.event.Event.{Event}
@@ -40,7 +40,7 @@ module _ (v : View) (z : IsLayout v.sizes) (kept : IsKept v.sizes v.front) where
       (ap (λ (i : ℕ). mark_of (word_at v.sizes v.front i)) (sym h.1.place_is) ∙ live) in
       let word = key_word_is v.sizes z v.front kept h.0.index m.life.there
       (met_used v.sizes v.front v.number h.0.index m.met) in
-      none (Node h.0.index) (sym h.1.place_is) (in_is v.sizes
+      none (Next h.0.index) (sym h.1.place_is) (in_is v.sizes
       (state v.sizes v.front) home h.0.index record {
         linked = linked;
         vertex = m.vertex;
@@ -89,7 +89,7 @@ module _ (v : View) (z : IsLayout v.sizes) (kept : IsKept v.sizes v.front) where
         edge = m.edge;
       } in
       let at = (sources v.sizes z v.front kept).each h.0.index m.life.there linked in
-      none (Node h.0.index) (sym h.1.place_is) (subst (λ (l : Life). is_listed
+      none (Next h.0.index) (sym h.1.place_is) (subst (λ (l : Life). is_listed
       (state v.sizes v.front) l.index h.0.index ≡ true) m.from at.on) h.1.below)
       before
     where

@@ -4,7 +4,7 @@ use Rattle.std.proofs.Math.Nat.{mod-lt}
 use Rattle.packed_link.specs.Link.{pack, index_of, mark_of, tag_of}
 use Rattle.packed_link.specs.Layout.{IsLayout, bucket_at, link_at, second_at}
 use Rattle.packed_link.specs.declared.link.Life.{Life}
-use Rattle.core_chain.specs.Chain.{Head, Node}
+use Rattle.core_chain.specs.Chain.{Head, Next}
 use Rattle.core_journal.specs.declared.event.Event.{Event}
 use Rattle.core_journal.specs.Machine.{word_at}
 use Rattle.core_journal.specs.Reuse.{pass_in}
@@ -65,7 +65,7 @@ module _ (v : View) (z : IsLayout v.sizes) (journal : List Event) (r : Reaches v
       let on = in_is v.sizes (state v.sizes journal) ((node_in v.sizes journal y.index).key % v.sizes.buckets) y.index
       record { linked = before.linked; vertex = before.vertex; of_bucket = refl } in
       let linked : IsLinkedVertex v.sizes journal x.index = leads_to_vertex v.sizes z journal r.kept
-      ((node_in v.sizes journal y.index).key % v.sizes.buckets) x.index (Node y.index) low on
+      ((node_in v.sizes journal y.index).key % v.sizes.buckets) x.index (Next y.index) low on
       (ap (λ (i : ℕ). index_of (word_at v.sizes journal i)) (sym at_y.place_is) ∙ leads) there in
       let link = dead_link linked in
       record {

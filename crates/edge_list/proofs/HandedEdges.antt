@@ -7,7 +7,7 @@ use Rattle.graph_kinds.specs.History.{Every}
 use Rattle.packed_link.specs.Link.{index_of, nowhere}
 use Rattle.packed_link.specs.Layout.{Sizes, IsLayout}
 use Rattle.core_chain.specs.Chain.{ChainWord, Head}
-use Rattle.core_chain.specs.Chain.{Node as At}
+use Rattle.core_chain.specs.Chain.{Next}
 use Rattle.core_chain.specs.Met.{MeetsFrom}
 use Rattle.core_epoch.proofs.Lists.{contains_first, contains_later, once_first, once_rest}
 use Rattle.core_journal.specs.declared.event.Event.{Event}
@@ -40,8 +40,8 @@ module _ (sizes : Sizes) (journal : List Event) (x : ℕ) where
   path_begins at (d ∷ ds) [] place y h leads some m = absurd (h.2 (sym h.1 ∙ m))
   path_begins at (d ∷ ds) (z ∷ zs) place y h leads some m =
       let same : z ≡ d = sym m.0 ∙ h.1 in
-      let more = path_begins (At d) ds zs place y h.3 leads some
-      (subst (λ (i : ℕ). MeetsFrom (edge_chain sizes journal x) (At i) zs) same m.2) in
+      let more = path_begins (Next d) ds zs place y h.3 leads some
+      (subst (λ (i : ℕ). MeetsFrom (edge_chain sizes journal x) (Next i) zs) same m.2) in
       record { rest = more.rest; is = ap₂ (λ (a : ℕ) (l : List ℕ). a ∷ l) same more.is }
 
 -- what stands behind others once isn't among them

@@ -67,10 +67,12 @@ module _ (v w : View) (found : ℕ) (d : Drew v found w) where
         closed = no_pass;
         work = record {
           there = omega (arith, number, next, callers, left);
-          limbo_of = subst (λ (ns : List RipeValue). IsLimboOf None (stays w) ns) (sym empty)
-              (limbo_of_none None (stays w));
-          all = λ y spent. absurd (none_spent y spent);
-          room = omega (arith, nodes, room);
+          roomy = record {
+            of = subst (λ (ns : List RipeValue). IsLimboOf None (stays w) ns) (sym empty)
+                (limbo_of_none None (stays w));
+            room = omega (arith, nodes, room);
+          };
+          all = record { each = λ y spent. absurd (none_spent y spent) };
         };
         spare = record { none = λ y low fresh. none_fresh y fresh };
         made = record {

@@ -70,7 +70,7 @@ module _ (old new : LimboValue) (v w : View) (epoch : ℕ) (r : RipeValue) (z : 
     rest_limbo = limbo_still None v w own z makes new.nodes (rest_others own only) out.limbo
 
     rest_spent : (y : ℕ) → IsSpentWith w.sizes w.front w.number y → IsIn old.nodes y
-    rest_spent y spent = h.all y (old_spent v w own makes
+    rest_spent y spent = h.all.each y (old_spent v w own makes
         (makes_got v w own z v.front None [] gets makes (got_none old v h)) y spent)
 
     in_rest : (y : ℕ) → IsIn old.nodes y → y ≢ index_in r → IsIn new.nodes y
@@ -80,16 +80,17 @@ module _ (old new : LimboValue) (v w : View) (epoch : ℕ) (r : RipeValue) (z : 
         (ne_eqb (index_in r) y (λ same. other (sym same))) all
 
     rest_room : w.sizes.nodes ≤ new.room
-    rest_room = let s = still_room v w own z makes old.room h.room in let q = out.room in omega (arith, s, q)
+    rest_room = let s = still_room v w own z makes old.room h.roomy.room in let q = out.room in omega (arith, s, q)
 
     given_work : (node_in w.sizes w.front (index_in r)).mode ≡ Free → LimboHoldsAll new w
     given_work free = record {
       there = still_there v w own z makes h.there;
-      limbo_of = rest_limbo;
-      all = λ y spent. in_rest y (rest_spent y spent) (λ same. absurd
-          (let was : (node_in w.sizes w.front (index_in r)).mode ≡ Spent
-          = subst (λ (k : ℕ). (node_in w.sizes w.front k).mode ≡ Spent) same spent.spent in cc));
-      room = rest_room;
+      roomy = record { of = rest_limbo; room = rest_room };
+      all = record {
+        each = λ y spent. in_rest y (rest_spent y spent) (λ same. absurd
+            (let was : (node_in w.sizes w.front (index_in r)).mode ≡ Spent
+            = subst (λ (k : ℕ). (node_in w.sizes w.front k).mode ≡ Spent) same spent.spent in cc));
+      };
     }
 
   -- it's given back
@@ -146,13 +147,16 @@ module _ (old new : LimboValue) (v w : View) (epoch : ℕ) (r : RipeValue) (z : 
     pub lost_work : (back : LimboValue) → IsPutBack new back r → LimboHoldsAll back w
     lost_work back p = record {
       there = still_there v w stored z g.makes h.there;
-      limbo_of = p.limbo None w lost_limbo lost_retired out.out
-          (subst AreRising out.nodes h.limbo_of.rising).0;
-      all = λ y spent. subst (λ (ns : List RipeValue). IsIn ns y) (out.nodes ∙ sym p.nodes)
-          (rest_spent stored g.makes ((λ is. absurd (cc)), tt)
-          (record { unlinks = refl; closes = λ is. absurd (cc); gives = λ b. absurd b }, tt) y spent);
-      room = let s = still_room v w stored z g.makes old.room h.room in let q = out.room in let t = p.room in
-          omega (arith, s, q, t);
+      roomy = record {
+        of = p.limbo None w lost_limbo lost_retired out.out (subst AreRising out.nodes h.roomy.of.rising).0;
+        room = let s = still_room v w stored z g.makes old.room h.roomy.room in let q = out.room in let t = p.room in
+            omega (arith, s, q, t);
+      };
+      all = record {
+        each = λ y spent. subst (λ (ns : List RipeValue). IsIn ns y) (out.nodes ∙ sym p.nodes)
+            (rest_spent stored g.makes ((λ is. absurd (cc)), tt)
+            (record { unlinks = refl; closes = λ is. absurd (cc); gives = λ b. absurd b }, tt) y spent);
+      };
     }
 
     pub lost_shown : IsShown v epoch → IsShown w epoch

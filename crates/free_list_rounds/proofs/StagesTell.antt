@@ -167,13 +167,13 @@ module _ (v w : View) (p q : PositionValue) (x : Life) (z : IsLayout v.sizes) (u
     record {
       vertex = u.spent;
       unclosed = u.unclosed;
-      limbo_of = limbo_still_by_kind None v w unlink_events z u.makes limbo.nodes ((λ is. absurd (cc)), tt) h.limbo_of;
+      limbo_of = limbo_still_by_kind None v w unlink_events z u.makes limbo.nodes ((λ is. absurd (cc)), tt) h.roomy.of;
       out = every_as (λ (r : RipeValue). IsRetired None v r.life r.stamp) (λ (r : RipeValue). index_in r ≢ x.index)
           (λ r ret is. u.new (subst (λ (k : ℕ). IsSpentWith v.sizes v.front v.number k) is ret.stamped.spent))
-          limbo.nodes h.limbo_of.each;
-      room = still_room v w unlink_events z u.makes limbo.room h.room;
+          limbo.nodes h.roomy.of.each;
+      room = still_room v w unlink_events z u.makes limbo.room h.roomy.room;
     },
-    (λ y spent other. h.all y (spent_then y spent other limbo h)),
+    (λ y spent other. h.all.each y (spent_then y spent other limbo h)),
   )
 
   pub unlink_spares : SparesGo v w
@@ -241,9 +241,11 @@ module _ (old new : LimboValue) (v w : View) (x : Life) (z : IsLayout v.sizes) (
       → LimboHoldsAll new w
   buried_work there room but = record {
     there = still_there v w b.own z b.makes there;
-    limbo_of = b.limbo_of;
-    all = b.all but;
-    room = let r = b.room in let s = still_room v w b.own z b.makes old.room room in omega (arith, r, s);
+    roomy = record {
+      of = b.limbo_of;
+      room = let r = b.room in let s = still_room v w b.own z b.makes old.room room in omega (arith, r, s);
+    };
+    all = record { each = b.all but };
   }
 
   pub buried_numbered : v.numbered ≡ true → w.numbered ≡ true

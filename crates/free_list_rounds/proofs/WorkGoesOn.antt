@@ -49,8 +49,8 @@ finished limbo v h = record {
       (every_as (λ (r : RipeValue). IsRetired None v r.life r.stamp)
       (λ (r : RipeValue). (node_in v.sizes v.front (index_in r)).vertex ≡ true → IsFrozenToEnd v.sizes v.front
       (index_in r))
-      (λ r p. p.own_list) limbo.nodes h.limbo_of.each) y
-      (h.all y (record { spent = spent.spent; mine = spent.mine })) spent.vertex;
+      (λ r p. p.own_list) limbo.nodes h.roomy.of.each) y
+      (h.all.each y (record { spent = spent.spent; mine = spent.mine })) spent.vertex;
 }
 
 pub got_none : (limbo : LimboValue) (v : View) → LimboHoldsAll limbo v → HasGotOnly v.front v None []
@@ -96,10 +96,12 @@ module _ (v w : View) (own : List Event) (z : IsLayout v.sizes) (makes : Makes v
       (got_none limbo v h) in
       record {
         there = still_there h.there;
-        limbo_of = limbo_still_by_kind None v w own z makes limbo.nodes
-            (every_as IsCalm (λ (e : Event). e.kind ≢ PushFree) (λ e c. c.gives) own calm) h.limbo_of;
-        all = λ y spent. h.all y (old_spent v w own makes got y spent);
-        room = still_room limbo.room h.room;
+        roomy = record {
+          of = limbo_still_by_kind None v w own z makes limbo.nodes
+              (every_as IsCalm (λ (e : Event). e.kind ≢ PushFree) (λ e c. c.gives) own calm) h.roomy.of;
+          room = still_room limbo.room h.roomy.room;
+        };
+        all = record { each = λ y spent. h.all.each y (old_spent v w own makes got y spent) };
       }
 
   pub spares_go : Every (λ (e : Event). (e.kind ≢ PopFree) × (is_of_fresh e.kind ≡ false)) own → SparesGo v w

@@ -3,13 +3,13 @@ use Rattle.std.specs.Prelude.{◌≡◌, ℕ, ◌+◌, ◌*◌, ◌<◌, ◌≤�
 use Rattle.packed_link.specs.declared.link.Life.{Life}
 use Rattle.core_journal.specs.Event.{pops, pushes, moves}
 use Rattle.core_kept.specs.Counts.{made}
-use Rattle.core_kept.specs.Nodes.{IsSpentWith}
 use Rattle.core_rule.specs.Stretches.{HasNoFresh}
 use Rattle.core_rule.specs.declared.view.View.{View}
 use Rattle.core_stretches.specs.Holdings.{HasNoPass, IsHeldFresh}
-use Rattle.epoch_limbo.specs.Limbos.{LimboValue, IsLimboOf}
+use Rattle.epoch_limbo.specs.Limbos.{LimboValue}
 use Rattle.graph_table.specs.Tokens.{TokenValue}
-use Rattle.graph_updates.specs.Burying.{HasAllSpentBut, IsIn, IsToBury}
+use Rattle.graph_updates.specs.Burying.{HasAllSpentBut, IsToBury}
+use Rattle.graph_updates.specs.Hands.{HasAllSpent, IsRoomyLimbo}
 
 -- a caller: its token, the nodes that it spent, the one that it took and didn't link, how many rounds it has made, and
 -- how many nodes it has taken from the free list and given back
@@ -24,14 +24,13 @@ pub record CallerValue : Type 0 where
 -- the limbo is of the token, has every node that the token spent, and has room for all nodes
 pub record LimboHoldsAll (limbo : LimboValue) (v : View) : Type 0 where
   pub there : v.number < v.sizes.callers
-  pub limbo_of : IsLimboOf None v limbo.nodes
-  pub all : (y : ℕ) → IsSpentWith v.sizes v.front v.number y → IsIn limbo.nodes y
-  pub room : v.sizes.nodes ≤ limbo.room
+  pub roomy : IsRoomyLimbo limbo v
+  pub all : HasAllSpent limbo v
 
 -- the spare node is fresh with the token; where there's none, the token holds no fresh node
-abbrev pub HoldsSpare : Option Life → View → Type 0
-HoldsSpare None v = HasNoFresh v
-HoldsSpare (Some x) v = IsHeldFresh v x
+abbrev pub HoldsSpareOrNone : Option Life → View → Type 0
+HoldsSpareOrNone None v = HasNoFresh v
+HoldsSpareOrNone (Some x) v = IsHeldFresh v x
 
 -- the token took exactly so many nodes, gave back exactly so many, and moved the epoch at most so often
 pub record HasMade (takes gives most_moved : ℕ) (v : View) : Type 0 where
@@ -46,7 +45,7 @@ pub record IsBetweenRounds (c : CallerValue) : Type 0 where
   pub numbered : c.token.view.numbered ≡ true
   pub closed : HasNoPass c.token.view
   pub work : LimboHoldsAll c.limbo c.token.view
-  pub spare : HoldsSpare c.spare c.token.view
+  pub spare : HoldsSpareOrNone c.spare c.token.view
   pub made : HasMade c.taken c.given c.rounds c.token.view
   pub few_taken : c.taken ≤ c.rounds
   pub few_given : c.given ≤ c.rounds * 4294967296
@@ -57,7 +56,7 @@ WorkGoes v w = (limbo : LimboValue) → LimboHoldsAll limbo v → LimboHoldsAll 
 
 -- the spare node is held still, or none
 abbrev pub SparesGo : View → View → Type 0
-SparesGo v w = (spare : Option Life) → HoldsSpare spare v → HoldsSpare spare w
+SparesGo v w = (spare : Option Life) → HoldsSpareOrNone spare v → HoldsSpareOrNone spare w
 
 -- the token took exactly so many nodes more, gave back exactly so many more, and moved the epoch at most so often more
 pub record CountsGo (takes gives shifts : ℕ) (v w : View) : Type 0 where

@@ -5,7 +5,8 @@ ghost use Rattle.core_journal.specs.Event.{pops};
 ghost use Rattle.core_kept.specs.Counts.{made, most_pops};
 ghost use Rattle.core_rule.specs.Stretches.{HasPass};
 ghost use Rattle.core_stretches.specs.Holdings.{IsHeldFresh};
-ghost use Rattle.free_list_rounds.specs.Rounds.{CountsGo, HoldsSpare, LimboHoldsAll, MatchToBury, SparesGo, WorkGoes};
+ghost use Rattle.free_list_rounds.specs.Rounds.{CountsGo, HoldsSpareOrNone, LimboHoldsAll, MatchToBury};
+ghost use Rattle.free_list_rounds.specs.Rounds.{SparesGo, WorkGoes};
 ghost use Rattle.graph_table.specs.Tokens.{IsOf};
 
 use epoch_limbo::Limbo;
@@ -20,12 +21,12 @@ fn supply(table: &GraphTable, token: &mut Token, spare: Option<Fresh>) -> (Optio
     requires table { IsOf table.now token.old }
     requires number { token.old.view.numbered ≡ true }
     requires pass { HasPass token.old.view }
-    requires spare { HoldsSpare spare token.old.view }
+    requires spare { HoldsSpareOrNone spare token.old.view }
     requires limit { made pops token.old.view.number token.old.view.front < most_pops }
     ensures table { IsOf table.now token.new }
     ensures number { token.new.view.numbered ≡ true }
     ensures pass { HasPass token.new.view }
-    ensures spare { HoldsSpare result.0 token.new.view }
+    ensures spare { HoldsSpareOrNone result.0 token.new.view }
     ensures work { WorkGoes token.old.view token.new.view }
     ensures counts { CountsGo result.1 0 0 token.old.view token.new.view }
     ensures few { result.1 ≤ 1 }
@@ -49,7 +50,7 @@ fn grow(table: &GraphTable, token: &mut Token, key: u32, fresh: Fresh) -> Option
     ensures table { IsOf table.now token.new }
     ensures number { token.new.view.numbered ≡ true }
     ensures pass { HasPass token.new.view }
-    ensures spare { HoldsSpare result token.new.view }
+    ensures spare { HoldsSpareOrNone result token.new.view }
     ensures work { WorkGoes token.old.view token.new.view }
     ensures counts { CountsGo 0 0 0 token.old.view token.new.view }
 {
@@ -76,12 +77,12 @@ pub fn build(
     requires table { IsOf table.now token.old }
     requires number { token.old.view.numbered ≡ true }
     requires pass { HasPass token.old.view }
-    requires spare { HoldsSpare spare token.old.view }
+    requires spare { HoldsSpareOrNone spare token.old.view }
     requires limit { made pops token.old.view.number token.old.view.front < most_pops }
     ensures table { IsOf table.now token.new }
     ensures number { token.new.view.numbered ≡ true }
     ensures pass { HasPass token.new.view }
-    ensures spare { HoldsSpare result.0 token.new.view }
+    ensures spare { HoldsSpareOrNone result.0 token.new.view }
     ensures work { WorkGoes token.old.view token.new.view }
     ensures counts { CountsGo result.1 0 0 token.old.view token.new.view }
     ensures few { result.1 ≤ 1 }

@@ -5,5 +5,6 @@ pub mod Levels
 pub mod Part
 pub mod Worked
 pub mod Answer
+pub mod Port
 pub mod History
 pub mod InMemory

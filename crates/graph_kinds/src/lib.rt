@@ -10,6 +10,7 @@ mod mem_sink;
 mod mem_source;
 mod outcome;
 mod path_laws;
+mod port;
 mod sink;
 mod source;
 
@@ -28,5 +29,6 @@ pub use path_laws::{
     cheapest_is_a_path, least_costs_are_least, levels_are_distances, neighbours_rise,
     parts_are_answered_alike, paths_run_over_keys, reach_is_shortest, worked_graphs_are_answered,
 };
+pub use port::CallerPort;
 pub use sink::{Sink, WriteAnswer};
 pub use source::{ReadAnswer, Source};

@@ -13,11 +13,12 @@ use Rattle.core_journal.specs.Machine.{machine, opening_word, opening_words, nod
 use Rattle.core_journal.proofs.MachineWords.{length-machine}
 use Rattle.graph_table.specs.Opening.{nodes_from}
 
-announced : (sizes : Sizes) (xs : List ℕ) → map (opening_word sizes) (map at.Announce xs) ≡ replicate (length xs) 0
+announced : (sizes : Sizes) (xs : List ℕ) → map (opening_word sizes) (map at.AnnounceWord xs) ≡ replicate (length xs) 0
 announced sizes [] = refl
 announced sizes (x ∷ xs) = ap (λ (l : List ℕ). 0 ∷ l) (announced sizes xs)
 
-headed : (sizes : Sizes) (xs : List ℕ) → map (opening_word sizes) (map at.Bucket xs) ≡ replicate (length xs) 16777215
+headed : (sizes : Sizes) (xs : List ℕ)
+    → map (opening_word sizes) (map at.BucketWord xs) ≡ replicate (length xs) 16777215
 headed sizes [] = refl
 headed sizes (x ∷ xs) = ap (λ (l : List ℕ). 16777215 ∷ l) (headed sizes xs)
 
@@ -53,12 +54,12 @@ opened sizes =
     let r1 = announced sizes (range_with_len 0 c) ∙ ap (λ (k : ℕ). replicate k 0) (length-range_with_len 0 c) in
     let r2 = headed sizes (range_with_len 0 b) ∙ ap (λ (k : ℕ). replicate k 16777215) (length-range_with_len 0 b) in
     let r3 = nodes_map sizes (range_with_len 0 n) ∙ sym (nodes_all sizes n) in
-    let tail : map (opening_word sizes) (map at.Announce (range_with_len 0 c) ++
-    (map at.Bucket (range_with_len 0 b) ++ flat_map node_places (range_with_len 0 n))) ≡ replicate c 0 ++
+    let tail : map (opening_word sizes) (map at.AnnounceWord (range_with_len 0 c) ++
+    (map at.BucketWord (range_with_len 0 b) ++ flat_map node_places (range_with_len 0 n))) ≡ replicate c 0 ++
     (replicate b 16777215 ++ nodes_from n n) =
-    map-append (opening_word sizes) (map at.Announce (range_with_len 0 c))
-    (map at.Bucket (range_with_len 0 b) ++ flat_map node_places (range_with_len 0 n))
-    ∙ ap₂ (λ (x y : List ℕ). x ++ y) r1 (map-append (opening_word sizes) (map at.Bucket (range_with_len 0 b))
+    map-append (opening_word sizes) (map at.AnnounceWord (range_with_len 0 c))
+    (map at.BucketWord (range_with_len 0 b) ++ flat_map node_places (range_with_len 0 n))
+    ∙ ap₂ (λ (x y : List ℕ). x ++ y) r1 (map-append (opening_word sizes) (map at.BucketWord (range_with_len 0 b))
     (flat_map node_places (range_with_len 0 n)) ∙ ap₂ (λ (x y : List ℕ). x ++ y) r2 r3) in
     append_assoc (replicate (4 + c) 0) (replicate b 16777215) (nodes_from n n)
     ∙ (ap (λ (l : List ℕ). l ++ (replicate b 16777215 ++ nodes_from n n)) (sym (replicate-append-replicate 4 c 0))

@@ -16,7 +16,7 @@ use Rattle.core_stretches.proofs.MakesTell.{makes_counts, makes_later}
 use Rattle.graph_table.specs.Tokens.{TableValue, TokenValue}
 use Rattle.vertex_list.specs.Positions.{PositionValue}
 use Rattle.vertex_list.proofs.PositionsGoOn.{gap_makes}
-use Rattle.graph_updates.specs.Adding.{IsAdded, IsFullAt, IsPlaced, IsSameBut, MatchAddTried, MatchPlacedAt}
+use Rattle.graph_updates.specs.Adding.{IsAdded, IsFullAt, IsNodePlaced, IsSameBut, MatchAddTried, MatchPlacedAt}
 use Rattle.graph_updates.specs.Hands.{HandValue, HasItsNodes, IsHandOf}
 use Rattle.graph_updates.specs.Locating.{WasGone}
 use Rattle.graph_updates.specs.Parts.{CarriesOutBy, Fell, GoesOnBy, HasHelped, LeavesGraph, may_take}
@@ -141,7 +141,7 @@ carries_then call a b c u v w at k h = record {
 -- a node was placed: the vertex is added
 placed_added : (g : TableValue) (key : ℕ) (h new : HandValue) (p : PositionValue) (m : TokenValue) → IsHandOf g new
     → HasItsNodes new → p.key ≡ key → IsSameBut h new → new.spare ≡ None
-    → IsPlaced p.key h.spare h.token.view new.token.view m → IsAdded key h new m
+    → IsNodePlaced p.key h.spare h.token.view new.token.view m → IsAdded key h new m
 placed_added g key h new p m of n key_is same bare k = record {
   carries = record {
     before = k.before;

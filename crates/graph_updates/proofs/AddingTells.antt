@@ -26,7 +26,7 @@ use Rattle.graph_table.specs.Tokens.{TokenValue}
 use Rattle.vertex_list.specs.Changes.{IsLinked, IsLost}
 use Rattle.vertex_list.specs.Positions.{IsGap, PositionValue}
 use Rattle.vertex_list.proofs.PositionsGoOn.{gap_makes, place_apart, position_leads}
-use Rattle.graph_updates.specs.Adding.{IsNodeFor, IsPlaced, IsPlaceLost, MatchNode, MatchPlaced, Readies}
+use Rattle.graph_updates.specs.Adding.{IsNodeFor, IsNodePlaced, IsPlaceLost, MatchNode, MatchPlaced, Readies}
 use Rattle.graph_updates.specs.declared.adding.Placed.{Placed}
 use Rattle.graph_updates.specs.declared.adding.Placed.TheVariants as placed
 use Rattle.graph_updates.specs.Hands.{HoldsNoOther, HoldsSpare}
@@ -88,7 +88,7 @@ module _ (v u : View) (x : Life) (key next : ℕ) (z : IsLayout v.sizes) (makes 
 
 -- it's linked, by the last event of the front
 pub linked_is : (v u w : View) (x : Life) (p : PositionValue) (m : TokenValue) → Readies 0 v u → IsLinked p x u w
-    → m.view.front ≡ w.front → IsPlaced p.key (Some x) v w m
+    → m.view.front ≡ w.front → IsNodePlaced p.key (Some x) v w m
 linked_is v u w x p m first l moment = record {
   before = u;
   event = link_vertex_event u p.place p.word p.key x;

@@ -12,7 +12,7 @@ use Rattle.core_rule.specs.declared.view.View.{View}
 use Rattle.core_stretches.specs.Makes.{IsGraphless, Makes, StaysInPass}
 use Rattle.core_stretches.proofs.MakesAddUp.{makes_chain}
 use Rattle.graph_table.specs.Tokens.{IsOf, TableValue, TokenValue}
-use Rattle.graph_updates.specs.Adding.{IsPlaced, Readies}
+use Rattle.graph_updates.specs.Adding.{IsNodePlaced, Readies}
 use Rattle.graph_updates.specs.Hands.{HandValue, HasAllSpent, HasItsNodes, HoldsNoOther, HoldsSpare, IsHandOf}
 use Rattle.graph_updates.specs.Hands.{IsRoomyLimbo}
 use Rattle.graph_updates.specs.Parts.{IsReadying, LeavesGraph}
@@ -81,7 +81,7 @@ readies_leave a v w r = record {
 }
 
 -- all own events of placing a node that was linked
-module _ (key : ℕ) (spare : Option Life) (v w : View) (m : TokenValue) (p : IsPlaced key spare v w m) where
+module _ (key : ℕ) (spare : Option Life) (v w : View) (m : TokenValue) (p : IsNodePlaced key spare v w m) where
   abbrev pub placed_own : List Event
   placed_own = p.first.own ++ p.event ∷ []
 

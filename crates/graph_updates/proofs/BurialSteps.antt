@@ -12,7 +12,7 @@ use Rattle.packed_link.specs.Link.{index_of, mark_of, nowhere}
 use Rattle.packed_link.specs.Layout.{Sizes, IsLayout, link_at, second_at, epoch_at}
 use Rattle.packed_link.specs.declared.link.Life.{Life}
 use Rattle.core_chain.specs.Chain.{ChainWord, Head}
-use Rattle.core_chain.specs.Chain.{Node as At}
+use Rattle.core_chain.specs.Chain.{Next}
 use Rattle.core_counts.specs.Spending.{AreFinished, GetsNone, GotOnly}
 use Rattle.core_counts.proofs.KnownSpentNodes.{got_itself, got_begins, got_done, got_more}
 use Rattle.core_journal.specs.declared.event.Kind.TheVariants.{FreezeHead, FreezeEdge, PushFree}
@@ -105,7 +105,7 @@ path_on x t u sizes k m p (d ∷ ds) place h =
           (λ (q : ℕ). index_of (word_at u.sizes u.front q)) at ∙ (ap index_of w.1 ∙ h.1),
       h.2,
       path_on x t u sizes k m
-          (At d) ds place h.3,
+          (Next d) ds place h.3,
     )
 
 -- the edges that were handed over stay

@@ -34,7 +34,7 @@ use Rattle.core_stretches.proofs.MakesTell.{makes_counts, makes_later}
 use Rattle.epoch_limbo.specs.Limbos.{LimboValue}
 use Rattle.graph_table.specs.Table.{entry_of}
 use Rattle.graph_table.specs.Tokens.{IsOf, RipeValue, TableValue, TokenValue}
-use Rattle.graph_updates.specs.Calls.{IsAnswered}
+use Rattle.graph_updates.specs.Calls.{HasAnswered}
 use Rattle.graph_updates.specs.Hands.{HandValue, HasAllSpent, HasItsNodes, HoldsNoOther, HoldsSpare, IsHandOf}
 use Rattle.graph_updates.specs.Hands.{IsInOrder, IsRoomyLimbo, book_of, moves_due}
 use Rattle.graph_updates.specs.Replying.{HasEnded}
@@ -152,7 +152,7 @@ pub record HasReplied (g : TableValue) (call : Call) (tries : ℕ) (outcome : Ou
     pub hand : IsHandOf g new
     pub order : IsInOrder new
     pub closed : HasNoPass new.token.view
-    pub answered : IsAnswered call tries outcome old new
+    pub answered : HasAnswered call tries outcome old new
 
 module _ (g : TableValue) (old now : HandValue) (t : TokenValue) (own : List Event) (c : HasCome g old now t own)
     (call : Call) (tries : ℕ) (outcome : Outcome) (class : Class) (start place : ℕ)

@@ -16,7 +16,7 @@ use Rattle.epoch_limbo.specs.Passes.{IsOpened}
 use Rattle.epoch_limbo.specs.declared.advancing.Advanced.{Advanced}
 use Rattle.epoch_limbo.specs.declared.advancing.Advanced.TheVariants.{Held, Lost, Moved}
 use Rattle.graph_table.specs.Tokens.{IsOf, TableValue, TokenValue}
-use Rattle.graph_updates.specs.Ending.{GivesBack, HasBegun, IsEnding, IsFinished, IsGiving}
+use Rattle.graph_updates.specs.Ending.{GivesOldest, HasBegun, IsEnding, IsFinished, IsGiving}
 use Rattle.graph_updates.specs.Hands.{HandValue, IsHandOf, IsInOrder, IsRoomyLimbo}
 use Rattle.graph_updates.specs.Parts.{LeavesGraph, MakesOnly}
 use Rattle.graph_updates.proofs.GivingTells.{giving_leaves, giving_parts, giving_pass}
@@ -233,7 +233,7 @@ module _ (g : TableValue) (old : HandValue) (t : TokenValue) (h : IsHandOf g old
     moved_limbo = second_parts.limbo h.limbo
 
     module _ (z : IsLayout m.view.sizes) (epoch : ℕ) (limbo : LimboValue) (u : TokenValue)
-        (b : GivesBack epoch old.limbo limbo m.view u.view) where
+        (b : GivesOldest epoch old.limbo limbo m.view u.view) where
       abbrev pub ended : HandValue
       ended = record { token = u; limbo = limbo; spare = old.spare; uses = old.uses; retired = false }
 

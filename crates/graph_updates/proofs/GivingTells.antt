@@ -36,7 +36,7 @@ use Rattle.epoch_limbo.proofs.LimboStays.{limbo_room, limbo_still}
 use Rattle.graph_table.specs.Tokens.{IsOf, RipeValue, TableValue, TokenValue}
 use Rattle.node_arena.specs.Giving.{IsGiven, IsGiveLost}
 use Rattle.graph_updates.specs.Burying.{IsIn}
-use Rattle.graph_updates.specs.Ending.{GivesBack, HasGiven, IsFreeIn, IsGiving, NoneRipe}
+use Rattle.graph_updates.specs.Ending.{GivesOldest, HasGiven, IsFreeIn, IsGiving, NoneRipe}
 use Rattle.graph_updates.specs.Hands.{HasAllSpent, IsRoomyLimbo}
 use Rattle.graph_updates.specs.Parts.{Fell, LeavesGraph, MakesOnly}
 use Rattle.graph_updates.proofs.BurialLists.{every_both, every_map}
@@ -124,7 +124,7 @@ module _ (old new : LimboValue) (v w : View) (epoch : ℕ) (r : RipeValue) (z : 
       (record { unlinks = refl; closes = λ is. absurd (cc); gives = λ b. absurd b }, tt),
     )
 
-    pub done_gives : GivesBack epoch old new v w
+    pub done_gives : GivesOldest epoch old new v w
     done_gives =
         let later = makes_later v w gave g.makes in
         record {
@@ -176,7 +176,7 @@ module _ (old new : LimboValue) (v w : View) (epoch : ℕ) (r : RipeValue) (z : 
         let room = rest_room stored g.makes stored_only stored_gets in
         omega (arith, low, room)
 
-    pub lost_gives : (back : LimboValue) → IsPutBack new back r → GivesBack epoch old back v w
+    pub lost_gives : (back : LimboValue) → IsPutBack new back r → GivesOldest epoch old back v w
     lost_gives back p =
         let same : back.nodes ≡ old.nodes = p.nodes ∙ sym out.nodes in
         record {
@@ -203,7 +203,7 @@ module _ (old new : LimboValue) (v w : View) (epoch : ℕ) (r : RipeValue) (z : 
 
 -- nothing is given back where the token makes nothing
 pub gives_none : (epoch : ℕ) (limbo : LimboValue) (v w : View) → IsLayout v.sizes → IsRoomyLimbo limbo v → Makes v [] w
-    → GivesBack epoch limbo limbo v w
+    → GivesOldest epoch limbo limbo v w
 gives_none epoch limbo v w z l makes = record {
   only = record { own = []; are = tt; makes = makes };
   gone = [];
@@ -216,8 +216,8 @@ gives_none epoch limbo v w z l makes = record {
 }
 
 -- one after another
-pub gives_chain : (epoch : ℕ) (a b c : LimboValue) (u v w : View) → GivesBack epoch a b u v → GivesBack epoch b c v w
-    → GivesBack epoch a c u w
+pub gives_chain : (epoch : ℕ) (a b c : LimboValue) (u v w : View) → GivesOldest epoch a b u v
+    → GivesOldest epoch b c v w → GivesOldest epoch a c u w
 gives_chain epoch a b c u v w g h =
     let first = makes_later u v g.only.own g.only.makes in
     let second = makes_later v w h.only.own h.only.makes in
@@ -310,7 +310,7 @@ pub record IsGivingRipe (g : TableValue) (epoch : ℕ) (old now : LimboValue) (v
   pub of : IsOf g t
   pub loaded : List Event
   pub found : HoldsBetween v.front t.view.front (EpochIs v epoch) loaded
-  pub given : GivesBack epoch old now v t.view
+  pub given : GivesOldest epoch old now v t.view
   pub shown : IsShown t.view epoch
 
 -- the epoch is loaded
@@ -341,7 +341,7 @@ module _ (g : TableValue) (epoch : ℕ) (old now : LimboValue) (v : View) (t : T
   pub giving_number : v.numbered ≡ true → t.view.numbered ≡ true
   giving_number has = (makes_later v t.view i.given.only.own i.given.only.makes).numbered ∙ has
 
-  module _ (new : LimboValue) (u : TokenValue) (b : GivesBack epoch now new t.view u.view) where
+  module _ (new : LimboValue) (u : TokenValue) (b : GivesOldest epoch now new t.view u.view) where
     later_on : IsPrefix t.view.front u.view.front
     later_on = (makes_later t.view u.view b.only.own b.only.makes).grows
 

@@ -29,12 +29,13 @@ use Rattle.epoch_limbo.specs.Limbos.{IsLimboOf, LimboValue}
 use Rattle.epoch_limbo.proofs.LimboStays.{limbo_of_none}
 use Rattle.graph_table.specs.Tokens.{IsOf, RipeValue, TableValue, TokenValue}
 use Rattle.graph_updates.specs.Hands.{HandValue, IsHandOf, IsInOrder, book_of}
-use Rattle.graph_updates.specs.Opening.{IsRefused}
+use Rattle.graph_updates.specs.Opening.{IsTokenRefused}
 use Rattle.graph_updates.specs.declared.opening.HandCause.TheVariants.{Memory}
 use Rattle.graph_updates.proofs.HandsStay.{due_closed}
 
 -- a token that is handed back as it was
-pub refused : (g : TableValue) (t : TokenValue) → IsOf g t → IsRefused g t.view (record { token = t; cause = Memory })
+pub refused : (g : TableValue) (t : TokenValue) → IsOf g t
+    → IsTokenRefused g t.view (record { token = t; cause = Memory })
 refused g t of = record { of = of; grows = prefix_refl t.view.front; same = refl; cause = tt }
 
 -- a load of the word of numbers that isn't that of callers leaves a number to draw

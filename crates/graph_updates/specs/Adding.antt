@@ -48,7 +48,7 @@ MatchNode taken.Empty spare v w = (spare ≡ None) × FoundEmpty v w
 MatchNode taken.Lost spare v w = (spare ≡ None) × IsTakeLost v w
 
 -- a node was linked by the last event of the front, which adds the key to the graph
-pub record IsPlaced (key : ℕ) (spare : Option Life) (v w : View) (m : TokenValue) : Type 0 where
+pub record IsNodePlaced (key : ℕ) (spare : Option Life) (v w : View) (m : TokenValue) : Type 0 where
   pub before : View
   pub event : Event
   pub first : Readies (may_take spare) v before
@@ -69,7 +69,7 @@ pub record IsPlaceLost (since : List Event) (spare : Option Life) (v w : View) (
 
 -- what placing a node at a position came to
 abbrev pub MatchPlaced : Placed → Option Life → PositionValue → View → View → Type 0
-MatchPlaced (placed.Linked m) spare p v w = IsPlaced p.key spare v w m.value
+MatchPlaced (placed.Linked m) spare p v w = IsNodePlaced p.key spare v w m.value
 MatchPlaced (placed.Full q) spare p v w = (q ≡ p) × ((spare ≡ None) × FoundEmpty v w)
 MatchPlaced (placed.Lost new) spare p v w = IsPlaceLost p.moment spare v w new
 
@@ -82,7 +82,7 @@ pub record IsSameBut (old new : HandValue) : Type 0 where
 -- the same of a hand; its key isn't looked for
 abbrev pub MatchPlacedAt : AddTried → PositionValue → HandValue → HandValue → Type 0
 MatchPlacedAt (tried.Linked m) p old new =
-    IsSameBut old new × ((new.spare ≡ None) × IsPlaced p.key old.spare old.token.view new.token.view m.value)
+    IsSameBut old new × ((new.spare ≡ None) × IsNodePlaced p.key old.spare old.token.view new.token.view m.value)
 MatchPlacedAt (tried.There s) p old new = ⊥
 MatchPlacedAt (tried.Full q) p old new =
     IsSameBut old new × ((q ≡ p) × ((old.spare ≡ None) × ((new.spare ≡ None)

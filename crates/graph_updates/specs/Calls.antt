@@ -28,7 +28,7 @@ pub record HasSpentAtMost (v w : View) : Type 0 where
 -- true of the new front, so that it's framed and each own event that changes the graph has just one own entry; the
 -- history of front and book is legal and ends in the graph of the front; and the call changed the graph once, where
 -- its answer tells of a change, and else not
-pub record IsAnswered (call : Call) (tries : ℕ) (outcome : Outcome) (old new : HandValue) : Type 0 where
+pub record HasAnswered (call : Call) (tries : ℕ) (outcome : Outcome) (old new : HandValue) : Type 0 where
   pub grows : IsPrefix old.token.view.front new.token.view.front
   pub number : new.token.view.number ≡ old.token.view.number
   pub entry : Entry
@@ -49,4 +49,4 @@ pub record IsAnswered (call : Call) (tries : ℕ) (outcome : Outcome) (old new :
 -- a hand that has had all its uses answers Worn and does nothing, and each other one answers the call
 pub record Answers (call : Call) (tries : ℕ) (outcome : Outcome) (old new : HandValue) : Type 0 where
   pub worn : old.uses ≡ 2 ^ 32 → (outcome ≡ Worn) × (new ≡ old)
-  pub answered : old.uses < 2 ^ 32 → IsAnswered call tries outcome old new
+  pub answered : old.uses < 2 ^ 32 → HasAnswered call tries outcome old new

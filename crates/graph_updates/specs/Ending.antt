@@ -51,7 +51,7 @@ IsFreeIn sizes x journal = (node_in sizes journal x).mode ≡ Free
 
 -- the oldest nodes of a limbo were given back, each ripe at this epoch and free at a moment since; the limbo is of the
 -- token still, and has all that it spent where it had
-pub record GivesBack (epoch : ℕ) (old new : LimboValue) (v w : View) : Type 0 where
+pub record GivesOldest (epoch : ℕ) (old new : LimboValue) (v w : View) : Type 0 where
   pub only : MakesOnly IsGiving v w
   pub gone : List RipeValue
   pub nodes : old.nodes ≡ gone ++ new.nodes
@@ -69,15 +69,15 @@ NoneRipe epoch limbo = Every (λ (r : RipeValue). epoch < r.stamp + 2) limbo.nod
 -- what giving the oldest node back came to
 abbrev pub MatchGift : Gift → ℕ → LimboValue → LimboValue → View → View → Type 0
 MatchGift gift.Given epoch old new v w =
-    GivesBack epoch old new v w × ((r : RipeValue) × (old.nodes ≡ r ∷ new.nodes))
+    GivesOldest epoch old new v w × ((r : RipeValue) × (old.nodes ≡ r ∷ new.nodes))
 MatchGift gift.NoneRipe epoch old new v w = (new ≡ old) × ((w ≡ v) × NoneRipe epoch new)
-MatchGift gift.Lost epoch old new v w = GivesBack epoch old new v w × Fell 1 w.number v.front w.front
+MatchGift gift.Lost epoch old new v w = GivesOldest epoch old new v w × Fell 1 w.number v.front w.front
 
 -- each node that is ripe at an epoch which this call loaded was given back, or a foreign event fell
 pub record HasGiven (epoch : ℕ) (none : Bool) (old new : LimboValue) (v w : View) : Type 0 where
   pub loaded : List Event
   pub found : HoldsBetween v.front w.front (EpochIs v epoch) loaded
-  pub given : GivesBack epoch old new v w
+  pub given : GivesOldest epoch old new v w
   pub left : none ≡ true → NoneRipe epoch new
   pub lost : none ≡ false → Fell 1 w.number v.front w.front
 

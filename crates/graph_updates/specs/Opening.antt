@@ -27,7 +27,7 @@ IsCause Memory w = Unit {0}
 IsCause NoNumber w = word_at w.sizes w.front (number_at w.sizes) ≡ w.sizes.callers
 
 -- a token comes back: it's of the table, and but for what it has seen as it was
-pub record IsRefused (g : TableValue) (v : View) (r : HandRefused) : Type 0 where
+pub record IsTokenRefused (g : TableValue) (v : View) (r : HandRefused) : Type 0 where
   pub of : IsOf g r.token
   pub grows : IsPrefix v.front r.token.view.front
   pub same : r.token.view ≡ record v { front = r.token.view.front }

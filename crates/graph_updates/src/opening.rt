@@ -4,7 +4,7 @@ ghost use Rattle.std.specs.Prelude.{◌≡◌, [], true, false, IfOk, IfErr};
 ghost use Rattle.core_stretches.specs.Holdings.{HasNoPass};
 ghost use Rattle.graph_table.specs.Tokens.{IsOf};
 ghost use Rattle.graph_updates.specs.Hands.{IsHandOf, IsInOrder};
-ghost use Rattle.graph_updates.specs.Opening.{IsNew, IsRefused};
+ghost use Rattle.graph_updates.specs.Opening.{IsNew, IsTokenRefused};
 
 use crate::hand::Hand;
 use epoch_limbo::Limbo;
@@ -42,7 +42,7 @@ impl Hand {
         ensures closed { IfOk result (λ hand. HasNoPass hand.token.view) }
         ensures order { IfOk result (λ hand. IsInOrder hand) }
         ensures new { IfOk result (λ hand. IsNew token.view hand) }
-        ensures refused { IfErr result (λ refusal. IsRefused table.now token.view refusal) }
+        ensures refused { IfErr result (λ refusal. IsTokenRefused table.now token.view refusal) }
     {
         let layout = table.layout();
         let mut token = token;

@@ -4,7 +4,7 @@ ghost use Rattle.std.specs.Prelude.{◌≡◌};
 ghost use Rattle.graph_kinds.specs.declared.call.Call.TheVariants.{RemoveVertex};
 ghost use Rattle.graph_kinds.specs.declared.outcome.Outcome.TheVariants.{Absent, Again, Full};
 ghost use Rattle.core_stretches.specs.Holdings.{HasNoPass};
-ghost use Rattle.graph_updates.specs.Calls.{IsAnswered};
+ghost use Rattle.graph_updates.specs.Calls.{HasAnswered};
 ghost use Rattle.graph_updates.specs.Hands.{IsHandOf, IsInOrder};
 ghost use Rattle.graph_updates.specs.Replying.{HasEnded, IsDueAgain, IsDueAt, IsDueAtMark, IsDueByChange, IsDueForFull};
 
@@ -63,7 +63,7 @@ pub(crate) fn reply(
     ensures order { IsInOrder hand.new }
     ensures closed { HasNoPass hand.new.token.view }
     ensures outcome { result ≡ outcome }
-    ensures answered { IsAnswered call.now tries outcome entered.now hand.new }
+    ensures answered { HasAnswered call.now tries outcome entered.now hand.new }
 {
     let token = &mut hand.token;
     let start = &entered.token;
@@ -100,7 +100,7 @@ pub(crate) fn reply_to_change(
     ensures order { IsInOrder hand.new }
     ensures closed { HasNoPass hand.new.token.view }
     ensures outcome { result ≡ outcome }
-    ensures answered { IsAnswered call.now tries outcome entered.now hand.new }
+    ensures answered { HasAnswered call.now tries outcome entered.now hand.new }
 {
     let token = &mut hand.token;
     let start = &entered.token;
@@ -135,7 +135,7 @@ pub(crate) fn reply_full(
     ensures order { IsInOrder hand.new }
     ensures closed { HasNoPass hand.new.token.view }
     ensures outcome { result ≡ Full }
-    ensures answered { IsAnswered call.now tries Full entered.now hand.new }
+    ensures answered { HasAnswered call.now tries Full entered.now hand.new }
 {
     let token = &mut hand.token;
     let start = &entered.token;
@@ -169,7 +169,7 @@ pub(crate) fn reply_again(
     ensures order { IsInOrder hand.new }
     ensures closed { HasNoPass hand.new.token.view }
     ensures outcome { result ≡ Again }
-    ensures answered { IsAnswered call.now tries Again entered.now hand.new }
+    ensures answered { HasAnswered call.now tries Again entered.now hand.new }
 {
     let token = &mut hand.token;
     let start = &entered.token;
@@ -204,7 +204,7 @@ pub(crate) fn reply_behind_mark(
     ensures order { IsInOrder hand.new }
     ensures closed { HasNoPass hand.new.token.view }
     ensures outcome { result ≡ Absent }
-    ensures answered { IsAnswered (RemoveVertex key) tries Absent entered.now hand.new }
+    ensures answered { HasAnswered (RemoveVertex key) tries Absent entered.now hand.new }
 {
     let call = Call::RemoveVertex { key };
     let token = &mut hand.token;

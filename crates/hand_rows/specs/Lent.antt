@@ -12,13 +12,13 @@ use Rattle.vertex_list.specs.declared.walks.Found.{Found}
 use Rattle.vertex_list.specs.declared.walks.Found.TheVariants.{Here, Gone, Dead}
 
 -- the token is of the table, has a number, and its pass is open
-pub record IsAtWork (g : TableValue) (t : TokenValue) : Type 0 where
+pub record IsInPass (g : TableValue) (t : TokenValue) : Type 0 where
   pub of : IsOf g t
   pub numbered : t.view.numbered ≡ true
   pub pass : HasPass t.view
 
 -- the key is missing at the position, and the node is filled for it
-pub record IsPrepared (key : ℕ) (v : View) (p : PositionValue) (x : Life) : Type 0 where
+pub record IsFilledFor (key : ℕ) (v : View) (p : PositionValue) (x : Life) : Type 0 where
   pub key_is : p.key ≡ key
   pub gap : IsGap v p
   pub filled : IsFilledAsVertex v p.key (index_of p.word) x

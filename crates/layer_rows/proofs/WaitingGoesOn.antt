@@ -23,7 +23,7 @@ use Rattle.epoch_limbo.specs.declared.advancing.Advanced.TheVariants.{Moved, Hel
 use Rattle.graph_table.specs.Tokens.{RipeValue}
 use Rattle.graph_updates.proofs.BurialLists.{every_map}
 use Rattle.graph_updates.specs.Burying.{FreezesOf, IsBuried}
-use Rattle.layer_rows.specs.Rows.{IsRemoved, IsWaiting}
+use Rattle.layer_rows.specs.Rows.{HasUnlinkedOne, IsWaiting}
 use Rattle.layer_rows.proofs.WorkGoesOn.{number_on, pass_on, there_on, unmoved_on}
 
 pub waiting_on : (was now : Bool) (n m : ℕ) (v w : View) (own : List Event) (nodes : List RipeValue)
@@ -99,7 +99,7 @@ none_of_kinds test [] every = refl
 none_of_kinds test (e ∷ es) every = let rest = none_of_kinds test es every.1 in rw every.0 (omega (arith, rest))
 
 -- burying begins to wait
-pub buried_waiting : (v w : View) (old new : LimboValue) (x : Life) → IsRemoved v x → IsBuried old new v w x
+pub buried_waiting : (v w : View) (old new : LimboValue) (x : Life) → HasUnlinkedOne v x → IsBuried old new v w x
     → IsWaiting true 0 w new.nodes
 buried_waiting v w old new x r b =
     let edges = map index_in b.edges in

@@ -8,13 +8,13 @@ use Rattle.core_rule.specs.Fronts.{key_in}
 use Rattle.core_rule.specs.declared.view.View.{View}
 use Rattle.core_stretches.specs.Moments.{Has, HoldsBetween}
 use Rattle.graph_table.specs.declared.answers.LinkTried.TheVariants.{Lost as LinkLost}
-use Rattle.vertex_calls.specs.Causes.{CameToNoGap, CameToNone, LostWord, TookNone, WasMissing, WasPresent}
+use Rattle.vertex_calls.specs.Causes.{CameToNoGap, CameToNoNode, CameToNone, LostWord, WasMissing, WasPresent}
 use Rattle.vertex_list.specs.Changes.{IsMarked}
 use Rattle.layer_rows.specs.Rows.{IsNoFront, IsPrepended}
 
 -- no node was taken; the walk came to no gap; or another caller changed the word at which the vertex was to be linked
 abbrev pub IsNoVertexAdded : ℕ → View → View → Type 0
-IsNoVertexAdded key v w = TookNone v w ⊎ (CameToNoGap key v w ⊎ LostWord key v w)
+IsNoVertexAdded key v w = CameToNoNode v w ⊎ (CameToNoGap key v w ⊎ LostWord key v w)
 
 -- a node was filled as an edge, and another word stood in front of the source's list than that to which it leads
 pub record IsFrontLost (source target : Life) (weight : ℕ) (v w : View) : Type 0 where
@@ -38,7 +38,7 @@ pub record IsFrontMissed (from to weight : ℕ) (v w : View) : Type 0 where
 -- no node was taken; a walk came to no vertex of its key; or the edge could not be put in front of the list
 abbrev pub IsNoEdgeAdded : (from to weight : ℕ) → View → View → Type 0
 IsNoEdgeAdded from to weight v w =
-    TookNone v w ⊎ (CameToNone from v w ⊎ (CameToNone to v w ⊎ IsFrontMissed from to weight v w))
+    CameToNoNode v w ⊎ (CameToNone from v w ⊎ (CameToNone to v w ⊎ IsFrontMissed from to weight v w))
 
 -- a vertex that was present with the key since the old front had its mark already
 pub record WasMarkedBefore (key : ℕ) (v w : View) : Type 0 where

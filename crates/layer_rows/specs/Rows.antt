@@ -116,7 +116,7 @@ pub record IsEdgeAdded (from to weight : ℕ) (v w : View) (x : Life) : Type 0 w
 
 -- in its open pass the token unlinked a vertex, whose list is open at its head; it spent no other node, and never moved
 -- the epoch on
-pub record IsRemoved (v : View) (x : Life) : Type 0 where
+pub record HasUnlinkedOne (v : View) (x : Life) : Type 0 where
   pub numbered : v.numbered ≡ true
   pub there : v.number < v.sizes.callers
   pub pass : HasPass v

@@ -4,7 +4,7 @@ ghost use Rattle.std.specs.Prelude.{◌≡◌, ◌≤◌, [], true, IfSome, IsNo
 ghost use Rattle.graph_table.specs.Tokens.{IsOf};
 ghost use Rattle.graph_updates.specs.Burying.{IsBuried};
 ghost use Rattle.layer_rows.specs.Causes.{IsNoneRemoved};
-ghost use Rattle.layer_rows.specs.Rows.{IsAtWork, IsRemoved, IsWaiting};
+ghost use Rattle.layer_rows.specs.Rows.{IsAtWork, HasUnlinkedOne, IsWaiting};
 
 use crate::vertices::look_for;
 use epoch_limbo::Limbo;
@@ -19,7 +19,7 @@ pub fn remove(table: &GraphTable, token: &mut Token, key: u32) -> Option<Spent>
     requires table { IsOf table.now token.old }
     requires work { IsAtWork token.old.view }
     ensures table { IsOf table.now token.new }
-    ensures removed { IfSome result (λ spent. IsRemoved token.new.view spent) }
+    ensures removed { IfSome result (λ spent. HasUnlinkedOne token.new.view spent) }
     ensures none { IsNone result → IsNoneRemoved key token.old.view token.new.view }
 {
     let Found::Here(seen) = look_for(table, token, key) else {
@@ -40,7 +40,7 @@ pub fn remove(table: &GraphTable, token: &mut Token, key: u32) -> Option<Spent>
 /// Buries the only node that the token spent, into an empty limbo with room for all nodes.
 pub fn bury_alone(table: &GraphTable, token: &mut Token, limbo: &mut Limbo, spent: Spent)
     requires table { IsOf table.now token.old }
-    requires removed { IsRemoved token.old.view spent }
+    requires removed { HasUnlinkedOne token.old.view spent }
     requires empty { limbo.old.nodes ≡ [] }
     requires room { table.now.sizes.nodes ≤ limbo.old.room }
     ensures table { IsOf table.now token.new }

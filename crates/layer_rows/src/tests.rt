@@ -6,7 +6,7 @@
 
 ghost use Rattle.std.specs.Prelude.{◌≡◌, true, false};
 ghost use Rattle.graph_table.specs.Tokens.{IsOf};
-ghost use Rattle.layer_rows.specs.Rows.{IsAtWork, IsRemoved, taken_by};
+ghost use Rattle.layer_rows.specs.Rows.{IsAtWork, HasUnlinkedOne, taken_by};
 
 use crate::{
     add_edge, add_vertex, begin, begin_pass, bury_alone, end_pass, leave, move_on, remove, renew,
@@ -25,7 +25,7 @@ fn removed(rt: &impl Abort, table: &GraphTable, token: &mut Token) -> Spent
     requires work { IsAtWork token.old.view }
     requires none { taken_by token.old.view ≡ 0 }
     ensures table { IsOf table.now token.new }
-    ensures removed { IsRemoved token.new.view result }
+    ensures removed { HasUnlinkedOne token.new.view result }
 {
     let one = add_vertex(table, token, 1).expect(rt, "vertex 1");
     let two = add_vertex(table, token, 2).expect(rt, "vertex 2");

@@ -13,13 +13,9 @@ use Rattle.core_stretches.specs.Holdings.{IsUnlinkedVertex}
 use Rattle.core_stretches.specs.Makes.{Makes, of_kinds}
 use Rattle.core_stretches.specs.Moments.{HoldsBetween}
 use Rattle.epoch_limbo.specs.Limbos.{IsNoneRipe, LimboValue}
-use Rattle.node_arena.specs.Taking.{FoundEmpty, IsTakeLost}
+use Rattle.node_arena.specs.Taking.{TookNone}
 use Rattle.table_calls.specs.Vertices.{IsEmptyBucket, word_in}
 use Rattle.limbo_calls.specs.Steady.{LeadsToMet}
-
--- no node was taken: the free list was found empty, or another caller changed its word before that
-abbrev pub TookNone : View → View → Type 0
-TookNone v w = FoundEmpty v w ⊎ IsTakeLost v w
 
 -- the token's events, one of which links a vertex
 pub record LinksOne (v w : View) : Type 0 where

@@ -6,7 +6,7 @@ ghost use Rattle.core_rule.specs.OwnEvents.{announce_event, withdraw_event};
 ghost use Rattle.core_stretches.specs.Holdings.{IsFilledAsEdge};
 ghost use Rattle.core_stretches.specs.Makes.{Makes};
 ghost use Rattle.graph_table.specs.Tokens.{IsOf};
-ghost use Rattle.limbo_calls.specs.Causes.{IsNoneAdded, LinksOne, TookNone};
+ghost use Rattle.limbo_calls.specs.Causes.{IsNoneAdded, LinksOne};
 ghost use Rattle.limbo_calls.specs.Steady.{IsSteady};
 
 use epoch_limbo::{close_pass, open_pass};

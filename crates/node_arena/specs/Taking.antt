@@ -1,5 +1,5 @@
 -- What taking a node tells.
-use Rattle.std.specs.Prelude.{◌≡◌, ℕ, ◌<◌, List, [], ◌∷◌}
+use Rattle.std.specs.Prelude.{◌≡◌, ◌⊎◌, ℕ, ◌<◌, List, [], ◌∷◌}
 use Rattle.packed_link.specs.Layout.{free_at}
 use Rattle.packed_link.specs.Link.{index_of, nowhere}
 use Rattle.packed_link.specs.declared.link.Life.{Life}
@@ -43,6 +43,10 @@ pub record IsTakeLost (v w : View) : Type 0 where
   pub found : HoldsBetween v.front w.front (FreeWordIs v seen) loaded
   pub some : index_of seen < v.sizes.nodes
   pub changed : IsChangedByAnother loaded w.front w.number (free_at w.sizes)
+
+-- no node was taken: the free list was found empty, or another caller changed its word before that
+abbrev pub TookNone : View → View → Type 0
+TookNone v w = FoundEmpty v w ⊎ IsTakeLost v w
 
 abbrev pub MatchTaken : Taken → View → View → Type 0
 MatchTaken (Node x) v w = IsTaken v w x

@@ -60,39 +60,39 @@ third_at sizes index = 4 + sizes.callers + sizes.buckets + 4 * index + 3
 
 -- the words of a table by their names
 pub data Place : Type 0 where
-  Meeting : Place
-  Number : Place
-  Epoch : Place
-  Free : Place
-  Announce : ℕ → Place
-  Bucket : ℕ → Place
-  Key : ℕ → Place
-  Link : ℕ → Place
-  Second : ℕ → Place
-  Third : ℕ → Place
+  MeetingWord : Place
+  NumberWord : Place
+  EpochWord : Place
+  FreeWord : Place
+  AnnounceWord : ℕ → Place
+  BucketWord : ℕ → Place
+  KeyWord : ℕ → Place
+  LinkWord : ℕ → Place
+  SecondWord : ℕ → Place
+  ThirdWord : ℕ → Place
 
 -- a name that a table of these sizes has
 abbrev pub IsPlace : Sizes → Place → Type 0
-IsPlace sizes Meeting = Unit {0}
-IsPlace sizes Number = Unit {0}
-IsPlace sizes Epoch = Unit {0}
-IsPlace sizes Free = Unit {0}
-IsPlace sizes (Announce caller) = caller < sizes.callers
-IsPlace sizes (Bucket bucket) = bucket < sizes.buckets
-IsPlace sizes (Key index) = index < sizes.nodes
-IsPlace sizes (Link index) = index < sizes.nodes
-IsPlace sizes (Second index) = index < sizes.nodes
-IsPlace sizes (Third index) = index < sizes.nodes
+IsPlace sizes MeetingWord = Unit {0}
+IsPlace sizes NumberWord = Unit {0}
+IsPlace sizes EpochWord = Unit {0}
+IsPlace sizes FreeWord = Unit {0}
+IsPlace sizes (AnnounceWord caller) = caller < sizes.callers
+IsPlace sizes (BucketWord bucket) = bucket < sizes.buckets
+IsPlace sizes (KeyWord index) = index < sizes.nodes
+IsPlace sizes (LinkWord index) = index < sizes.nodes
+IsPlace sizes (SecondWord index) = index < sizes.nodes
+IsPlace sizes (ThirdWord index) = index < sizes.nodes
 
 -- where the word of a name stands
 abbrev pub place_of : Sizes → Place → ℕ
-place_of sizes Meeting = 0
-place_of sizes Number = number_at sizes
-place_of sizes Epoch = epoch_at sizes
-place_of sizes Free = free_at sizes
-place_of sizes (Announce caller) = announce_at sizes caller
-place_of sizes (Bucket bucket) = bucket_at sizes bucket
-place_of sizes (Key index) = key_at sizes index
-place_of sizes (Link index) = link_at sizes index
-place_of sizes (Second index) = second_at sizes index
-place_of sizes (Third index) = third_at sizes index
+place_of sizes MeetingWord = 0
+place_of sizes NumberWord = number_at sizes
+place_of sizes EpochWord = epoch_at sizes
+place_of sizes FreeWord = free_at sizes
+place_of sizes (AnnounceWord caller) = announce_at sizes caller
+place_of sizes (BucketWord bucket) = bucket_at sizes bucket
+place_of sizes (KeyWord index) = key_at sizes index
+place_of sizes (LinkWord index) = link_at sizes index
+place_of sizes (SecondWord index) = second_at sizes index
+place_of sizes (ThirdWord index) = third_at sizes index

@@ -12,7 +12,7 @@ use Rattle.core_stretches.proofs.MakesTell.{makes_later}
 use Rattle.node_arena.specs.Taking.{MatchTaken}
 use Rattle.node_arena.specs.declared.taking.Taken.{Taken}
 use Rattle.node_arena.specs.declared.taking.Taken.TheVariants.{Node, Empty, Lost}
-use Rattle.vertex_calls.specs.Causes.{CameToNoGap, CameToNone, IsWalked, MetDead, TookNone, WasMissing, WasPresent}
+use Rattle.vertex_calls.specs.Causes.{CameToNoGap, CameToNone, IsWalked, MetDead, CameToNoNode, WasMissing, WasPresent}
 use Rattle.vertex_list.specs.Positions.{PositionValue}
 use Rattle.vertex_list.specs.Walks.{MatchFound}
 use Rattle.vertex_list.specs.declared.walks.Found.{Found}
@@ -76,7 +76,7 @@ came_to_none v w key (Dead q) h not = inr (met_dead v w key q h)
 
 -- behind loads no node was taken
 pub took_none : (v m w : View) (r : Taken) → Makes v [] m → MatchTaken r m w → ((x : Life) → r ≡ Node x → ⊥)
-    → TookNone v w
+    → CameToNoNode v w
 took_none v m w (Node x) first h not = absurd (not x refl)
 took_none v m w Empty first h not = record { then = m; loads = first; cause = inl h }
 took_none v m w Lost first h not = record { then = m; loads = first; cause = inr h }

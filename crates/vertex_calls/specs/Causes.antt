@@ -7,7 +7,7 @@ use Rattle.core_lists.specs.Changed.{IsChangedByAnother}
 use Rattle.core_rule.specs.declared.view.View.{View}
 use Rattle.core_stretches.specs.Makes.{Makes}
 use Rattle.core_stretches.specs.Moments.{Has, HoldsBetween, Lacks}
-use Rattle.node_arena.specs.Taking.{FoundEmpty, IsTakeLost}
+use Rattle.node_arena.specs.Taking.{TookNone}
 use Rattle.vertex_list.specs.Positions.{PositionValue, LeadsToDead}
 use Rattle.vertex_list.specs.Walks.{MatchFound}
 use Rattle.vertex_list.specs.declared.walks.Found.{Found}
@@ -53,8 +53,8 @@ pub record IsWalked (key : ℕ) (r : Found) (v w : View) : Type 0 where
   pub makes : Makes v [] w
   pub found : MatchFound r from w
 
--- behind loads, the free list was found empty, or another caller changed its word before a node was taken
-pub record TookNone (v w : View) : Type 0 where
+-- after loads no node was taken
+pub record CameToNoNode (v w : View) : Type 0 where
   pub then : View
   pub loads : Makes v [] then
-  pub cause : FoundEmpty then w ⊎ IsTakeLost then w
+  pub cause : TookNone then w

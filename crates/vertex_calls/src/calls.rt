@@ -8,7 +8,7 @@ ghost use Rattle.table_calls.specs.Resting.{IsResting, uses_of};
 ghost use Rattle.vertex_list.specs.Changes.{IsLost, MatchLinked, MatchMarked};
 ghost use Rattle.vertex_list.specs.Positions.{IsAnyPosition, IsPosition, LeadsToDead};
 ghost use Rattle.vertex_list.specs.Walks.{MatchFound, MatchStepped};
-ghost use Rattle.vertex_calls.specs.Causes.{CameToNoGap, IsWalked, TookNone};
+ghost use Rattle.vertex_calls.specs.Causes.{CameToNoGap, IsWalked, CameToNoNode};
 ghost use Rattle.vertex_calls.specs.Ready.{IsInPass, IsPrepared, IsReady, is_done};
 
 use epoch_limbo::open_pass;
@@ -118,7 +118,7 @@ pub fn prepare(
     ensures prepared { IfSome result (λ both. IsPrepared (_taken + 1) token.new.view both.0 both.1) }
     ensures key { IfSome result (λ both. both.0.key ≡ key) }
     ensures none { IsNone result
-        → CameToNoGap key token.old.view token.new.view ⊎ TookNone token.old.view token.new.view }
+        → CameToNoGap key token.old.view token.new.view ⊎ CameToNoNode token.old.view token.new.view }
 {
     let position = start(table, token, key);
     let Found::Gone(position) = walk(table, token, position) else {

@@ -1,5 +1,5 @@
 use Rattle.std.proofs.Common.{[], None, refl, subst, arith}
-use Rattle.free_list_rounds.specs.Rounds.{HoldsSpare}
+use Rattle.free_list_rounds.specs.Rounds.{HoldsSpareOrNone}
 use Rattle.free_list_rounds.proofs.StagesTell.{took_work, took_pass, took_counts}
 use Rattle.free_list_rounds.proofs.WorkGoesOn.{counts_go, goes_look, spares_look}
 use Rattle.free_list_rounds.proofs.growing.supply.Goals as goal
@@ -23,7 +23,7 @@ returns-in-Empty-clause-pass c = (goes_look c.args.token.now.view c.take.new.tok
 pub returns-in-Empty-clause-spare : goal.returns-in-Empty-clause-spare
 returns-in-Empty-clause-spare c = spares_look c.args.token.now.view c.take.new.token.view c.requires.table.layout
     c.in-Empty.ensures.taken.makes None
-    (subst (λ s. HoldsSpare s c.args.token.now.view) c.in-None.is c.requires.spare)
+    (subst (λ s. HoldsSpareOrNone s c.args.token.now.view) c.in-None.is c.requires.spare)
 
 pub returns-in-Empty-clause-work : goal.returns-in-Empty-clause-work
 returns-in-Empty-clause-work c = (goes_look c.args.token.now.view c.take.new.token.view c.requires.table.layout
@@ -40,7 +40,7 @@ returns-in-Lost-clause-pass c = (goes_look c.args.token.now.view c.take.new.toke
 pub returns-in-Lost-clause-spare : goal.returns-in-Lost-clause-spare
 returns-in-Lost-clause-spare c = spares_look c.args.token.now.view c.take.new.token.view c.requires.table.layout
     c.in-Lost.ensures.taken.makes None
-    (subst (λ s. HoldsSpare s c.args.token.now.view) c.in-None.is c.requires.spare)
+    (subst (λ s. HoldsSpareOrNone s c.args.token.now.view) c.in-None.is c.requires.spare)
 
 pub returns-in-Lost-clause-work : goal.returns-in-Lost-clause-work
 returns-in-Lost-clause-work c = (goes_look c.args.token.now.view c.take.new.token.view c.requires.table.layout
