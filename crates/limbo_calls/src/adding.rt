@@ -8,6 +8,7 @@ ghost use Rattle.core_stretches.specs.Makes.{Makes};
 ghost use Rattle.graph_table.specs.Tokens.{IsOf};
 ghost use Rattle.limbo_calls.specs.Causes.{IsNoneAdded, LinksOne};
 ghost use Rattle.limbo_calls.specs.Steady.{IsSteady};
+ghost use Rattle.node_arena.specs.Taking.{TookNone};
 
 use epoch_limbo::{close_pass, open_pass};
 use graph_table::{Fresh, GraphTable, LinkTried, Token};
