@@ -1,3 +1,4 @@
 pub mod Callers
-pub mod Performing
+pub mod Hiring
 pub mod Looking
+pub mod Performing

@@ -7,11 +7,11 @@ ghost use Rattle.graph_table.specs.Tokens.{IsOf};
 ghost use Rattle.graph_updates.specs.Ending.{MatchSettled};
 ghost use Rattle.packed_link.specs.Layout.{IsLayout};
 ghost use Rattle.shared_graph.specs.Callers.{IsCallerOf, LooksOn, front_of};
-ghost use Rattle.shared_graph.specs.Performing.{HasPerformed};
+ghost use Rattle.shared_graph.specs.Performing.{HasPerformed, IsVertexCall};
 
 use crate::caller::Caller;
 use crate::hands::{copy_front, meet_front};
-use graph_kinds::Outcome;
+use graph_kinds::{Call, Outcome};
 use graph_table::{GraphTable, Token};
 use graph_updates::{Settled, add_vertex, has_vertex, remove_vertex, settle};
 use packed_link::Layout;
@@ -83,6 +83,22 @@ impl SharedGraph {
         ensures answers { HasPerformed (HasVertex key) tries result caller.old caller.new }
     {
         has_vertex(&self.table, &mut caller.hand, key, tries)
+    }
+
+    /// Makes a call on vertices, as the function of its name does.
+    pub(crate) fn perform(&self, caller: &mut Caller, call: &Call, tries: u32) -> Outcome
+        requires caller { IsCallerOf self.now caller.old }
+        requires some { 0 < tries }
+        requires call { IsVertexCall call.now }
+        ensures caller { IsCallerOf self.now caller.new }
+        ensures answers { HasPerformed call.now tries result caller.old caller.new }
+    {
+        match *call {
+            Call::AddVertex { key } => self.add_vertex(caller, key, tries),
+            Call::RemoveVertex { key } => self.remove_vertex(caller, key, tries),
+            Call::HasVertex { key } => self.has_vertex(caller, key, tries),
+            _ => unreachable!(),
+        }
     }
 
     /// Gives back each node that is ripe: `graph_updates::settle` on the caller's hand.

@@ -7,7 +7,10 @@
 mod caller;
 mod graph;
 mod hands;
+mod opening;
+mod port;
 
 pub use caller::Caller;
 pub use graph::{Note, SharedGraph};
 pub use graph_updates::Settled;
+pub use port::GraphPort;
