@@ -1,4 +1,5 @@
 pub mod Callers
 pub mod Hiring
+pub mod Joining
 pub mod Looking
 pub mod Performing

@@ -1,7 +1,9 @@
 //! A caller of a shared graph.
 
 ghost use Rattle.std.specs.Prelude.{◌≡◌};
+ghost use Rattle.shared_graph.specs.Callers.{IsBetweenCalls};
 
+use graph_table::Token;
 use graph_updates::Hand;
 use std::marker::Model;
 
@@ -35,5 +37,14 @@ impl Caller {
         ensures uses { result ≡ self.now.hand.uses }
     {
         self.hand.uses()
+    }
+
+    /// Gives the caller's token up, in O(1): the caller was between two calls.
+    pub(crate) fn into_token(self) -> Token
+        ensures token { result ≡ self.hand.token }
+        ensures between { IsBetweenCalls self.hand }
+    {
+        let Caller { hand } = self;
+        hand.into_token()
     }
 }

@@ -5,6 +5,7 @@
 #![tactic(auto)]
 
 mod caller;
+mod closing;
 mod graph;
 mod hands;
 mod opening;
