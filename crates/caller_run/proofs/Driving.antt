@@ -1,9 +1,12 @@
 -- How what is known of a port grows with each call that it answers.
-use Rattle.std.proofs.Common.{◌≡◌, ◌≢◌, ℕ, ◌+◌, ◌<◌, ◌≤◌, true, false, List, [], ◌∷◌, ◌++◌, length, map, take, drop, get_or, All, refl, sym, ap, ◌∙◌, subst, inl, inr, arith, append_assoc, append-nil, length-append, length-take, eq-zero-or-pos, take_all, take-append-drop, take-suc, add-one, drop_of_length-le, rules}
+use Rattle.std.proofs.Common.{◌≡◌, ◌≢◌, ℕ, ◌+◌, ◌<◌, ◌≤◌, false, List, [], ◌∷◌, ◌++◌, length, map, take, drop, get_or}
+use Rattle.std.proofs.Common.{All, refl, sym, ap, ◌∙◌, subst, inl, inr, arith, append_assoc, append-nil}
+use Rattle.std.proofs.Common.{length-append, eq-zero-or-pos, take_all, take-append-drop, take-suc, add-one}
+use Rattle.std.proofs.Common.{drop_of_length-le, rules}
 use Rattle.std.proofs.lemmas.List.{map-append, take-append-le, drop-append-le}
 use Rattle.std.proofs.lemmas.List.Elements.{All-append, All-nil, All-cons, filter-append}
 use Rattle.std.specs.List.{zip}
-use Rattle.std.specs.Prelude.{filter, not}
+use Rattle.std.specs.Prelude.{Bool, filter, not}
 use Rattle.std.proofs.Common.{Result, Ok, Err, OnOk, IfOk}
 use Rattle.std.specs.Result.{is_err}
 use Rattle.graph_kinds.specs.declared.call.Call.{Call}
@@ -23,6 +26,17 @@ zip-snoc [] (b ∷ ys) x y e = absurd (omega arith)
 zip-snoc (a ∷ xs) [] x y e = absurd (omega arith)
 zip-snoc (a ∷ xs) (b ∷ ys) x y e = ap (λ l. (a, b) ∷ l) (zip-snoc xs ys x y (omega arith))
 
+-- an answer is another than Worn, or is Worn without keys
+abbrev IsAnswered : Answer → Type 0
+IsAnswered r = r.outcome ≢ Worn
+
+abbrev IsWorn : Answer → Type 0
+IsWorn r = r ≡ plain Worn
+
+-- whether a call is answered otherwise than Worn
+abbrev is_other : Call × Answer → Bool
+is_other p = not (is_worn p.1.outcome)
+
 -- an outcome that isn't Worn
 not_worn : (o : Outcome) → o ≢ Worn → is_worn o ≡ false
 not_worn o n = grind arith
@@ -31,18 +45,18 @@ not_worn o n = grind arith
 unworn-worn : (calls : List Call) (replies : List Answer) (c : Call) → length replies ≡ length calls
     → unworn (calls ++ c ∷ []) (replies ++ plain Worn ∷ []) ≡ unworn calls replies
 unworn-worn calls replies c e =
-    ap (filter (λ (p : Call × Answer). not (is_worn p.1.outcome))) (zip-snoc calls replies c (plain Worn) e)
-    ∙ filter-append (λ (p : Call × Answer). not (is_worn p.1.outcome)) (zip calls replies) ((c, plain Worn) ∷ [])
+    ap (filter is_other) (zip-snoc calls replies c (plain Worn) e)
+    ∙ filter-append is_other (zip calls replies) ((c, plain Worn) ∷ [])
     ∙ append-nil (unworn calls replies)
 
 -- one more call that is answered otherwise
 unworn-more : (calls : List Call) (replies : List Answer) (c : Call) (a : Answer) → length replies ≡ length calls
     → a.outcome ≢ Worn → unworn (calls ++ c ∷ []) (replies ++ a ∷ []) ≡ unworn calls replies ++ (c, a) ∷ []
 unworn-more calls replies c a e n =
-    let one : filter (λ (p : Call × Answer). not (is_worn p.1.outcome)) ((c, a) ∷ []) ≡ (c, a) ∷ [] =
+    let one : filter is_other ((c, a) ∷ []) ≡ (c, a) ∷ [] =
     rw (not_worn a.outcome n) refl in
-    ap (filter (λ (p : Call × Answer). not (is_worn p.1.outcome))) (zip-snoc calls replies c a e)
-    ∙ filter-append (λ (p : Call × Answer). not (is_worn p.1.outcome)) (zip calls replies) ((c, a) ∷ [])
+    ap (filter is_other) (zip-snoc calls replies c a e)
+    ∙ filter-append is_other (zip calls replies) ((c, a) ∷ [])
     ∙ ap (λ l. unworn calls replies ++ l) one
 
 -- what holds of one element holds of each of a list of it alone
@@ -85,6 +99,7 @@ module _ {X : Type 0} (book : X → List Entry) (left front : X → ℕ) where
   driven-worn p q r tries calls replies c a d one z =
       let s = d.all.some in
       let stays = one.worn z in
+      let later = one.later in
       let same : a ≡ plain Worn = stays.0 in
       let each = d.all.one_each in
       let enough : left p ≤ length replies = (let u = s.used in let m = d.at_most in omega arith) in
@@ -95,16 +110,16 @@ module _ {X : Type 0} (book : X → List Entry) (left front : X → ℕ) where
             grown = stays.1 ∙ s.grown;
             asked = s.asked ∙ sym (take-append-le (length s.gained) calls (c ∷ []) d.at_most);
             given = s.given;
-            within = λ k e lt. (let l = one.later in omega (arith, s.within k e lt), let l = one.later in omega (arith, s.within k e lt));
+            within = λ k e lt. (omega (arith, s.within k e lt), omega (arith, later, s.within k e lt));
             used = (let u = s.used in let v = stays.2 in omega arith);
-            later = (let l = s.later in let m = one.later in omega arith);
+            later = (let l = s.later in omega arith);
           };
           one_each = omega (arith, length-append replies (a ∷ []), length-append calls (c ∷ []));
           entered = d.all.entered ∙ sym (unworn-worn calls replies c each)
               ∙ ap (λ (x : Answer). unworn (calls ++ c ∷ []) (replies ++ x ∷ [])) (sym same);
-          in_time = subst (All (λ (x : Answer). x.outcome ≢ Worn)) (sym (take-append-le (left p) replies (a ∷ []) enough)) d.all.in_time;
-          worn = subst (All (λ (x : Answer). x ≡ plain Worn)) (sym (drop-append-le (left p) replies (a ∷ []) enough))
-              (All-append (λ (x : Answer). x ≡ plain Worn) (drop (left p) replies) (a ∷ []) d.all.worn (of_one (λ (x : Answer). x ≡ plain Worn) a same));
+          in_time = subst (All IsAnswered) (sym (take-append-le (left p) replies (a ∷ []) enough)) d.all.in_time;
+          worn = subst (All IsWorn) (sym (drop-append-le (left p) replies (a ∷ []) enough))
+              (All-append IsWorn (drop (left p) replies) (a ∷ []) d.all.worn (of_one IsWorn a same));
         };
         at_most = (let m = d.at_most in omega (arith, length-append calls (c ∷ [])));
         full = λ h. absurd (let v = stays.2 in omega arith);
@@ -118,11 +133,14 @@ module _ {X : Type 0} (book : X → List Entry) (left front : X → ℕ) where
       let s = d.all.some in
       let each = d.all.one_each in
       let falls = one.in_time some in
+      let later = one.later in
       let g = one.entered some in
       let full = d.full some in
       let few : length replies < left p = (let u = s.used in omega arith) in
-      let longer : length (replies ++ a ∷ []) ≡ length (calls ++ c ∷ []) = omega (arith, length-append replies (a ∷ []), length-append calls (c ∷ [])) in
-      let more : length (s.gained ++ g.entry ∷ []) ≡ length (calls ++ c ∷ []) = omega (arith, length-append s.gained (g.entry ∷ []), length-append calls (c ∷ [])) in
+      let longer : length (replies ++ a ∷ []) ≡ length (calls ++ c ∷ []) =
+      omega (arith, length-append replies (a ∷ []), length-append calls (c ∷ [])) in
+      let more : length (s.gained ++ g.entry ∷ []) ≡ length (calls ++ c ∷ []) =
+      omega (arith, length-append s.gained (g.entry ∷ []), length-append calls (c ∷ [])) in
       let within : length (replies ++ a ∷ []) ≤ left p = omega (arith, length-append replies (a ∷ [])) in
       record {
         all = record {
@@ -130,17 +148,19 @@ module _ {X : Type 0} (book : X → List Entry) (left front : X → ℕ) where
             gained = s.gained ++ g.entry ∷ [];
             grown = g.added ∙ ap (λ b. b ++ g.entry ∷ []) s.grown ∙ append_assoc (book p) s.gained (g.entry ∷ []);
             asked =
-                let before : map (λ (e : Entry). e.call) s.gained ≡ calls = s.asked ∙ take_all (length s.gained) calls (omega arith) in
+                let before : map (λ (e : Entry). e.call) s.gained ≡ calls =
+                s.asked ∙ take_all (length s.gained) calls (omega arith) in
                 map-append (λ (e : Entry). e.call) s.gained (g.entry ∷ [])
                 ∙ ap (λ l. l ++ g.entry.call ∷ []) before ∙ ap (λ x. calls ++ x ∷ []) g.asked
                 ∙ sym (take_all (length (s.gained ++ g.entry ∷ [])) (calls ++ c ∷ []) (omega arith));
-            given = All-append (λ (e : Entry). e.tries ≡ tries) s.gained (g.entry ∷ []) s.given (of_one (λ (e : Entry). e.tries ≡ tries) g.entry g.given);
+            given = All-append (λ (e : Entry). e.tries ≡ tries) s.gained (g.entry ∷ []) s.given
+                (of_one (λ (e : Entry). e.tries ≡ tries) g.entry g.given);
             within = All-append (λ (e : Entry). (front p ≤ e.start) × (e.end ≤ front r)) s.gained (g.entry ∷ [])
-                (λ k e lt. (let l = one.later in omega (arith, s.within k e lt), let l = one.later in omega (arith, s.within k e lt)))
+                (λ k e lt. (omega (arith, s.within k e lt), omega (arith, later, s.within k e lt)))
                 (of_one (λ (e : Entry). (front p ≤ e.start) × (e.end ≤ front r)) g.entry
                 (let l = s.later in let b = g.started in omega arith, let l = g.ended in omega arith));
             used = (let u = s.used in let v = falls.1 in omega (arith, length-append s.gained (g.entry ∷ [])));
-            later = (let l = s.later in let m = one.later in omega arith);
+            later = (let l = s.later in omega arith);
           };
           one_each = longer;
           entered =
@@ -148,12 +168,12 @@ module _ {X : Type 0} (book : X → List Entry) (left front : X → ℕ) where
               map-append asked_in s.gained (g.entry ∷ [])
               ∙ ap (λ l. l ++ asked_in g.entry ∷ []) d.all.entered ∙ ap (λ x. unworn calls replies ++ x ∷ []) last
               ∙ sym (unworn-more calls replies c a each falls.0);
-          in_time = subst (All (λ (x : Answer). x.outcome ≢ Worn)) (sym (take_all (left p) (replies ++ a ∷ []) (omega arith)))
-              (All-append (λ (x : Answer). x.outcome ≢ Worn) replies (a ∷ [])
-              (subst (All (λ (x : Answer). x.outcome ≢ Worn)) (take_all (left p) replies (omega arith)) d.all.in_time)
-              (of_one (λ (x : Answer). x.outcome ≢ Worn) a falls.0));
-          worn = subst (All (λ (x : Answer). x ≡ plain Worn)) (sym (drop_of_length-le (replies ++ a ∷ []) {i = left p} within))
-              (All-nil (λ (x : Answer). x ≡ plain Worn));
+          in_time = subst (All IsAnswered) (sym (take_all (left p) (replies ++ a ∷ []) (omega arith)))
+              (All-append IsAnswered replies (a ∷ [])
+              (subst (All IsAnswered) (take_all (left p) replies (omega arith)) d.all.in_time)
+              (of_one IsAnswered a falls.0));
+          worn = subst (All IsWorn) (sym (drop_of_length-le (replies ++ a ∷ []) {i = left p} within))
+              (All-nil IsWorn);
         };
         at_most = omega arith;
         full = λ h. more;
@@ -170,7 +190,8 @@ module _ {X : Type 0} (book : X → List Entry) (left front : X → ℕ) where
       ]
 
   -- some of the calls, where more were to come
-  pub some-of-more : (p q : X) (tries : ℕ) (calls more : List Call) (s : HasAnsweredSome book left front p q tries calls)
+  pub some-of-more : (p q : X) (tries : ℕ) (calls more : List Call)
+      (s : HasAnsweredSome book left front p q tries calls)
       → length s.gained ≤ length calls → HasAnsweredSome book left front p q tries (calls ++ more)
   some-of-more p q tries calls more s few = record {
     gained = s.gained;

@@ -1,5 +1,6 @@
 -- What a port has done when it was asked calls, and what belongs to one caller among all rows.
-use Rattle.std.specs.Prelude.{◌≡◌, ◌≢◌, ℕ, ◌+◌, ◌≤◌, ◌==◌, Bool, true, false, List, ◌++◌, All, length, map, take, drop, filter, not}
+use Rattle.std.specs.Prelude.{◌≡◌, ◌≢◌, ℕ, ◌+◌, ◌≤◌, ◌==◌, Bool, true, false, List, ◌++◌, All, length, map, take}
+use Rattle.std.specs.Prelude.{drop, filter, not}
 use Rattle.std.specs.List.{zip}
 use Rattle.graph_kinds.specs.declared.answer.Answer.{Answer}
 use Rattle.graph_kinds.specs.declared.call.Call.{Call}

@@ -15,7 +15,6 @@ use std::thread::Threads;
 
 // No lane has a call.
 fn clear<P>(lanes: &mut [Lane<P>])
-    ensures count { length lanes.new ≡ length lanes.old }
     ensures ports { (i : ℕ) (d : Lane P) → i < length lanes.old →
         (slice_index_or lanes.new i d).port ≡ (slice_index_or lanes.old i d).port }
     ensures calls { (i : ℕ) (d : Lane P) → i < length lanes.old → (slice_index_or lanes.new i d).calls.items ≡ [] }
@@ -28,7 +27,6 @@ fn clear<P>(lanes: &mut [Lane<P>])
 // Gives each row's call to the lane of its caller, in the order of the rows.
 fn deal<P>(rows: &[Row], lanes: &mut [Lane<P>]) -> Result<(), Memory>
     requires callers { All (λ r. r.caller < length lanes.old) rows.now }
-    ensures count { length lanes.new ≡ length lanes.old }
     ensures ports { (i : ℕ) (d : Lane P) → i < length lanes.old →
         (slice_index_or lanes.new i d).port ≡ (slice_index_or lanes.old i d).port }
     ensures calls { OnOk result ((i : ℕ) (d : Lane P) → i < length lanes.old →
@@ -100,14 +98,17 @@ fn merge<P>(alloc: Global, rows: &[Row], lanes: &mut [Lane<P>]) -> Result<Vec<An
     Ok(all)
 }
 
-/// Runs the rows, each on the port of its caller, with a thread for each port. `Ok` has one answer for each row, in
-/// the order of the rows. The book of each port has grown by those of its rows' calls that aren't answered Worn, in
-/// order, each with its answer and this number of tries. Where a port has `n` uses left, its first `n` rows aren't
-/// answered Worn, and each later one is. O(rows + lanes), beside what the ports do.
+/// Runs the rows, each on the port of its caller, with a thread for each port. A port keeps its number and what it is
+/// a port of.
+///
+/// `Ok` has one answer for each row, in the order of the rows. The book of each port has grown by those of its rows'
+/// calls that aren't answered Worn, in the order of the rows, each with its answer and this number of tries. If a port
+/// has `n` uses left, its first `n` rows aren't answered Worn, and each later one is, without keys. O(rows + lanes),
+/// beside what the ports do and the keys of their answers.
 ///
 /// # Errors
-/// `Memory` where there is no room for the calls, the answers or their keys, and then the book of each port has grown
-/// by the calls of some of its rows, from the first on, each with this number of tries.
+/// `Memory` if there is no room for the calls, the answers or their keys. Then the book of each port has grown by the
+/// calls of some of its rows, from the first on, each with this number of tries.
 pub fn run_callers<R: Threads + Sync, P: CallerPort + Send>(
     rt: &R,
     alloc: Global,
@@ -118,14 +119,17 @@ pub fn run_callers<R: Threads + Sync, P: CallerPort + Send>(
     requires some { 0 < tries }
     requires calls { All (λ r. P.serves r.call) rows.now }
     requires callers { All (λ r. r.caller < length lanes.old) rows.now }
-    requires numbers { (i : ℕ) (d : Lane P) → i < length lanes.old → P.number (port_of (slice_index_or lanes.old i d)) ≡ i }
-    ensures number { (i : ℕ) (d : Lane P) → i < length lanes.old → P.number (port_of (slice_index_or lanes.new i d)) ≡ i }
+    requires numbers { (i : ℕ) (d : Lane P) → i < length lanes.old →
+        P.number (port_of (slice_index_or lanes.old i d)) ≡ i }
+    ensures number { (i : ℕ) (d : Lane P) → i < length lanes.old →
+        P.number (port_of (slice_index_or lanes.new i d)) ≡ i }
     ensures origin { (i : ℕ) (d : Lane P) → i < length lanes.old →
         P.origin (port_of (slice_index_or lanes.new i d)) ≡ P.origin (port_of (slice_index_or lanes.old i d)) }
     ensures one_each { IfOk result (λ v. vec_len v ≡ length rows.now) }
     ensures books { IfOk result (λ v. (i : ℕ) (d : Lane P) → i < length lanes.old →
         HasAnsweredAll P.book P.left P.front (port_of (slice_index_or lanes.old i d))
-        (port_of (slice_index_or lanes.new i d)) tries (calls_of (rows_of_caller i rows.now)) (answers_to_caller i rows.now v.items)) }
+        (port_of (slice_index_or lanes.new i d)) tries (calls_of (rows_of_caller i rows.now))
+        (answers_to_caller i rows.now v.items)) }
     ensures some { (i : ℕ) (d : Lane P) → i < length lanes.old →
         HasAnsweredSome P.book P.left P.front (port_of (slice_index_or lanes.old i d))
         (port_of (slice_index_or lanes.new i d)) tries (calls_of (rows_of_caller i rows.now)) }

@@ -6,5 +6,6 @@ pub returns-clause-turn : goal.returns-clause-turn
 returns-clause-turn g c = record {
   some = rw (← c.as_slice.ensures.value) c.drive-driven.ensures.some;
   all = λ h.
-      rw (← c.as_slice.ensures.value) (on_ok c.drive-driven.result _ (sym c.is_err-lane.ensures.value ∙ h) c.drive-driven.ensures.all);
+      rw (← c.as_slice.ensures.value)
+      (on_ok c.drive-driven.result _ (sym c.is_err-lane.ensures.value ∙ h) c.drive-driven.ensures.all);
 }
