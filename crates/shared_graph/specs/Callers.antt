@@ -1,5 +1,5 @@
 -- What contracts see of a shared graph and of its callers.
-use Rattle.std.specs.Prelude.{◌≡◌, ◌⊎◌, ℕ, ◌<◌, List, [], ◌∷◌, map}
+use Rattle.std.specs.Prelude.{◌≡◌, ◌⊎◌, ℕ, ◌-◌, ◌^◌, ◌<◌, List, [], ◌∷◌, length, map}
 use Rattle.graph_kinds.specs.History.{Every, IsLegal}
 use Rattle.graph_kinds.specs.declared.answer.Answer.{Answer}
 use Rattle.graph_kinds.specs.declared.outcome.Outcome.{Outcome}
@@ -40,6 +40,14 @@ front_of c = c.hand.token.view.front
 -- a caller's answer: the outcome of the call, with the keys and level ends that the caller has kept
 abbrev pub answer_of : Outcome → CallerValue → Answer
 answer_of outcome c = record { outcome = outcome; keys = c.keys; ends = c.ends }
+
+-- how much of the journal a caller has seen
+abbrev pub seen_by : CallerValue → ℕ
+seen_by c = length (front_of c)
+
+-- how many uses a caller has left
+abbrev pub uses_left : CallerValue → ℕ
+uses_left c = 2 ^ 32 - c.hand.uses
 
 -- a caller has looked at the table and made no event: its front has grown, and all that it holds is as it was
 pub record LooksOn (old new : CallerValue) : Type 0 where

@@ -3,3 +3,4 @@ pub mod Hiring
 pub mod Joining
 pub mod Looking
 pub mod Performing
+pub mod Ports

@@ -10,6 +10,7 @@ mod graph;
 mod hands;
 mod opening;
 mod port;
+mod port_calls;
 
 pub use caller::Caller;
 pub use graph::{Note, SharedGraph};

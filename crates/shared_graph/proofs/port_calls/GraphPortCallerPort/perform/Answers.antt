@@ -1,6 +1,6 @@
 use Rattle.std.proofs.Common.{rules, ◌≤◌, ◌^◌}
 use Rattle.shared_graph.proofs.Asked.{asked_worn}
-use Rattle.shared_graph.proofs.port.GraphPortCallerPort.perform.Goals as goal
+use Rattle.shared_graph.proofs.port_calls.GraphPortCallerPort.perform.Goals as goal
 
 pub returns-clause-worn : goal.returns-clause-worn
 returns-clause-worn c =
