@@ -1,5 +1,6 @@
 -- The frozen words of a token's own list stay over what the token makes.
-use Rattle.std.proofs.Common.{◌≡◌, ℕ, List, None, Some, Option, refl, ◌∙◌}
+use Rattle.std.proofs.Common.{◌≡◌, ℕ, List, None, Some, Option, refl, sym, ap, ◌∙◌}
+use Rattle.packed_link.specs.Link.{index_of}
 use Rattle.graph_kinds.specs.History.{Every}
 use Rattle.packed_link.specs.Layout.{IsLayout}
 use Rattle.packed_link.specs.declared.link.Life.{Life}
@@ -47,7 +48,11 @@ word_on u v w own z t spares f h =
     let k = own_word_still v w own z t f.from.index f.place spares h.freezing.vertex.spent h.freezing.vertex.list
     h.freezing.word in
     record {
-      freezing = record { vertex = vertex_on v w own z t spares f.from h.freezing.vertex; word = k.0 };
+      freezing = record {
+        vertex = vertex_on v w own z t spares f.from h.freezing.vertex;
+        word = k.0;
+        leads = h.freezing.leads ∙ ap index_of (sym k.1);
+      };
       word = k.1 ∙ h.word;
     }
 
@@ -64,6 +69,6 @@ makes_word v w own z f every h g =
 pub makes_frozen : (v w : View) (own : List Event) → IsLayout v.sizes → (x : Life) → Every GivesNone own → Makes v own w
     → KeepsFrozen x v w
 makes_frozen v w own z x every h = record {
-  each = λ place g. makes_word v w own z
-      (record { from = x; place = place }) every h g;
+  each = λ place next g. makes_word v w own z
+      (record { from = x; place = place; next = next }) every h g;
 }

@@ -2,11 +2,11 @@
 use Rattle.std.proofs.Common.{◌≡◌, ◌≢◌, ◌⊎◌, ◌==◌, ℕ, zero, suc, ◌<◌, Bool, true, false, cond, List, [], ◌∷◌, ◌++◌}
 use Rattle.std.proofs.Common.{append-nil, None, Some, inl, inr, refl, sym, ap, ◌∙◌, subst, arith, ⊎_elim}
 use Rattle.packed_link.specs.Link.{index_of, mark_of, tag_of, mark_bit, with_mark, nowhere}
-use Rattle.packed_link.specs.Layout.{Sizes, IsLayout, link_at, second_at, word_count}
+use Rattle.packed_link.specs.Layout.{Sizes, IsLayout, link_at, second_at}
 use Rattle.packed_link.specs.declared.link.Life.{Life}
 use Rattle.core_journal.specs.declared.event.Event.{Event}
 use Rattle.core_journal.specs.Machine.{word_at}
-use Rattle.core_journal.specs.State.{State, state}
+use Rattle.core_journal.specs.State.{state}
 use Rattle.core_lists.specs.Chains.{life_in}
 use Rattle.core_kept.specs.Freezing.{IsFrozenWord}
 use Rattle.core_kept.specs.Kept.{IsKept}
@@ -15,7 +15,6 @@ use Rattle.core_kept.proofs.Contents.{contents}
 use Rattle.core_kept.proofs.LinkWords.{used_link}
 use Rattle.core_lists.proofs.EventKeepsRest.{event_life, written}
 use Rattle.core_lists.proofs.FrozenToEndIsList.{edge_on, kept_leads}
-use Rattle.core_lists.proofs.ListHolds.{part_listed}
 use Rattle.core_lists.proofs.ListHoldsKept.{listing}
 use Rattle.core_rule.specs.Fronts.{MayFreezeEdge}
 use Rattle.core_rule.specs.OwnEvents.{freeze_head_event, freeze_edge_event}
@@ -46,6 +45,21 @@ set : (b : Bool) → mark_bit b ≡ 1 → b ≡ true
 set true h = refl
 set false h = absurd (omega (arith, h))
 
+-- the mark that was set, and the word beside it
+mark_set : (x : ℕ) → mark_of (with_mark x) ≡ 1
+mark_set x = omega arith
+
+index_stays : (x : ℕ) → index_of (with_mark x) ≡ index_of x
+index_stays x = omega arith
+
+-- a word is as the token's last event wrote it
+word_won : (v w : View) (e : Event) → Steps v (Some e) w → word_at w.sizes w.front e.place ≡ e.word
+word_won v w e t =
+    let kept : IsKept v.sizes (t.grown ++ e ∷ []) = subst (λ (j : List Event). IsKept v.sizes j) t.front t.kept in
+    let sizes = (step_view v w (Some e) t).0 in
+    ap (λ (q : Sizes). word_at q w.front e.place) sizes ∙
+    (ap (λ (j : List Event). word_at v.sizes j e.place) t.front ∙ written v.sizes t.grown e kept)
+
 -- what a mark made
 makes_marking : (v w : View) (place found : ℕ) (event : ℕ → Event) → v.numbered ≡ true → IsSound v →
     (event found).caller ≡ v.number → MatchMark v place found (event found) w → Makes v (marking event found) w
@@ -59,7 +73,8 @@ makes_marking v w place found event has s by m = ⊎_elim
 -- the head is closed
 pub head_closed : (v w : View) (x : Life) (f : FrozenValue) (place found : ℕ) → IsLayout v.sizes → IsLayout w.sizes
     → v.numbered ≡ true → IsSound v → IsUnlinkedVertex v x → place ≡ second_at v.sizes x.index
-    → f ≡ record { from = x; place = place } → MatchMark v place found (freeze_head_event v x found) w
+    → f ≡ record { from = x; place = place; next = index_of found }
+    → MatchMark v place found (freeze_head_event v x found) w
     → IsHeadClosed x v w f
 head_closed v w x f place found z z' has s u at is marked =
     let sizes_at : (own : Event) → Steps v (Some own) w → w.sizes ≡ v.sizes = λ own t. (step_view v w (Some own) t).0 in
@@ -75,10 +90,12 @@ head_closed v w x f place found z z' has s u at is marked =
     let word : IsFrozenWord v.sizes w.front x.index (second_at v.sizes x.index) = subst
     (λ (j : List Event). IsFrozenWord v.sizes j x.index (second_at v.sizes x.index)) (sym t.front) h.1 in
     let sizes = (step_view v w (Some e) t).0 in
-    let here : IsFreezing w (record { from = x; place = place }) = record {
+    let now : word_at w.sizes w.front place ≡ with_mark found = ap (word_at w.sizes w.front) at ∙ word_won v w e t in
+    let here : IsFreezing w (record { from = x; place = place; next = index_of found }) = record {
       vertex = u';
       word = subst (λ (p : ℕ). IsFrozenWord w.sizes w.front x.index p) (sym at)
           (subst (λ (q : Sizes). IsFrozenWord q w.front x.index (second_at v.sizes x.index)) (sym sizes) word);
+      leads = sym (ap index_of now ∙ index_stays found);
     } in
     record {
       from = from;
@@ -98,13 +115,14 @@ head_closed v w x f place found z z' has s u at is marked =
     (ap (word_at v.sizes w.front) at ∙ ap (λ (q : Sizes). word_at q w.front (second_at q x.index)) (sym sizes)) in
     let closed : (state w.sizes w.front).frozen x.index ≡ true = set ((state w.sizes w.front).frozen x.index)
     (sym c.second_mark ∙ (ap mark_of (sym word) ∙ dead)) in
-    let here : IsFreezing w (record { from = x; place = place }) = record {
+    let here : IsFreezing w (record { from = x; place = place; next = index_of found }) = record {
       vertex = u';
       word = record {
         head = closed;
         at = inl
             (at ∙ ap (λ (q : Sizes). second_at q x.index) (sym sizes));
       };
+      leads = ap index_of (l.word ∙ ap (λ (q : Sizes). word_at q w.front place) (sym sizes));
     } in
     record {
       from = from;
@@ -115,75 +133,43 @@ head_closed v w x f place found z z' has s u at is marked =
     })
     (bit found)
 
--- the place of a frozen word is one of the table
-pub word_there : (v : View) (f : FrozenValue) → IsLayout v.sizes → IsKept v.sizes v.front → IsFreezing v f
-    → f.place < word_count v.sizes
-word_there v f z kept h =
-    let x = f.from.index in
-    let there = h.vertex.life.there in
-    ⊎_elim
-    (λ (head : f.place ≡ second_at v.sizes x). omega (arith, head, there))
-    (λ (on : (y : ℕ) × (is_frozen (state v.sizes v.front) x y ≡ true) × (f.place ≡ link_at v.sizes y)).
-    let s : State = state v.sizes v.front in
-    let low = ((listing v.sizes z v.front kept).on x on.0 (part_listed s.node s.edges s.frozen x on.0 on.1)).there in
-    omega (arith, on.2, low))
-    h.word.at
+-- where the last frozen word leads somewhere, it leads to an edge of the list
+pub record IsNextEdge (v : View) (f : FrozenValue) : Type 0 where
+  pub on : is_listed (state v.sizes v.front) f.from.index f.next ≡ true
+  pub there : f.next < v.sizes.nodes
 
--- a frozen word that leads somewhere leads to an edge of the list
-pub record IsNextEdge (v : View) (f : FrozenValue) (y : ℕ) : Type 0 where
-  pub leads : index_of (word_at v.sizes v.front f.place) ≡ y
-  pub on : is_listed (state v.sizes v.front) f.from.index y ≡ true
-  pub there : y < v.sizes.nodes
-
-pub next_edge : (v : View) (f : FrozenValue) (word : ℕ) → IsLayout v.sizes → IsKept v.sizes v.front → IsFreezing v f
-    → word ≡ word_at v.sizes v.front f.place → index_of word ≢ nowhere → IsNextEdge v f (index_of word)
-next_edge v f word z kept h is some =
-    let leads : index_of (word_at v.sizes v.front f.place) ≡ index_of word = ap index_of (sym is) in
-    let on : is_listed (state v.sizes v.front) f.from.index (index_of word) ≡ true = ⊎_elim
-    (λ (none : index_of (word_at v.sizes v.front f.place) ≡ nowhere). absurd (some (sym leads ∙ none)))
+pub next_edge : (v : View) (f : FrozenValue) → IsLayout v.sizes → IsKept v.sizes v.front → IsFreezing v f
+    → f.next ≢ nowhere → IsNextEdge v f
+next_edge v f z kept h some =
+    let on : is_listed (state v.sizes v.front) f.from.index f.next ≡ true = ⊎_elim
+    (λ (none : index_of (word_at v.sizes v.front f.place) ≡ nowhere). absurd (some (h.leads ∙ none)))
     (λ (o : is_listed (state v.sizes v.front) f.from.index (index_of (word_at v.sizes v.front f.place)) ≡ true). subst
-    (λ (i : ℕ). is_listed (state v.sizes v.front) f.from.index i ≡ true) leads o)
+    (λ (i : ℕ). is_listed (state v.sizes v.front) f.from.index i ≡ true) (sym h.leads) o)
     (kept_leads v.sizes z v.front kept f.from.index f.place h.vertex.list h.word) in
-    record {
-      leads = leads;
-      on = on;
-      there = ((listing v.sizes z v.front kept).on f.from.index (index_of word) on).there;
-    }
+    record { on = on; there = ((listing v.sizes z v.front kept).on f.from.index f.next on).there }
 
--- the link of that edge, loaded later, tells its life
-pub may_freeze : (v w : View) (f : FrozenValue) (y at link index tag : ℕ) → IsLayout v.sizes → IsLayout w.sizes
-    → v.numbered ≡ true → IsSound v → IsFreezing v f → IsNextEdge v f y → Looked v at link w → at ≡ link_at v.sizes y
-    → index ≡ y → tag ≡ tag_of link → IsFreezing w f × MayFreezeEdge w f.from f.place
-    (record { index = index; tag = tag })
-may_freeze v w f y at link index tag z z' has s h n l at_is same tag_is =
-    let t = look_steps v at link w has s l in
-    let k = makes_word v w [] z f tt (makes_look v w at link has s l) h in
-    let f' = k.0 in
-    let sizes = (step_view v w None t).0 in
-    let leads : index_of (word_at w.sizes w.front f.place) ≡ y = ap index_of k.1 ∙ n.leads in
-    let there : y < w.sizes.nodes = subst (λ (q : Sizes). y < q.nodes) (sym sizes) n.there in
-    let some : index_of (word_at w.sizes w.front f.place) ≢ nowhere = λ e. omega
-    (arith, e, leads, there, z'.few_nodes) in
-    let n' = next_edge w f (word_at w.sizes w.front f.place) z' l.sound.kept f' refl some in
-    let on : is_listed (state w.sizes w.front) f.from.index y ≡ true = subst
-    (λ (i : ℕ). is_listed (state w.sizes w.front) f.from.index i ≡ true) leads n'.on in
-    let used = (f'.vertex.list.edges (life_in w.sizes w.front y)
-    (edge_on w.sizes z' w.front l.sound.kept f.from.index y on)).used in
-    let told_tag : tag_of link ≡ (node_in w.sizes w.front y).tag = ap tag_of
-    (l.word ∙ (ap (word_at v.sizes w.front) at_is ∙ ap (λ (q : Sizes). word_at q w.front (link_at q y))
-    (sym sizes))) ∙ (used_link w.sizes z' w.front l.sound.kept y there used).0 in (
+-- the link of that edge, loaded then, tells its life
+pub may_freeze : (v w : View) (f : FrozenValue) (at link tag : ℕ) → IsLayout v.sizes → IsLayout w.sizes
+    → v.numbered ≡ true → IsSound v → IsFreezing v f → f.next ≢ nowhere → Looked v at link w
+    → at ≡ link_at v.sizes f.next → tag ≡ tag_of link
+    → IsFreezing w f × MayFreezeEdge w f.from f.place (record { index = f.next; tag = tag })
+may_freeze v w f at link tag z z' has s h some l at_is tag_is =
+    let f' = (makes_word v w [] z f tt (makes_look v w at link has s l) h).0 in
+    let sizes = (step_view v w None (look_steps v at link w has s l)).0 in
+    let n = next_edge w f z' l.sound.kept f' some in
+    let used = (f'.vertex.list.edges (life_in w.sizes w.front f.next)
+    (edge_on w.sizes z' w.front l.sound.kept f.from.index f.next n.on)).used in
+    let told_tag : tag_of link ≡ (node_in w.sizes w.front f.next).tag = ap tag_of
+    (l.word ∙ (ap (word_at v.sizes w.front) at_is ∙ ap (λ (q : Sizes). word_at q w.front (link_at q f.next))
+    (sym sizes))) ∙ (used_link w.sizes z' w.front l.sound.kept f.next n.there used).0 in (
       f',
       record {
         life = f'.vertex.life;
         spent = f'.vertex.spent;
         list = f'.vertex.list;
         frozen = f'.word;
-        edge = record {
-          there = subst (λ (i : ℕ). i < w.sizes.nodes) (sym same) there;
-          tag = tag_is ∙
-              (told_tag ∙ ap (λ (i : ℕ). (node_in w.sizes w.front i).tag) (sym same));
-        };
-        leads = leads ∙ sym same;
+        edge = record { there = n.there; tag = tag_is ∙ told_tag };
+        leads = sym f'.leads;
       },
     )
 
@@ -197,37 +183,31 @@ part_of sizes j x y at = ⊎_elim
     = omega (arith, h.2) in subst (λ (i : ℕ). is_frozen (state sizes j) x i ≡ true) same h.1)
     at
 
--- the mark that was set
-mark_set : (x : ℕ) → mark_of (with_mark x) ≡ 1
-mark_set x = omega arith
-
-link_dead_won : (v w : View) (x : Life) (found : ℕ) → (e : Event) → e ≡ freeze_edge_event v x found →
-    (t : Steps v (Some e) w) → mark_of (word_at w.sizes w.front (link_at w.sizes x.index)) ≡ 1
-link_dead_won v w x found e is t =
-    let kept : IsKept v.sizes (t.grown ++ e ∷ []) = subst (λ (j : List Event). IsKept v.sizes j) t.front t.kept in
-    let sizes = (step_view v w (Some e) t).0 in
-    let word : word_at v.sizes (t.grown ++ e ∷ []) (link_at v.sizes x.index) ≡ with_mark found = ap
-    (word_at v.sizes (t.grown ++ e ∷ [])) (ap (λ (a : Event). a.place) (sym is)) ∙
-    (written v.sizes t.grown e kept ∙ ap (λ (a : Event). a.word) is) in
-    ap mark_of (ap (λ (q : Sizes). word_at q w.front (link_at q x.index)) sizes ∙
-    (ap (λ (j : List Event). word_at v.sizes j (link_at v.sizes x.index)) t.front ∙ word)) ∙ mark_set found
+link_word_won : (v w : View) (x : Life) (found : ℕ) → Steps v (Some (freeze_edge_event v x found)) w
+    → word_at w.sizes w.front (link_at w.sizes x.index) ≡ with_mark found
+link_word_won v w x found t =
+    let e = freeze_edge_event v x found in
+    ap (λ (q : Sizes). word_at w.sizes w.front (link_at q x.index)) (step_view v w (Some e) t).0 ∙ word_won v w e t
 
 -- a marked edge to which the frozen word leads is handed over
 told : (v w : View) (f new : FrozenValue) (x : Life) (place found : ℕ) → IsLayout w.sizes → IsKept w.sizes w.front
     → Makes v (marking (freeze_edge_event v x) found) w → IsFreezing w f → index_of
     (word_at w.sizes w.front f.place) ≡ x.index → x.index < w.sizes.nodes → x.tag ≡
-    (node_in w.sizes w.front x.index).tag → place ≡ link_at w.sizes x.index → mark_of
-    (word_at w.sizes w.front (link_at w.sizes x.index)) ≡ 1
-    → new ≡ record { from = f.from; place = place } → IsHandedTo f v w x new
-told v w f new x place found z k made h leads there life at dead is =
+    (node_in w.sizes w.front x.index).tag → place ≡ link_at w.sizes x.index → (word : ℕ)
+    → word_at w.sizes w.front (link_at w.sizes x.index) ≡ word → mark_of word ≡ 1 → index_of word ≡ index_of found
+    → new ≡ record { from = f.from; place = place; next = index_of found } → IsHandedTo f v w x new
+told v w f new x place found z k made h leads there life at word word_is marked same is =
+    let dead = ap mark_of word_is ∙ marked in
     let r = found_at w.sizes z w.front k w.number f.from.index f.place h.vertex.spent h.vertex.list h.word x.index leads
     (λ e. omega (arith, e, there, z.few_nodes)) dead in
-    let n = next_edge w f (word_at w.sizes w.front f.place) z k h refl
-    (λ e. omega (arith, e, leads, there, z.few_nodes)) in
+    let n = next_edge w f z k h (λ e. omega (arith, e, h.leads, leads, there, z.few_nodes)) in
     let on : is_listed (state w.sizes w.front) f.from.index x.index ≡ true = subst
-    (λ (i : ℕ). is_listed (state w.sizes w.front) f.from.index i ≡ true) leads n.on in
-    let here : IsFreezing w (record { from = f.from; place = place }) = record
-    { vertex = h.vertex; word = subst (λ (p : ℕ). IsFrozenWord w.sizes w.front f.from.index p) (sym at) r.1 } in
+    (λ (i : ℕ). is_listed (state w.sizes w.front) f.from.index i ≡ true) (h.leads ∙ leads) n.on in
+    let here : IsFreezing w (record { from = f.from; place = place; next = index_of found }) = record {
+      vertex = h.vertex;
+      word = subst (λ (p : ℕ). IsFrozenWord w.sizes w.front f.from.index p) (sym at) r.1;
+      leads = sym (ap (λ (p : ℕ). index_of (word_at w.sizes w.front p)) at ∙ (ap index_of word_is ∙ same));
+    } in
     record {
       from = ap (λ (g : FrozenValue). g.from) is;
       leads = leads;
@@ -244,8 +224,8 @@ told v w f new x place found z k made h leads there life at dead is =
 -- the edge is handed over
 pub handed : (v w : View) (f new : FrozenValue) (x : Life) (place found : ℕ) → IsLayout v.sizes → IsLayout w.sizes
     → v.numbered ≡ true → IsSound v → IsFreezing v f → MayFreezeEdge v f.from f.place x
-    → place ≡ link_at v.sizes x.index → new ≡ record { from = f.from; place = place } → MatchMark v place found
-    (freeze_edge_event v x found) w
+    → place ≡ link_at v.sizes x.index → new ≡ record { from = f.from; place = place; next = index_of found }
+    → MatchMark v place found (freeze_edge_event v x found) w
     → IsHandedTo f v w x new
 handed v w f new x place found z z' has s h m at is marked =
     let made = makes_marking v w place found (freeze_edge_event v x) has s refl marked in
@@ -264,7 +244,8 @@ handed v w f new x place found z z' has s h m at is marked =
     (ap (λ (j : List Event). (node_in v.sizes j x.index).tag) (sym t.front) ∙ ap
     (λ (q : Sizes). (node_in q w.front x.index).tag) (sym sizes)) in
     told v w f new x place found z' k made r.0 (ap index_of r.1 ∙ m.leads) there life
-    (at ∙ ap (λ (q : Sizes). link_at q x.index) (sym sizes)) (link_dead_won v w x found e refl t) is)
+    (at ∙ ap (λ (q : Sizes). link_at q x.index) (sym sizes)) (with_mark found) (link_word_won v w x found t)
+    (mark_set found) (index_stays found) is)
     (λ (dead : mark_of found ≡ 1).
     let l = marked.was dead in
     let t = look_steps v place found w has s l in
@@ -275,11 +256,11 @@ handed v w f new x place found z z' has s h m at is marked =
     let life : x.tag ≡ (node_in w.sizes w.front x.index).tag = sym b.0 ∙
     (ap (λ (j : List Event). (node_in v.sizes j x.index).tag) (sym (t.front ∙ append-nil t.grown)) ∙ ap
     (λ (q : Sizes). (node_in q w.front x.index).tag) (sym sizes)) in
-    let mark : mark_of (word_at w.sizes w.front (link_at w.sizes x.index)) ≡ 1 = ap mark_of
-    (ap (λ (q : Sizes). word_at q w.front (link_at q x.index)) sizes ∙
-    (ap (word_at v.sizes w.front) (sym at) ∙ sym l.word)) ∙ dead in
+    let word : word_at w.sizes w.front (link_at w.sizes x.index) ≡ found =
+    ap (λ (q : Sizes). word_at q w.front (link_at q x.index)) sizes ∙
+    (ap (word_at v.sizes w.front) (sym at) ∙ sym l.word) in
     told v w f new x place found z' l.sound.kept made r.0 (ap index_of r.1 ∙ m.leads) there life
-    (at ∙ ap (λ (q : Sizes). link_at q x.index) (sym sizes)) mark is)
+    (at ∙ ap (λ (q : Sizes). link_at q x.index) (sym sizes)) found word dead refl is)
     (bit found)
 
 -- the event of a view is that of another one of the same table and caller

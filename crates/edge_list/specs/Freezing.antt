@@ -12,20 +12,22 @@ use Rattle.core_rule.specs.declared.view.View.{View}
 use Rattle.core_stretches.specs.Holdings.{IsHeldSpent, IsUnlinkedVertex}
 use Rattle.core_stretches.specs.Makes.{Makes, marking}
 
--- the vertex whose list it is, and the place of the last word that was frozen
+-- the vertex whose list it is, the place of the last word that was frozen, and where that word leads
 pub record FrozenValue : Type 0 where
   pub from : Life
   pub place : ℕ
+  pub next : ℕ
 
--- the token unlinked the vertex, its list is closed, and this word of it is frozen
+-- the token unlinked the vertex, its list is closed, and this word of it is frozen and leads there
 pub record IsFreezing (v : View) (f : FrozenValue) : Type 0 where
   pub vertex : IsUnlinkedVertex v f.from
   pub word : IsFrozenWord v.sizes v.front f.from.index f.place
+  pub leads : f.next ≡ index_of (word_at v.sizes v.front f.place)
 
 -- the frozen words of the list that is being frozen stay as they are
 pub record KeepsFrozen (x : Life) (v w : View) : Type 0 where
-  pub each : (place : ℕ) → IsFreezing v (record { from = x; place = place })
-      → IsFreezing w (record { from = x; place = place })
+  pub each : (place next : ℕ) → IsFreezing v (record { from = x; place = place; next = next })
+      → IsFreezing w (record { from = x; place = place; next = next })
       × (word_at w.sizes w.front place ≡ word_at v.sizes v.front place)
 
 -- the list is closed at its head, by an event where the second word that was found had no mark

@@ -9,12 +9,13 @@ use graph_table::{GraphTable, Spent, Token};
 use packed_link::{Life, Link};
 use std::marker::Model;
 
-/// The list of an unlinked vertex under freezing: the vertex, and the place of the last word of its list that was
-/// frozen.
+/// The list of an unlinked vertex under freezing: the vertex, the place of the last word of its list that was frozen,
+/// and where that word leads.
 #[derive(Drop)]
 pub struct Frozen {
     from: Life,
     place: u32,
+    next: u32,
 }
 
 impl Model for Frozen {
@@ -22,7 +23,7 @@ impl Model for Frozen {
 
     ghost Value = { FrozenValue };
 
-    ghost view = { λ f. record { from = f.from; place = f.place } };
+    ghost view = { λ f. record { from = f.from; place = f.place; next = f.next } };
 }
 
 /// Closes the list of a vertex that the token unlinked at its head, in O(1): one step. The list is the token's own to
@@ -37,12 +38,17 @@ pub fn freeze_head(table: &GraphTable, token: &mut Token, from: &Spent) -> Froze
     let life = from.life();
     let layout = table.layout();
     let place = layout.second_at(life.index);
-    table.freeze_head(token, from);
-    Frozen { from: life, place }
+    let word = Link(table.freeze_head(token, from));
+    let next = word.index();
+    Frozen {
+        from: life,
+        place,
+        next,
+    }
 }
 
-/// Freezes the next edge of the list and hands it over, in O(1): two loads and one step. `None` comes exactly at the
-/// end of the list, which is frozen to its end then.
+/// Freezes the next edge of the list and hands it over, in O(1): one load and one step. `None` comes exactly at the end
+/// of the list, which is frozen to its end then; nothing is loaded there.
 pub fn freeze_next(table: &GraphTable, token: &mut Token, frozen: &mut Frozen) -> Option<Spent>
     requires table { IsOf table.now token.old }
     requires number { token.old.view.numbered ≡ true }
@@ -51,8 +57,7 @@ pub fn freeze_next(table: &GraphTable, token: &mut Token, frozen: &mut Frozen) -
     ensures frozen { MatchFrozen result frozen.old token.old.view token.new.view frozen.new }
 {
     let layout = table.layout();
-    let word = Link(table.load(token, frozen.place));
-    let index = word.index();
+    let index = frozen.next;
     if index == 16_777_215 {
         return None;
     }
@@ -61,7 +66,8 @@ pub fn freeze_next(table: &GraphTable, token: &mut Token, frozen: &mut Frozen) -
         index,
         tag: link.tag(),
     };
-    let (_found, spent) = table.freeze_edge(token, life);
+    let (word, spent) = table.freeze_edge(token, life);
     frozen.place = layout.link_at(index);
+    frozen.next = Link(word).index();
     Some(spent)
 }

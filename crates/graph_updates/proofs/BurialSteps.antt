@@ -99,7 +99,8 @@ path_on x t u sizes k m p [] place h = ap (λ (s : Sizes). list_word s x.index p
 path_on x t u sizes k m p (d ∷ ds) place h =
     let at : list_word u.sizes x.index p ≡ list_word t.sizes x.index p = ap
     (λ (s : Sizes). list_word s x.index p) sizes in
-    let w = k.each (list_word t.sizes x.index p) (record { vertex = m; word = h.0 }) in (
+    let here = list_word t.sizes x.index p in
+    let w = k.each here (index_of (word_at t.sizes t.front here)) (record { vertex = m; word = h.0; leads = refl }) in (
       subst (λ (q : ℕ). IsFrozenWord u.sizes u.front x.index q) (sym at) w.0.word,
       ap
           (λ (q : ℕ). index_of (word_at u.sizes u.front q)) at ∙ (ap index_of w.1 ∙ h.1),
@@ -306,10 +307,10 @@ buries_next v t m u x y old now new f g z zt zm zu h b d look r =
       own_list = λ vertex. absurd (cc);
       list = λ w other low on. absurd (other (one_list m.sizes zm m.front kept x.index w y.index listed on));
     } in
-    let word_f : IsFreezing m (record { from = x; place = f.place }) =
-    (frozen_m.each f.place (subst (λ (l : Life). IsFreezing t (record { from = l; place = f.place })) s.from
-    s.freezing)).0 in
-    let word_u = frozen_u.each f.place word_f in
+    let word_f : IsFreezing m (record { from = x; place = f.place; next = f.next }) =
+    (frozen_m.each f.place f.next (subst (λ (l : Life). IsFreezing t
+    (record { from = l; place = f.place; next = f.next })) s.from s.freezing)).0 in
+    let word_u = frozen_u.each f.place f.next word_f in
     let path_u = path_on x m u third.sizes frozen_u vertex_m Head (map index_in edges) f.place path_m in
     let longer = path_more u.sizes u.front x.index Head (map index_in edges) f.place y.index path_u word_u.0.word
     (ap index_of word_u.1 ∙ d.leads) some in
@@ -331,8 +332,8 @@ buries_next v t m u x y old now new f g z zt zm zu h b d look r =
     (FreezesOf v x (map index_in edges)) (FreezesOf v x (map index_in edges ++ y.index ∷ []))
     (kinds_more v x (map index_in edges) (y.index ∷ [])) own s.kinds in
     let from_g : g.from ≡ x = d.from ∙ s.from in
-    let freezing_u = frozen_u.each g.place (subst (λ (l : Life). IsFreezing m (record { from = l; place = g.place }))
-    from_g d.freezing) in
+    let freezing_u = frozen_u.each g.place g.next (subst (λ (l : Life). IsFreezing m
+    (record { from = l; place = g.place; next = g.next })) from_g d.freezing) in
     let gets : Every (GetsNone (Some x.index)) step = of_mark (GetsNone (Some x.index)) (freeze_edge_event t y) d.found
     (gets_edge v x y d.found t) in
     record {
@@ -340,7 +341,8 @@ buries_next v t m u x y old now new f g z zt zm zu h b d look r =
       own = (own ++ step) ++ [];
       is = record {
         from = from_g;
-        freezing = subst (λ (l : Life). IsFreezing u (record { from = l; place = g.place })) (sym from_g) freezing_u.0;
+        freezing = subst (λ (l : Life). IsFreezing u (record { from = l; place = g.place; next = g.next }))
+            (sym from_g) freezing_u.0;
         makes = makes_chain v m u (own ++ step) [] to_m look;
         kinds = subst (λ (l : List ℕ). Every (FreezesOf v x l) ((own ++ step) ++ [])) (sym indices)
             (every_both (FreezesOf v x (map index_in edges ++ y.index ∷ [])) (own ++ step) []
@@ -461,11 +463,11 @@ buried v t m u x old now new f g z zt zm zu h b d look r =
     (map index_in edges) f.place s.path in
     let frozen_u = makes_frozen m u [] zm x tt look in
     let path_u = path_on x m u third.sizes frozen_u vertex_m Head (map index_in edges) f.place path_m in
-    let freezing_m : IsFreezing m (record { from = x; place = f.place }) =
-    ((makes_frozen t m [] zt x tt d.makes).each f.place (subst
-    (λ (l : Life). IsFreezing t (record { from = l; place = f.place })) s.from s.freezing)).0 in
+    let freezing_m : IsFreezing m (record { from = x; place = f.place; next = f.next }) =
+    ((makes_frozen t m [] zt x tt d.makes).each f.place f.next (subst (λ (l : Life). IsFreezing t
+    (record { from = l; place = f.place; next = f.next })) s.from s.freezing)).0 in
     let leads_u : index_of (word_at u.sizes u.front f.place) ≡ nowhere = ap index_of
-    (frozen_u.each f.place freezing_m).1 ∙ d.leads in
+    (frozen_u.each f.place f.next freezing_m).1 ∙ d.leads in
     let got_m : HasAllSpentBut x.index v old.nodes → HasGotOnly v.front m (Some x.index) [] = λ all.
     makes_got t m [] zt v.front (Some x.index) [] tt d.makes (s.got all) in
     let got_u : HasAllSpentBut x.index v old.nodes → HasGotOnly v.front u (Some x.index) [] = λ all.

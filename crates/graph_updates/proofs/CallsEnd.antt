@@ -1,13 +1,14 @@
 -- The end of every call: what its reply leaves of a hand, and that the hand is in order then if the entry is right.
-use Rattle.std.proofs.Common.{◌≡◌, ℕ, ◌+◌, ◌≤◌, Bool, true, false, cond, List, [], ◌∷◌, ◌++◌, length}
+use Rattle.std.proofs.Common.{◌≡◌, ◌≢◌, ℕ, ◌+◌, ◌≤◌, Bool, true, false, cond, List, [], ◌∷◌, ◌++◌, length}
 use Rattle.std.proofs.Common.{None, Some, Option, take, refl, sym, ap, ◌∙◌, subst, arith}
 use Rattle.std.specs.Prelude.{slice_get}
-use Rattle.graph_kinds.specs.Answer.{is_change, plain}
+use Rattle.graph_kinds.specs.Answer.{is_change}
+use Rattle.graph_kinds.specs.declared.answer.Answer.{Answer}
 use Rattle.graph_kinds.specs.declared.call.Call.{Call}
-use Rattle.graph_kinds.specs.declared.outcome.Outcome.{Outcome}
 use Rattle.graph_kinds.specs.declared.entry.Class.{Class}
 use Rattle.graph_kinds.specs.declared.entry.Class.TheVariants.{Own}
 use Rattle.graph_kinds.specs.declared.entry.Entry.{Entry}
+use Rattle.graph_kinds.specs.declared.outcome.Outcome.TheVariants.{Overtaken, Worn}
 use Rattle.packed_link.specs.Layout.{Sizes, IsLayout}
 use Rattle.packed_link.specs.declared.link.Life.{Life}
 use Rattle.core_journal.specs.declared.event.Event.{Event}
@@ -34,7 +35,7 @@ use Rattle.core_stretches.proofs.MakesTell.{makes_counts, makes_later}
 use Rattle.epoch_limbo.specs.Limbos.{LimboValue}
 use Rattle.graph_table.specs.Table.{entry_of}
 use Rattle.graph_table.specs.Tokens.{IsOf, RipeValue, TableValue, TokenValue}
-use Rattle.graph_updates.specs.Calls.{HasAnswered}
+use Rattle.graph_updates.specs.Calls.{HasAnswered, is_own}
 use Rattle.graph_updates.specs.Hands.{HandValue, HasAllSpent, HasItsNodes, HoldsNoOther, HoldsSpare, IsHandOf}
 use Rattle.graph_updates.specs.Hands.{IsInOrder, IsRoomyLimbo, book_of, moves_due}
 use Rattle.graph_updates.specs.Replying.{HasEnded}
@@ -118,9 +119,8 @@ abbrev pub with_token : HandValue → TokenValue → HandValue
 with_token h t = record h { token = t }
 
 -- an entry that ends at a front
-abbrev pub entry_by : Call → ℕ → Outcome → Class → (start place : ℕ) → List Event → Entry
-entry_by call tries outcome class start place front =
-    ended (entry_of call tries (plain outcome) class start place) (length front)
+abbrev pub entry_by : Call → ℕ → Answer → Class → (start place : ℕ) → List Event → Entry
+entry_by call tries reply class start place front = ended (entry_of call tries reply class start place) (length front)
 
 -- the token made so few events of some kinds in a call
 pub record AreFew (own : List Event) : Type 0 where
@@ -128,14 +128,17 @@ pub record AreFew (own : List Event) : Type 0 where
   pub shifts : of_kinds moves own ≤ 3
   pub raised : of_kinds raises own ≡ 0
 
--- an entry tells of a stretch: it's framed and right, stands where the graph was changed, and the caller changed the
--- graph as often as the outcome says
-pub record IsEntryFor (v w : View) (outcome : Outcome) (e : Entry) : Type 0 where
+-- an entry tells of a stretch: it's framed and right, stands where the graph was changed, and isn't answered Worn; the
+-- caller changed the graph once if it's an own one, and else not; and it's an own one exactly if its answer tells of a
+-- change, but for one that was overtaken
+pub record IsEntryFor (v w : View) (e : Entry) : Type 0 where
   pub frame : InFrame (length w.front) (length v.front) e
   pub right : Right w.sizes w.front w.number e
   pub only : (p : ℕ) (event : Event) → length v.front ≤ p → slice_get w.front p ≡ Some event → event.caller ≡ v.number
       → changes (take p w.front) event ≡ true → StandsAt Own p e
-  pub changed : changes_made w.number w.front ≡ changes_made v.number v.front + cond (is_change outcome) 1 0
+  pub unworn : e.answer.outcome ≢ Worn
+  pub changed : changes_made w.number w.front ≡ changes_made v.number v.front + cond (is_own e.class) 1 0
+  pub told : e.answer.outcome ≢ Overtaken → is_own e.class ≡ is_change e.answer.outcome
 
 -- what a call rests on at its end
 pub record HasCome (g : TableValue) (old now : HandValue) (t : TokenValue) (own : List Event) : Type 0 where
@@ -147,16 +150,16 @@ pub record HasCome (g : TableValue) (old now : HandValue) (t : TokenValue) (own 
   pub few : AreFew own
 
 -- what the end of a call leaves
-pub record HasReplied (g : TableValue) (call : Call) (tries : ℕ) (outcome : Outcome) (old new : HandValue) : Type 0
+pub record HasReplied (g : TableValue) (call : Call) (tries : ℕ) (reply : Answer) (old new : HandValue) : Type 0
   where
     pub hand : IsHandOf g new
     pub order : IsInOrder new
     pub closed : HasNoPass new.token.view
-    pub answered : HasAnswered call tries outcome old new
+    pub answered : HasAnswered call tries reply old new
 
 module _ (g : TableValue) (old now : HandValue) (t : TokenValue) (own : List Event) (c : HasCome g old now t own)
-    (call : Call) (tries : ℕ) (outcome : Outcome) (class : Class) (start place : ℕ)
-    (r : Replied now.token.view (entry_of call tries (plain outcome) class start place) t.view) where
+    (call : Call) (tries : ℕ) (reply : Answer) (class : Class) (start place : ℕ)
+    (r : Replied now.token.view (entry_of call tries reply class start place) t.view) where
   abbrev v : View
   v = old.token.view
 
@@ -170,7 +173,7 @@ module _ (g : TableValue) (old now : HandValue) (t : TokenValue) (own : List Eve
   new = with_token now t
 
   abbrev e : Entry
-  e = entry_by call tries outcome class start place w.front
+  e = entry_by call tries reply class start place w.front
 
   replies : Makes m [] (unbooked m w)
   replies = reply_makes m w _ c.hand.of.layout c.hand.numbered c.hand.of.sound r
@@ -220,7 +223,7 @@ module _ (g : TableValue) (old now : HandValue) (t : TokenValue) (own : List Eve
     spare = reply_spare m w _ c.hand.of.layout c.hand.numbered c.hand.of.sound r now.spare c.hand.spare;
   }
 
-  module _ (is_start : start ≡ length v.front) (f : IsEntryFor v w outcome e) where
+  module _ (is_start : start ≡ length v.front) (f : IsEntryFor v w e) where
     book_now : IsBookOf w.sizes w.front (book_of w)
     book_now = book_longer v w e c.order.book end_sizes end_number end_grows book_is f.frame f.right f.only
 
@@ -244,7 +247,7 @@ module _ (g : TableValue) (old now : HandValue) (t : TokenValue) (own : List Eve
         }
 
     -- the end of every call
-    pub call_ends : HasReplied g call tries outcome old new
+    pub call_ends : HasReplied g call tries reply old new
     call_ends =
         let taken_by = counts pops in
         let moved_by = counts moves in
@@ -270,7 +273,9 @@ module _ (g : TableValue) (old now : HandValue) (t : TokenValue) (own : List Eve
             true_book = book_now;
             legal = history_legal w.sizes w.front (book_of w ∷ [])
                 (regular w.sizes c.of.layout w.front c.of.sound.kept) (tt, tt) (book_now, tt);
+            unworn = f.unworn;
             changed = f.changed;
+            told = f.told;
             counts = record {
               taken = omega (arith, taken_by, takes);
               moved = omega (arith, moved_by, shifts);

@@ -1,6 +1,6 @@
 -- A call begins and ends: what opening and closing its pass, moving the epoch on and giving back leave of a hand.
 use Rattle.std.proofs.Common.{◌≡◌, ℕ, ◌+◌, ◌^◌, ◌<◌, true, false, [], ◌∷◌, refl, arith}
-use Rattle.std.proofs.Common.{inl, inr}
+use Rattle.std.proofs.Common.{Bool, inl, inr}
 use Rattle.packed_link.specs.Layout.{IsLayout}
 use Rattle.core_journal.specs.Event.{moves}
 use Rattle.core_kept.specs.Counts.{made, most_moves}
@@ -16,7 +16,7 @@ use Rattle.epoch_limbo.specs.Passes.{IsOpened}
 use Rattle.epoch_limbo.specs.declared.advancing.Advanced.{Advanced}
 use Rattle.epoch_limbo.specs.declared.advancing.Advanced.TheVariants.{Held, Lost, Moved}
 use Rattle.graph_table.specs.Tokens.{IsOf, TableValue, TokenValue}
-use Rattle.graph_updates.specs.Ending.{GivesOldest, HasBegun, IsEnding, IsFinished, IsGiving}
+use Rattle.graph_updates.specs.Ending.{HasBegun, HasGiven, IsEnding, IsFinished, IsGiving}
 use Rattle.graph_updates.specs.Hands.{HandValue, IsHandOf, IsInOrder, IsRoomyLimbo}
 use Rattle.graph_updates.specs.Parts.{LeavesGraph, MakesOnly}
 use Rattle.graph_updates.proofs.GivingTells.{giving_leaves, giving_parts, giving_pass}
@@ -209,6 +209,7 @@ module _ (g : TableValue) (old : HandValue) (t : TokenValue) (h : IsHandOf g old
       gone = [];
       limbo = refl;
       room = refl;
+      tidied = λ is. absurd (cc);
       still = λ _. (refl, makes);
       spare = refl;
       uses = refl;
@@ -232,14 +233,14 @@ module _ (g : TableValue) (old : HandValue) (t : TokenValue) (h : IsHandOf g old
     pub moved_limbo : IsRoomyLimbo old.limbo m.view
     moved_limbo = second_parts.limbo h.limbo
 
-    module _ (z : IsLayout m.view.sizes) (epoch : ℕ) (limbo : LimboValue) (u : TokenValue)
-        (b : GivesOldest epoch old.limbo limbo m.view u.view) where
+    module _ (z : IsLayout m.view.sizes) (epoch : ℕ) (none : Bool) (limbo : LimboValue) (u : TokenValue)
+        (b : HasGiven epoch none old.limbo limbo m.view u.view) where
       abbrev pub ended : HandValue
       ended = record { token = u; limbo = limbo; spare = old.spare; uses = old.uses; retired = false }
 
       last_parts : LeavesParts old.limbo limbo old.token.view u.view
       last_parts = parts_chain old.limbo old.limbo limbo old.token.view m.view u.view second_parts
-          (giving_parts m.view u.view z b.only old.limbo limbo b.limbo b.all)
+          (giving_parts m.view u.view z b.given.only old.limbo limbo b.given.limbo b.given.all)
 
       pub ended_hand : IsOf g u → IsHandOf g ended
       ended_hand = hand_goes g old ended h refl last_parts
@@ -248,10 +249,10 @@ module _ (g : TableValue) (old : HandValue) (t : TokenValue) (h : IsHandOf g old
       ended_leaves = leaves_chain 0 1 0 0 old.token.view m.view u.view
           (leaves_chain 0 0 0 1 old.token.view t.view m.view
           (closed_leaves old.token.view t.view h.of.layout makes) moved.leaves)
-          (giving_leaves m.view u.view z b.only)
+          (giving_leaves m.view u.view z b.given.only)
 
       ended_closed : HasNoPass u.view
-      ended_closed = giving_pass m.view u.view z b.only false (moved.pass closed)
+      ended_closed = giving_pass m.view u.view z b.given.only false (moved.pass closed)
 
       pub ended_order : IsInOrder old → IsInOrder ended
       ended_order ord =
@@ -266,12 +267,22 @@ module _ (g : TableValue) (old : HandValue) (t : TokenValue) (h : IsHandOf g old
         only = only_chain IsEnding old.token.view m.view u.view
             (only_chain IsEnding old.token.view t.view m.view
             (closed_only old.token.view t.view h.of.layout makes) moved.only)
-            (ends_by m.view u.view b.only);
+            (ends_by m.view u.view b.given.only);
         stretch = ended_leaves;
         closed = ended_closed;
-        gone = b.gone;
-        limbo = b.nodes;
-        room = b.room;
+        gone = b.given.gone;
+        limbo = b.given.nodes;
+        room = b.given.room;
+        tidied = λ _. record {
+          closed = t.view;
+          withdrew = makes;
+          result = r;
+          moved = m.view;
+          advanced = a;
+          epoch = epoch;
+          none = none;
+          given = b;
+        };
         still = λ is. absurd (cc);
         spare = refl;
         uses = refl;

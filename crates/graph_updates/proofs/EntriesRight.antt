@@ -8,10 +8,10 @@ use Rattle.graph_kinds.specs.declared.answer.Answer.{Answer}
 use Rattle.graph_kinds.specs.declared.call.Call.{Call}
 use Rattle.graph_kinds.specs.declared.call.Call.TheVariants.{RemoveVertex}
 use Rattle.graph_kinds.specs.declared.outcome.Outcome.{Outcome}
-use Rattle.graph_kinds.specs.declared.outcome.Outcome.TheVariants.{Absent, Again, Full, Overtaken}
+use Rattle.graph_kinds.specs.declared.outcome.Outcome.TheVariants.{Absent, Again, Full, Overtaken, Worn}
 use Rattle.graph_kinds.specs.declared.entry.Class.TheVariants.{Own, Silent}
 use Rattle.graph_kinds.specs.declared.entry.Entry.{Entry}
-use Rattle.graph_kinds.proofs.PlainAnswers.{not_again, not_full, not_overtaken}
+use Rattle.graph_kinds.proofs.PlainAnswers.{not_again, not_full, not_overtaken, not_worn}
 use Rattle.packed_link.specs.Layout.{Sizes, IsLayout}
 use Rattle.packed_link.specs.declared.link.Life.{Life}
 use Rattle.core_journal.specs.declared.event.Event.{Event}
@@ -64,20 +64,23 @@ place_told Again place end other = absurd (other refl)
 place_told _ place end other = refl
 
 -- the graph gave an answer
-module _ (g : Graph) (call : Call) (outcome : Outcome) (is : plain outcome ≡ answer g call) where
-  outcome_is : outcome ≡ (answer g call).outcome
+module _ (g : Graph) (call : Call) (reply : Answer) (is : reply ≡ answer g call) where
+  outcome_is : reply.outcome ≡ (answer g call).outcome
   outcome_is = ap (λ (a : Answer). a.outcome) is
 
-  pub no_again : outcome ≢ Again
+  pub no_again : reply.outcome ≢ Again
   no_again h = not_again g call (sym outcome_is ∙ h)
 
-  no_full : outcome ≢ Full
+  no_full : reply.outcome ≢ Full
   no_full h = not_full g call (sym outcome_is ∙ h)
 
-  no_overtaken : outcome ≢ Overtaken
+  no_overtaken : reply.outcome ≢ Overtaken
   no_overtaken h = not_overtaken g call (sym outcome_is ∙ h)
 
-  no_change : alters g call ≡ false → is_change outcome ≡ false
+  no_worn : reply.outcome ≢ Worn
+  no_worn h = not_worn g call (sym outcome_is ∙ h)
+
+  no_change : alters g call ≡ false → is_change reply.outcome ≡ false
   unfolding alters
   no_change h = ap is_change outcome_is ∙ h
 
@@ -143,11 +146,10 @@ module _ (g : TableValue) (old now : HandValue) (t : TokenValue) (hand : IsHandO
     }
 
   -- silent replies
-  module _ (stretch : LeavesGraph 1 3 v m) (call : Call) (tries : ℕ) (outcome : Outcome) (start place : ℕ)
-      (is_start : start ≡ length v.front)
-      (r : Replied m (entry_of call tries (plain outcome) Silent start place) w) where
+  module _ (stretch : LeavesGraph 1 3 v m) (call : Call) (tries : ℕ) (reply : Answer) (start place : ℕ)
+      (is_start : start ≡ length v.front) (r : Replied m (entry_of call tries reply Silent start place) w) where
     abbrev e : Entry
-    e = entry_by call tries outcome Silent start place w.front
+    e = entry_by call tries reply Silent start place w.front
 
     come : HasCome g old now t stretch.own
     come = record {
@@ -159,13 +161,14 @@ module _ (g : TableValue) (old now : HandValue) (t : TokenValue) (hand : IsHandO
       few = few_left v m stretch;
     }
 
-    silent_ends : is_change outcome ≡ false → length v.front ≤ e.place → e.place ≤ length w.front
-        → RightSilent outcome w.sizes w.front w.number e → HasReplied g call tries outcome old (with_token now t)
-    silent_ends none since until right =
-        let later = end_grows g old now t stretch.own come call tries outcome Silent start place r in
-        let number = end_number g old now t stretch.own come call tries outcome Silent start place r in
-        let quiet = left 1 3 stretch (entry_of call tries (plain outcome) Silent start place) r in
-        call_ends g old now t stretch.own come call tries outcome Silent start place r is_start
+    silent_ends : reply.outcome ≢ Worn → is_change reply.outcome ≡ false → length v.front ≤ e.place
+        → e.place ≤ length w.front → RightSilent reply.outcome w.sizes w.front w.number e
+        → HasReplied g call tries reply old (with_token now t)
+    silent_ends unworn none since until right =
+        let later = end_grows g old now t stretch.own come call tries reply Silent start place r in
+        let number = end_number g old now t stretch.own come call tries reply Silent start place r in
+        let quiet = left 1 3 stretch (entry_of call tries reply Silent start place) r in
+        call_ends g old now t stretch.own come call tries reply Silent start place r is_start
         (record {
           frame = record {
             apart = omega (arith, is_start);
@@ -177,39 +180,46 @@ module _ (g : TableValue) (old now : HandValue) (t : TokenValue) (hand : IsHandO
           right = right;
           only = λ p event far at by turns. let f : true ≡ false = sym turns ∙ quiet.each p event far at by in
               absurd (cc);
-          changed =
-              let count = left_count v w later number quiet in
-              let no = ap (λ (b : Bool). cond {A = ℕ} b 1 0) none in
-              omega (arith, count, no);
+          unworn = unworn;
+          changed = let count = left_count v w later number quiet in omega (arith, count);
+          told = λ _. sym none;
         })
 
     -- as the graph answers at a moment
-    pub at_ends : (at : List Event) → place ≡ length at → HoldsBetween v.front m.front (GivesAnswer call outcome) at
-        → HasReplied g call tries outcome old (with_token now t)
-    at_ends at is_place h =
-        let p = h.holds.reply in
-        let told : e.place ≡ length at = place_told outcome place (length w.front)
-        (no_again (graph_of at) call outcome p) ∙ is_place in
-        let until = prefix_trans at m.front w.front h.until r.grows in
+    pub moment_ends : (at : List Event) → place ≡ length at → IsPrefix v.front at → IsPrefix at m.front
+        → reply ≡ answer (graph_of at) call → alters (graph_of at) call ≡ false
+        → HasReplied g call tries reply old (with_token now t)
+    moment_ends at is_place since then p stays =
+        let told : e.place ≡ length at = place_told reply.outcome place (length w.front)
+        (no_again (graph_of at) call reply p) ∙ is_place in
+        let until = prefix_trans at m.front w.front then r.grows in
         let there : graph_at w.front e.place ≡ graph_of at = ap (graph_at w.front) told
         ∙ graph_there at w.front until in
-        let low = prefix_length v.front at h.since in
+        let low = prefix_length v.front at since in
         let high = prefix_length at w.front until in
-        silent_ends (no_change (graph_of at) call outcome p h.holds.stays) (omega (arith, low, told))
-        (omega (arith, high, told))
-        (silent_right outcome w.sizes w.front w.number e (no_again (graph_of at) call outcome p)
-        (no_full (graph_of at) call outcome p)
+        silent_ends (no_worn (graph_of at) call reply p) (no_change (graph_of at) call reply p stays)
+        (omega (arith, low, told)) (omega (arith, high, told))
+        (silent_right reply.outcome w.sizes w.front w.number e (no_again (graph_of at) call reply p)
+        (no_full (graph_of at) call reply p)
         (record {
           reply = p ∙ ap (λ (x : Graph). answer x call) (sym there);
-          stays = ap (λ (x : Graph). alters x call) there ∙ h.holds.stays;
+          stays = ap (λ (x : Graph). alters x call) there ∙ stays;
         }))
+
+  pub at_ends : LeavesGraph 1 3 v m → (call : Call) (tries : ℕ) (outcome : Outcome) (start place : ℕ)
+      → start ≡ length v.front → Replied m (entry_of call tries (plain outcome) Silent start place) w
+      → (at : List Event) → place ≡ length at → HoldsBetween v.front m.front (GivesAnswer call outcome) at
+      → HasReplied g call tries (plain outcome) old (with_token now t)
+  at_ends stretch call tries outcome start place is_start r at is_place h =
+      moment_ends stretch call tries (plain outcome) start place is_start r at is_place h.since h.until h.holds.reply
+      h.holds.stays
 
   -- Full
   pub full_ends : (call : Call) (tries : ℕ) (start : ℕ) (at : List Event) → start ≡ length v.front
       → (d : IsDueForFull call v m at) → Replied m (entry_of call tries (plain Full) Silent start (length at)) w
-      → HasReplied g call tries Full old (with_token now t)
+      → HasReplied g call tries (plain Full) old (with_token now t)
   full_ends call tries start at is_start d r =
-      let e = entry_by call tries Full Silent start (length at) w.front in
+      let e = entry_by call tries (plain Full) Silent start (length at) w.front in
       let until = prefix_trans at m.front w.front d.needs.until r.grows in
       let empty = prefix_trans d.then m.front w.front d.empty.until r.grows in
       let low = prefix_length v.front at d.needs.since in
@@ -217,8 +227,9 @@ module _ (g : TableValue) (old now : HandValue) (t : TokenValue) (hand : IsHandO
       let low_then = prefix_length v.front d.then d.empty.since in
       let high_then = prefix_length d.then w.front empty in
       let sizes = end_sizes g old now t d.stretch.own
-      (come d.stretch call tries Full start (length at) is_start r) call tries Full Silent start (length at) r in
-      silent_ends d.stretch call tries Full start (length at) is_start r refl low high
+      (come d.stretch call tries (plain Full) start (length at) is_start r) call tries (plain Full) Silent start
+      (length at) r in
+      silent_ends d.stretch call tries (plain Full) start (length at) is_start r (λ is. absurd (cc)) refl low high
       (record {
         reply = refl;
         needs = ap (λ (x : Graph). needs_node x call) (graph_there at w.front until) ∙ d.needs.holds.needs;
@@ -233,10 +244,10 @@ module _ (g : TableValue) (old now : HandValue) (t : TokenValue) (hand : IsHandO
   -- Again
   pub again_ends : (call : Call) (tries : ℕ) (start place : ℕ) → start ≡ length v.front → (d : IsDueAgain tries v m)
       → Replied m (entry_of call tries (plain Again) Silent start place) w
-      → HasReplied g call tries Again old (with_token now t)
+      → HasReplied g call tries (plain Again) old (with_token now t)
   again_ends call tries start place is_start d r =
-      let number = end_number g old now t d.stretch.own (come d.stretch call tries Again start place is_start r) call
-      tries Again Silent start place r in
+      let number = end_number g old now t d.stretch.own (come d.stretch call tries (plain Again) start place is_start r)
+      call tries (plain Again) Silent start place r in
       let later = makes_later v m d.stretch.own d.stretch.makes in
       let low = prefix_length v.front m.front later.grows in
       let high = prefix_length m.front w.front r.grows in
@@ -246,13 +257,14 @@ module _ (g : TableValue) (old now : HandValue) (t : TokenValue) (hand : IsHandO
       let as_now : foreign w.front w.number start (length w.front)
       ≡ foreign w.front m.number (length v.front) (length w.front) = ap₂
       (λ (n k : ℕ). foreign w.front n k (length w.front)) (number ∙ sym later.number) is_start in
-      silent_ends d.stretch call tries Again start place is_start r refl (omega (arith, low, high)) (omega arith)
+      silent_ends d.stretch call tries (plain Again) start place is_start r (λ is. absurd (cc)) refl
+      (omega (arith, low, high)) (omega arith)
       (record { reply = refl; place = refl; lost = omega (arith, fell, same, sum, as_now) })
 
   -- right after the mark of a vertex life
   pub mark_ends : (key tries : ℕ) (start : ℕ) (x : Life) → start ≡ length v.front → (d : IsDueAtMark key v m x)
       → Replied m (entry_of (RemoveVertex key) tries (plain Absent) Silent start (place_at_mark Silent x m.front)) w
-      → HasReplied g (RemoveVertex key) tries Absent old (with_token now t)
+      → HasReplied g (RemoveVertex key) tries (plain Absent) old (with_token now t)
   mark_ends key tries start x is_start d r =
       let place = before_mark x m.front + 1 in
       let since = prefix_length v.front d.at d.there.since in
@@ -261,7 +273,7 @@ module _ (g : TableValue) (old now : HandValue) (t : TokenValue) (hand : IsHandO
       let low = b.low in
       let high = b.high in
       let longer = prefix_length m.front w.front r.grows in
-      silent_ends d.stretch (RemoveVertex key) tries Absent start place is_start r refl low
+      silent_ends d.stretch (RemoveVertex key) tries (plain Absent) start place is_start r (λ is. absurd (cc)) refl low
       (omega (arith, high, longer))
       (record {
         reply = absent_answer (graph_at w.front place) key b.gone;
@@ -279,7 +291,7 @@ module _ (g : TableValue) (old now : HandValue) (t : TokenValue) (hand : IsHandO
     own = all_own call 1 3 v m at d.stretch
 
     abbrev entry : Entry
-    entry = entry_by call tries outcome Own start (length at - 1) w.front
+    entry = entry_by call tries (plain outcome) Own start (length at - 1) w.front
 
     makes : Makes v own m
     makes = carried_makes call 1 3 v m at d.stretch
@@ -298,13 +310,13 @@ module _ (g : TableValue) (old now : HandValue) (t : TokenValue) (hand : IsHandO
     }
 
     number : w.number ≡ v.number
-    number = end_number g old now t own came call tries outcome Own start (length at - 1) r
+    number = end_number g old now t own came call tries (plain outcome) Own start (length at - 1) r
 
     -- the entry stands at the event
     place_is : entry.place ≡ length past
     place_is =
         let told = place_told outcome (length at - 1) (length w.front)
-        (no_again (graph_of past) call outcome d.reply) in
+        (no_again (graph_of past) call (plain outcome) d.reply) in
         let n = at_length call 1 3 v m at layout_v d.stretch in
         omega (arith, told, n)
 
@@ -342,16 +354,16 @@ module _ (g : TableValue) (old now : HandValue) (t : TokenValue) (hand : IsHandO
             (sym taken_is) (ap graph_of (sym d.stretch.carries.front) ∙ d.stretch.carries.leads);
       };
       reply = own_reply outcome w.front w.number entry d.stretch.event
-          (no_overtaken (graph_of past) call outcome d.reply)
+          (no_overtaken (graph_of past) call (plain outcome) d.reply)
           (d.reply ∙ ap (λ (j : List Event). answer (graph_of j) call) (sym taken_is));
     }
 
-    pub change_ends : HasReplied g call tries outcome old (with_token now t)
+    pub change_ends : HasReplied g call tries (plain outcome) old (with_token now t)
     change_ends =
         let since = prefix_length v.front past (past_since call 1 3 v m at layout_v d.stretch) in
         let short = before_end in
         let is = place_is in
-        call_ends g old now t own came call tries outcome Own start (length at - 1) r is_start
+        call_ends g old now t own came call tries (plain outcome) Own start (length at - 1) r is_start
         (record {
           frame = record {
             apart = omega (arith, is_start);
@@ -366,8 +378,7 @@ module _ (g : TableValue) (old now : HandValue) (t : TokenValue) (hand : IsHandO
             place = is ∙ sym (only_there call 1 3 v m at layout_v d.stretch w.front r.grows own_count p event far
                 stands by turns);
           };
-          changed =
-              let one = ap (λ (b : Bool). cond {A = ℕ} b 1 0) d.changes in
-              let more = count in
-              omega (arith, more, one);
+          unworn = no_worn (graph_of past) call (plain outcome) d.reply;
+          changed = let more = count in omega (arith, more);
+          told = λ _. sym d.changes;
         })

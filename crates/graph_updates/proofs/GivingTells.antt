@@ -36,7 +36,7 @@ use Rattle.epoch_limbo.proofs.LimboStays.{limbo_room, limbo_still}
 use Rattle.graph_table.specs.Tokens.{IsOf, RipeValue, TableValue, TokenValue}
 use Rattle.node_arena.specs.Giving.{IsGiven, IsGiveLost}
 use Rattle.graph_updates.specs.Burying.{IsIn}
-use Rattle.graph_updates.specs.Ending.{GivesOldest, HasGiven, IsFreeIn, IsGiving, NoneRipe}
+use Rattle.graph_updates.specs.Ending.{GivesOldest, HasGiven, IsFreeIn, IsGiving, NoneRipe, WasFreed}
 use Rattle.graph_updates.specs.Hands.{HasAllSpent, IsRoomyLimbo}
 use Rattle.graph_updates.specs.Parts.{Fell, LeavesGraph, MakesOnly}
 use Rattle.graph_updates.proofs.BurialLists.{every_both, every_map}
@@ -228,12 +228,8 @@ gives_chain epoch a b c u v w g h =
           (append_assoc g.gone h.gone c.nodes));
       room = h.room ∙ g.room;
       ripe = every_both (λ (r : RipeValue). r.stamp + 2 ≤ epoch) g.gone h.gone g.ripe h.ripe;
-      freed = every_both
-          (λ (r : RipeValue). (at : List Event) × HoldsBetween u.front w.front (IsFreeIn u.sizes (index_in r)) at)
-          g.gone h.gone
-          (every_map
-          (λ (r : RipeValue). (at : List Event) × HoldsBetween u.front v.front (IsFreeIn u.sizes (index_in r)) at)
-          (λ (r : RipeValue). (at : List Event) × HoldsBetween u.front w.front (IsFreeIn u.sizes (index_in r)) at)
+      freed = every_both (WasFreed u w) g.gone h.gone
+          (every_map (WasFreed u v) (WasFreed u w)
           (λ r p. (
             p.0,
             record {
@@ -243,9 +239,7 @@ gives_chain epoch a b c u v w g h =
             },
           ))
           g.gone g.freed)
-          (every_map
-          (λ (r : RipeValue). (at : List Event) × HoldsBetween v.front w.front (IsFreeIn v.sizes (index_in r)) at)
-          (λ (r : RipeValue). (at : List Event) × HoldsBetween u.front w.front (IsFreeIn u.sizes (index_in r)) at)
+          (every_map (WasFreed v w) (WasFreed u w)
           (λ r p. (
             p.0,
             record {

@@ -23,22 +23,24 @@ use Rattle.core_rule.specs.Retired.{IsRetired}
 use Rattle.core_rule.specs.declared.view.View.{View}
 use Rattle.core_stretches.specs.Holdings.{HasNoPass}
 use Rattle.core_stretches.specs.Makes.{Makes}
+use Rattle.core_stretches.proofs.MakesAddUp.{makes_self}
 use Rattle.core_stretches.proofs.MakesTell.{makes_goes, makes_later}
 use Rattle.epoch_limbo.specs.Advances.{IsHeldBy, MatchAdvanced}
-use Rattle.epoch_limbo.specs.Limbos.{LimboValue}
+use Rattle.epoch_limbo.specs.Limbos.{LimboValue, index_in}
 use Rattle.epoch_limbo.specs.Passes.{EpochIs}
 use Rattle.epoch_limbo.specs.declared.advancing.Advanced.{Advanced}
 use Rattle.epoch_limbo.specs.declared.advancing.Advanced.TheVariants.{Held, Lost, Moved}
 use Rattle.graph_table.specs.Tokens.{IsOf, RipeValue, TableValue, TokenValue}
-use Rattle.graph_updates.specs.Ending.{HasGiven, HasSettled, IsSettledAt, LagsIn, NoneLagged}
+use Rattle.graph_updates.specs.Ending.{HasGiven, HasSettled, IsFreeIn, IsGiving, IsRipeBy, IsSettledAt, LagsIn}
+use Rattle.graph_updates.specs.Ending.{NoneLagged, WasFreed}
 use Rattle.graph_updates.specs.Hands.{HandValue, HasItsNodes, IsHandOf, IsInOrder, IsRoomyLimbo}
-use Rattle.graph_updates.specs.Parts.{Fell, LeavesGraph}
-use Rattle.graph_updates.proofs.BurialLists.{every_map}
+use Rattle.graph_updates.specs.Parts.{Fell}
+use Rattle.graph_updates.proofs.BurialLists.{every_both, every_map}
 use Rattle.graph_updates.proofs.EndingTells.{Advances, advances}
 use Rattle.graph_updates.proofs.GivingTells.{giving_leaves, giving_parts, giving_pass}
 use Rattle.graph_updates.proofs.HandsStay.{LeavesParts, due_closed, hand_goes, limit_goes, nodes_go, order_goes}
 use Rattle.graph_updates.proofs.HandsStay.{parts_chain}
-use Rattle.graph_updates.proofs.PartsLeave.{leaves_chain}
+use Rattle.graph_updates.proofs.PartsLeave.{leaves_chain, only_chain}
 
 -- the front of a later view is kept by the sizes of an earlier one
 kept_later : (v w : View) (own : List Event) → Makes v own w → IsKept v.sizes w.front
@@ -131,14 +133,9 @@ fell_more n k caller a b d p q f low =
 pub record IsSettling (g : TableValue) (old now : HandValue) (lost : ℕ) : Type 0 where
   pub hand : IsHandOf g now
   pub nodes : HasItsNodes old → HasItsNodes now
-  pub stretch : LeavesGraph 0 2 old.token.view now.token.view
+  pub settled : HasSettled old now
   pub closed : HasNoPass now.token.view
-  pub gone : List RipeValue
-  pub limbo : old.limbo.nodes ≡ gone ++ now.limbo.nodes
-  pub room : now.limbo.room ≡ old.limbo.room
-  pub spare : now.spare ≡ old.spare
-  pub uses : now.uses ≡ old.uses + 1
-  pub fell : Fell lost now.token.view.number old.token.view.front now.token.view.front
+  pub fell : Fell lost now.token.view.number settled.moved.front now.token.view.front
   pub epochs : NoneLagged old.token.view.sizes old.token.view.number old.token.view.front now.token.view.front
       → word_at old.token.view.sizes old.token.view.front (epoch_at old.token.view.sizes) + 2
       ≤ word_at old.token.view.sizes now.token.view.front (epoch_at old.token.view.sizes)
@@ -174,6 +171,9 @@ module _ (g : TableValue) (old : HandValue) (h : IsHandOf g old) (closed : HasNo
     both_parts = parts_chain old.limbo old.limbo old.limbo old.token.view t.view m.view (first.parts old.limbo)
         (second.parts old.limbo)
 
+    second_number : m.view.numbered ≡ true
+    second_number = both_parts.numbered h.numbered
+
     rises_twice : NoneLagged old.token.view.sizes old.token.view.number old.token.view.front m.view.front
         → word_at old.token.view.sizes old.token.view.front (epoch_at old.token.view.sizes) + 2
         ≤ word_at old.token.view.sizes m.view.front (epoch_at old.token.view.sizes)
@@ -196,13 +196,24 @@ module _ (g : TableValue) (old : HandValue) (h : IsHandOf g old) (closed : HasNo
     settling_begins = record {
       hand = hand_goes g old settling h refl both_parts last_of;
       nodes = nodes_go g old settling h refl both_parts;
-      stretch = leaves_chain 0 1 0 1 old.token.view t.view m.view first.leaves second.leaves;
+      settled = record {
+        stretch = leaves_chain 0 1 0 1 old.token.view t.view m.view first.leaves second.leaves;
+        one = r;
+        first = t.view;
+        once = a;
+        two = s;
+        moved = m.view;
+        twice = b;
+        gives = record { own = []; are = tt; makes = makes_self m.view second_number last_of.sound };
+        gone = [];
+        limbo = refl;
+        ripe = tt;
+        freed = tt;
+        room = refl;
+        spare = refl;
+        uses = refl;
+      };
       closed = second.pass first_closed;
-      gone = [];
-      limbo = refl;
-      room = refl;
-      spare = refl;
-      uses = refl;
       fell = record { least = omega arith };
       epochs = rises_twice;
     }
@@ -222,17 +233,90 @@ module _ (g : TableValue) (old now : HandValue) (lost : ℕ) (i : IsSettling g o
   then_grows = (makes_later now.token.view u.view b.given.only.own b.given.only.makes).grows
 
   since_grows : IsPrefix old.token.view.front now.token.view.front
-  since_grows = (makes_later old.token.view now.token.view i.stretch.own i.stretch.makes).grows
+  since_grows = (makes_later old.token.view now.token.view i.settled.stretch.own i.settled.stretch.makes).grows
 
   kept_now : IsKept old.token.view.sizes u.view.front
   kept_now =
-      let one = makes_later old.token.view now.token.view i.stretch.own i.stretch.makes in
+      let one = makes_later old.token.view now.token.view i.settled.stretch.own i.settled.stretch.makes in
       subst (λ (s : Sizes). IsKept s u.view.front) one.sizes
       (kept_later now.token.view u.view b.given.only.own b.given.only.makes)
 
   narrower : NoneLagged old.token.view.sizes old.token.view.number old.token.view.front u.view.front
       → NoneLagged old.token.view.sizes old.token.view.number old.token.view.front now.token.view.front
   narrower none at p q = none at p (prefix_trans at now.token.view.front u.view.front q then_grows)
+
+  abbrev pub moved : View
+  moved = i.settled.moved
+
+  moved_grows : IsPrefix moved.front now.token.view.front
+  moved_grows = (makes_later moved now.token.view i.settled.gives.own i.settled.gives.makes).grows
+
+  moved_sizes : now.token.view.sizes ≡ moved.sizes
+  moved_sizes = (makes_later moved now.token.view i.settled.gives.own i.settled.gives.makes).sizes
+
+  -- the epoch is no smaller then
+  epoch_rises : (at : List Event) → IsPrefix at u.view.front
+      → word_at now.token.view.sizes at (epoch_at now.token.view.sizes)
+      ≤ word_at u.view.sizes u.view.front (epoch_at u.view.sizes)
+  epoch_rises at p =
+      let two = makes_later now.token.view u.view b.given.only.own b.given.only.makes in
+      subst (λ (s : Sizes). word_at s at (epoch_at s) ≤ word_at u.view.sizes u.view.front (epoch_at u.view.sizes))
+      two.sizes (rises_to u.view.sizes at u.view.front u.view.front p (prefix_refl u.view.front) two.kept)
+
+  pub ripe_still : Every (IsRipeBy u.view) (i.settled.gone ++ b.given.gone)
+  ripe_still =
+      let rise = epoch_rises now.token.view.front then_grows in
+      let load = epoch_rises b.loaded b.found.until in
+      let holds = b.found.holds in
+      every_both (IsRipeBy u.view) i.settled.gone b.given.gone
+      (every_map (IsRipeBy now.token.view) (IsRipeBy u.view) (λ r p. omega (arith, p, rise)) i.settled.gone
+      i.settled.ripe)
+      (every_map (λ (r : RipeValue). r.stamp + 2 ≤ epoch) (IsRipeBy u.view) (λ r p. omega (arith, p, load, holds))
+      b.given.gone b.given.ripe)
+
+  pub freed_still : Every (WasFreed moved u.view) (i.settled.gone ++ b.given.gone)
+  freed_still = every_both (WasFreed moved u.view) i.settled.gone b.given.gone
+      (every_map (WasFreed moved now.token.view) (WasFreed moved u.view)
+      (λ r p. (
+        p.0,
+        record {
+          since = p.1.since;
+          until = prefix_trans p.0 now.token.view.front u.view.front p.1.until then_grows;
+          holds = p.1.holds;
+        },
+      ))
+      i.settled.gone i.settled.freed)
+      (every_map (WasFreed now.token.view u.view) (WasFreed moved u.view)
+      (λ r p. (
+        p.0,
+        record {
+          since = prefix_trans moved.front now.token.view.front p.0 moved_grows p.1.since;
+          until = p.1.until;
+          holds = subst (λ (s : Sizes). IsFreeIn s (index_in r) p.0) moved_sizes p.1.holds;
+        },
+      ))
+      b.given.gone b.given.freed)
+
+  abbrev pub settled_goes : HasSettled old gave_ripe
+  settled_goes = record {
+    stretch = leaves_chain 0 2 0 0 old.token.view now.token.view u.view i.settled.stretch
+        (giving_leaves now.token.view u.view i.hand.of.layout b.given.only);
+    one = i.settled.one;
+    first = i.settled.first;
+    once = i.settled.once;
+    two = i.settled.two;
+    moved = moved;
+    twice = i.settled.twice;
+    gives = only_chain IsGiving moved now.token.view u.view i.settled.gives b.given.only;
+    gone = i.settled.gone ++ b.given.gone;
+    limbo = i.settled.limbo ∙ (ap (λ (ns : List RipeValue). i.settled.gone ++ ns) b.given.nodes ∙ sym
+        (append_assoc i.settled.gone b.given.gone limbo.nodes));
+    ripe = ripe_still;
+    freed = freed_still;
+    room = b.given.room ∙ i.settled.room;
+    spare = i.settled.spare;
+    uses = i.settled.uses;
+  }
 
   pub settling_goes : (k : ℕ) → Fell k u.view.number now.token.view.front u.view.front
       → IsSettling g old gave_ripe (lost + k)
@@ -242,18 +326,10 @@ module _ (g : TableValue) (old now : HandValue) (lost : ℕ) (i : IsSettling g o
       record {
         hand = hand_goes g now gave_ripe i.hand refl ripe_parts of;
         nodes = λ n. nodes_go g now gave_ripe i.hand refl ripe_parts (i.nodes n);
-        stretch = leaves_chain 0 2 0 0 old.token.view now.token.view u.view i.stretch
-            (giving_leaves now.token.view u.view i.hand.of.layout b.given.only);
+        settled = settled_goes;
         closed = giving_pass now.token.view u.view i.hand.of.layout b.given.only false i.closed;
-        gone = i.gone ++ b.given.gone;
-        limbo = i.limbo ∙ (ap (λ (ns : List RipeValue). i.gone ++ ns) b.given.nodes ∙ sym
-            (append_assoc i.gone b.given.gone limbo.nodes));
-        room = b.given.room ∙ i.room;
-        spare = i.spare;
-        uses = i.uses;
-        fell = fell_more lost k u.view.number old.token.view.front now.token.view.front u.view.front since_grows
-            then_grows
-            (subst (λ (n : ℕ). Fell lost n old.token.view.front now.token.view.front) (sym number) i.fell) f.least;
+        fell = fell_more lost k u.view.number moved.front now.token.view.front u.view.front moved_grows then_grows
+            (subst (λ (n : ℕ). Fell lost n moved.front now.token.view.front) (sym number) i.fell) f.least;
         epochs = λ all.
             let low = i.epochs (narrower all) in
             let rise = rises_to old.token.view.sizes now.token.view.front u.view.front u.view.front then_grows
@@ -262,17 +338,16 @@ module _ (g : TableValue) (old now : HandValue) (lost : ℕ) (i : IsSettling g o
       }
 
   -- none is ripe any more
-  pub settled_at : IsHandOf g old → none ≡ true → IsSettledAt epoch old gave_ripe
+  pub settled_at : IsHandOf g old → none ≡ true → IsSettledAt epoch i.settled.moved old gave_ripe
   settled_at h is =
       let v = old.token.view in
-      let one = makes_later v now.token.view i.stretch.own i.stretch.makes in
+      let one = makes_later v now.token.view i.settled.stretch.own i.settled.stretch.makes in
       let holds : EpochIs v epoch b.loaded = subst (λ (s : Sizes). word_at s b.loaded (epoch_at s) ≡ epoch) one.sizes
       b.found.holds in
-      let all_gone = settling_goes 0 (record { least = omega arith }) in
       record {
         loaded = b.loaded;
         found = record {
-          since = prefix_trans v.front now.token.view.front b.loaded since_grows b.found.since;
+          since = prefix_trans moved.front now.token.view.front b.loaded moved_grows b.found.since;
           until = b.found.until;
           holds = holds;
         };
@@ -283,9 +358,9 @@ module _ (g : TableValue) (old now : HandValue) (lost : ℕ) (i : IsSettling g o
             kept_now in
             none_left (word_at v.sizes v.front (epoch_at v.sizes)) epoch limbo.nodes
             (omega (arith, low, rise, holds))
-            (every_last (λ (r : RipeValue). r.stamp ≤ word_at v.sizes v.front (epoch_at v.sizes)) all_gone.gone
+            (every_last (λ (r : RipeValue). r.stamp ≤ word_at v.sizes v.front (epoch_at v.sizes)) settled_goes.gone
             limbo.nodes
-            (subst (Every (λ (r : RipeValue). r.stamp ≤ word_at v.sizes v.front (epoch_at v.sizes))) all_gone.limbo
+            (subst (Every (λ (r : RipeValue). r.stamp ≤ word_at v.sizes v.front (epoch_at v.sizes))) settled_goes.limbo
             (stamps_low old.limbo v h.of.sound.kept h.limbo)))
             (b.left is);
       }
@@ -297,16 +372,6 @@ module _ (g : TableValue) (old now : HandValue) (lost : ℕ) (h : IsHandOf g old
   settled_order left ord =
       let first = due_closed old.token.view closed in
       let last = due_closed now.token.view i.closed in
-      let uses = i.uses in
-      order_goes old now 0 2 h.of.layout i.stretch (i.nodes ord.nodes) (omega (arith, uses))
+      let uses = i.settled.uses in
+      order_goes old now 0 2 h.of.layout i.settled.stretch (i.nodes ord.nodes) (omega (arith, uses))
       (omega (arith, first, last, uses)) (omega (arith, left, uses)) ord
-
-  pub has_settled : HasSettled old now
-  has_settled = record {
-    stretch = i.stretch;
-    gone = i.gone;
-    limbo = i.limbo;
-    room = i.room;
-    spare = i.spare;
-    uses = i.uses;
-  }

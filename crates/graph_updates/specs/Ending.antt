@@ -15,8 +15,10 @@ use Rattle.core_rule.specs.declared.view.View.{View}
 use Rattle.core_stretches.specs.Holdings.{HasNoPass}
 use Rattle.core_stretches.specs.Makes.{Makes}
 use Rattle.core_stretches.specs.Moments.{HoldsBetween}
+use Rattle.epoch_limbo.specs.Advances.{MatchAdvanced}
 use Rattle.epoch_limbo.specs.Limbos.{LimboValue, index_in}
 use Rattle.epoch_limbo.specs.Passes.{EpochIs, IsOpened}
+use Rattle.epoch_limbo.specs.declared.advancing.Advanced.{Advanced}
 use Rattle.graph_table.specs.Tokens.{RipeValue}
 use Rattle.graph_updates.specs.Hands.{HandValue, HasAllSpent, HasItsNodes, IsRoomyLimbo}
 use Rattle.graph_updates.specs.Parts.{Fell, LeavesGraph, MakesOnly}
@@ -49,6 +51,14 @@ IsGiving k = (k ≡ StoreFree) ⊎ (k ≡ PushFree)
 abbrev pub IsFreeIn : Sizes → ℕ → List Event → Type 0
 IsFreeIn sizes x journal = (node_in sizes journal x).mode ≡ Free
 
+-- a node was free at a moment between two views
+abbrev pub WasFreed : View → View → RipeValue → Type 0
+WasFreed v w r = (at : List Event) × HoldsBetween v.front w.front (IsFreeIn v.sizes (index_in r)) at
+
+-- a node is ripe by the epoch of a view's front
+abbrev pub IsRipeBy : View → RipeValue → Type 0
+IsRipeBy v r = r.stamp + 2 ≤ word_at v.sizes v.front (epoch_at v.sizes)
+
 -- the oldest nodes of a limbo were given back, each ripe at this epoch and free at a moment since; the limbo is of the
 -- token still, and has all that it spent where it had
 pub record GivesOldest (epoch : ℕ) (old new : LimboValue) (v w : View) : Type 0 where
@@ -57,8 +67,7 @@ pub record GivesOldest (epoch : ℕ) (old new : LimboValue) (v w : View) : Type 
   pub nodes : old.nodes ≡ gone ++ new.nodes
   pub room : new.room ≡ old.room
   pub ripe : Every (λ (r : RipeValue). r.stamp + 2 ≤ epoch) gone
-  pub freed : Every (λ (r : RipeValue). (at : List Event) × HoldsBetween v.front w.front (IsFreeIn v.sizes (index_in r))
-      at) gone
+  pub freed : Every (WasFreed v w) gone
   pub limbo : IsRoomyLimbo new w
   pub all : HasAllSpent old v → HasAllSpent new w
 
@@ -85,8 +94,20 @@ pub record HasGiven (epoch : ℕ) (none : Bool) (old new : LimboValue) (v w : Vi
 abbrev pub IsEnding : Kind → Type 0
 IsEnding k = (k ≡ Withdraw) ⊎ ((k ≡ MoveEpoch) ⊎ IsGiving k)
 
--- a call has ended: the pass is closed; and where the hand had retired a node, the epoch was moved on at most once and
--- the oldest nodes of the limbo were given back, else it made no other event and its limbo is as it was
+-- after the pass was closed the epoch was moved on if that could be, and then each node that was ripe at an epoch
+-- loaded after that was given back, or a foreign event fell
+pub record HasTidied (old new : HandValue) : Type 0 where
+  pub closed : View
+  pub withdrew : Makes old.token.view (withdraw_event old.token.view ∷ []) closed
+  pub result : Advanced
+  pub moved : View
+  pub advanced : MatchAdvanced result closed moved
+  pub epoch : ℕ
+  pub none : Bool
+  pub given : HasGiven epoch none old.limbo new.limbo moved new.token.view
+
+-- a call has ended: the pass is closed; and if the hand had retired a node it was tidied, else it made no other event
+-- and its limbo is as it was
 pub record IsFinished (old new : HandValue) : Type 0 where
   pub only : MakesOnly IsEnding old.token.view new.token.view
   pub stretch : LeavesGraph 0 1 old.token.view new.token.view
@@ -94,6 +115,7 @@ pub record IsFinished (old new : HandValue) : Type 0 where
   pub gone : List RipeValue
   pub limbo : old.limbo.nodes ≡ gone ++ new.limbo.nodes
   pub room : new.limbo.room ≡ old.limbo.room
+  pub tidied : old.retired ≡ true → HasTidied old new
   pub still : old.retired ≡ false → (new.limbo ≡ old.limbo)
       × Makes old.token.view (withdraw_event old.token.view ∷ []) new.token.view
   pub spare : new.spare ≡ old.spare
@@ -113,28 +135,39 @@ abbrev pub NoneLagged : Sizes → ℕ → (old new : List Event) → Type 0
 NoneLagged sizes caller old new = (at : List Event) → IsPrefix old at → IsPrefix at new → (i : ℕ)
     → LagsIn sizes caller i at → ⊥
 
--- what settling leaves however it ends
+-- what settling leaves however it ends: the epoch was moved on twice if that could be, and then no own event fell but
+-- that nodes were given back, the oldest of the limbo: each was ripe by the epoch of the new front, and free at a moment
+-- since the moves
 pub record HasSettled (old new : HandValue) : Type 0 where
   pub stretch : LeavesGraph 0 2 old.token.view new.token.view
+  pub one : Advanced
+  pub first : View
+  pub once : MatchAdvanced one old.token.view first
+  pub two : Advanced
+  pub moved : View
+  pub twice : MatchAdvanced two first moved
+  pub gives : MakesOnly IsGiving moved new.token.view
   pub gone : List RipeValue
   pub limbo : old.limbo.nodes ≡ gone ++ new.limbo.nodes
+  pub ripe : Every (IsRipeBy new.token.view) gone
+  pub freed : Every (WasFreed moved new.token.view) gone
   pub room : new.limbo.room ≡ old.limbo.room
   pub spare : new.spare ≡ old.spare
   pub uses : new.uses ≡ old.uses + 1
 
--- each node that is ripe at an epoch which this call loaded was given back: the limbo holds only stamps of one less
--- than it or more; and where no other caller's pass lagged, it's empty
-pub record IsSettledAt (epoch : ℕ) (old new : HandValue) : Type 0 where
+-- each node that is ripe at an epoch which this call loaded after its moves was given back: the limbo holds only stamps
+-- of one less than it or more; and if no other caller's pass lagged, it's empty
+pub record IsSettledAt (epoch : ℕ) (moved : View) (old new : HandValue) : Type 0 where
   pub loaded : List Event
-  pub found : HoldsBetween old.token.view.front new.token.view.front (EpochIs old.token.view epoch) loaded
+  pub found : HoldsBetween moved.front new.token.view.front (EpochIs old.token.view epoch) loaded
   pub left : NoneRipe epoch new.limbo
   pub empty : NoneLagged old.token.view.sizes old.token.view.number old.token.view.front new.token.view.front
       → new.limbo.nodes ≡ []
 
 abbrev pub MatchSettled : Settled → ℕ → HandValue → HandValue → Type 0
 MatchSettled (settled.Done epoch) tries old new =
-    (old.uses < 2 ^ 32) × (HasSettled old new × IsSettledAt epoch old new)
+    (old.uses < 2 ^ 32) × ((s : HasSettled old new) × IsSettledAt epoch s.moved old new)
 MatchSettled settled.Again tries old new =
-    (old.uses < 2 ^ 32) × (HasSettled old new
-    × Fell tries new.token.view.number old.token.view.front new.token.view.front)
+    (old.uses < 2 ^ 32) × ((s : HasSettled old new)
+    × Fell tries new.token.view.number s.moved.front new.token.view.front)
 MatchSettled settled.Worn tries old new = (old.uses ≡ 2 ^ 32) × (new ≡ old)

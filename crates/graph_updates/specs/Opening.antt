@@ -21,10 +21,12 @@ pub record IsNew (v : View) (h : HandValue) : Type 0 where
   pub spare : h.spare ≡ None
   pub uses : h.uses ≡ 0
 
--- why: nothing is said of memory, and else as many numbers were drawn as there are callers
+-- why: nothing is said of memory, and else as many numbers were drawn as there are callers: this call found so, and the
+-- token knew it
 abbrev pub IsCause : HandCause → View → Type 0
 IsCause Memory w = Unit {0}
-IsCause NoNumber w = word_at w.sizes w.front (number_at w.sizes) ≡ w.sizes.callers
+IsCause NoNumber w =
+    (word_at w.sizes w.front (number_at w.sizes) ≡ w.sizes.callers) × (w.drawn ≡ w.sizes.callers)
 
 -- a token comes back: it's of the table, and but for what it has seen as it was
 pub record IsTokenRefused (g : TableValue) (v : View) (r : HandRefused) : Type 0 where

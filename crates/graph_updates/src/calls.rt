@@ -1,6 +1,7 @@
 //! The three calls on vertices, from entry to reply.
 
 ghost use Rattle.std.specs.Prelude.{◌<◌};
+ghost use Rattle.graph_kinds.specs.Answer.{plain};
 ghost use Rattle.graph_kinds.specs.declared.call.Call.TheVariants.{AddVertex, HasVertex, RemoveVertex};
 ghost use Rattle.core_stretches.specs.Holdings.{HasNoPass};
 ghost use Rattle.graph_updates.specs.Calls.{Answers};
@@ -29,7 +30,7 @@ pub fn has_vertex(table: &GraphTable, hand: &mut Hand, key: u32, tries: u32) -> 
     ensures hand { IsHandOf table.now hand.new }
     ensures closed { HasNoPass hand.new.token.view }
     ensures order { IsInOrder hand.new }
-    ensures answers { Answers (HasVertex key) tries result hand.old hand.new }
+    ensures answers { Answers (HasVertex key) tries (plain result) hand.old hand.new }
 {
     let entered = Entered::by(&*hand);
     if let Begun::Worn = begin(table, hand) {
@@ -74,7 +75,7 @@ pub fn add_vertex(table: &GraphTable, hand: &mut Hand, key: u32, tries: u32) -> 
     ensures hand { IsHandOf table.now hand.new }
     ensures closed { HasNoPass hand.new.token.view }
     ensures order { IsInOrder hand.new }
-    ensures answers { Answers (AddVertex key) tries result hand.old hand.new }
+    ensures answers { Answers (AddVertex key) tries (plain result) hand.old hand.new }
 {
     let entered = Entered::by(&*hand);
     if let Begun::Worn = begin(table, hand) {
@@ -116,7 +117,7 @@ pub fn remove_vertex(table: &GraphTable, hand: &mut Hand, key: u32, tries: u32) 
     ensures hand { IsHandOf table.now hand.new }
     ensures closed { HasNoPass hand.new.token.view }
     ensures order { IsInOrder hand.new }
-    ensures answers { Answers (RemoveVertex key) tries result hand.old hand.new }
+    ensures answers { Answers (RemoveVertex key) tries (plain result) hand.old hand.new }
 {
     let entered = Entered::by(&*hand);
     if let Begun::Worn = begin(table, hand) {

@@ -1,6 +1,7 @@
 //! A call is answered: its entry is added to the book, with the place at which it's right.
 
 ghost use Rattle.std.specs.Prelude.{◌≡◌};
+ghost use Rattle.graph_kinds.specs.Answer.{plain};
 ghost use Rattle.graph_kinds.specs.declared.call.Call.TheVariants.{RemoveVertex};
 ghost use Rattle.graph_kinds.specs.declared.outcome.Outcome.TheVariants.{Absent, Again, Full};
 ghost use Rattle.core_stretches.specs.Holdings.{HasNoPass};
@@ -63,7 +64,7 @@ pub(crate) fn reply(
     ensures order { IsInOrder hand.new }
     ensures closed { HasNoPass hand.new.token.view }
     ensures outcome { result ≡ outcome }
-    ensures answered { HasAnswered call.now tries outcome entered.now hand.new }
+    ensures answered { HasAnswered call.now tries (plain outcome) entered.now hand.new }
 {
     let token = &mut hand.token;
     let start = &entered.token;
@@ -100,7 +101,7 @@ pub(crate) fn reply_to_change(
     ensures order { IsInOrder hand.new }
     ensures closed { HasNoPass hand.new.token.view }
     ensures outcome { result ≡ outcome }
-    ensures answered { HasAnswered call.now tries outcome entered.now hand.new }
+    ensures answered { HasAnswered call.now tries (plain outcome) entered.now hand.new }
 {
     let token = &mut hand.token;
     let start = &entered.token;
@@ -135,7 +136,7 @@ pub(crate) fn reply_full(
     ensures order { IsInOrder hand.new }
     ensures closed { HasNoPass hand.new.token.view }
     ensures outcome { result ≡ Full }
-    ensures answered { HasAnswered call.now tries Full entered.now hand.new }
+    ensures answered { HasAnswered call.now tries (plain Full) entered.now hand.new }
 {
     let token = &mut hand.token;
     let start = &entered.token;
@@ -169,7 +170,7 @@ pub(crate) fn reply_again(
     ensures order { IsInOrder hand.new }
     ensures closed { HasNoPass hand.new.token.view }
     ensures outcome { result ≡ Again }
-    ensures answered { HasAnswered call.now tries Again entered.now hand.new }
+    ensures answered { HasAnswered call.now tries (plain Again) entered.now hand.new }
 {
     let token = &mut hand.token;
     let start = &entered.token;
@@ -204,7 +205,7 @@ pub(crate) fn reply_behind_mark(
     ensures order { IsInOrder hand.new }
     ensures closed { HasNoPass hand.new.token.view }
     ensures outcome { result ≡ Absent }
-    ensures answered { HasAnswered (RemoveVertex key) tries Absent entered.now hand.new }
+    ensures answered { HasAnswered (RemoveVertex key) tries (plain Absent) entered.now hand.new }
 {
     let call = Call::RemoveVertex { key };
     let token = &mut hand.token;

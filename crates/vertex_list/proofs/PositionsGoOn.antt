@@ -51,10 +51,10 @@ as_word passed v p h = record {
   unmarked = h.unmarked;
 }
 
-pub as_position : (passed : Bool) (key place word : ℕ) (moment : List Event) (v : View)
+pub as_position : (passed : Bool) (key place word link : ℕ) (moment : List Event) (v : View)
     → IsLoadedWord (IsPlaceOf passed key) place word moment v
-    → IsPosition passed v (record { key = key; place = place; word = word; moment = moment })
-as_position passed key place word moment v h =
+    → IsPosition passed v (record { key = key; place = place; word = word; link = link; moment = moment })
+as_position passed key place word link moment v h =
     record {
       then = h.then;
       at = h.at;
@@ -123,7 +123,7 @@ place_leads_on true key v z place h = inr (h.vertex, record { met = h.met; place
 -- a position goes on with its token, and so does a gap
 pub position_goes : (passed : Bool) (v w : View) (p : PositionValue) → GoesOn v w → Own (Elsewhere p.place) v w
     → IsPosition passed v p → IsPosition passed w p
-position_goes passed v w p g o h = as_position passed p.key p.place p.word p.moment w
+position_goes passed v w p g o h = as_position passed p.key p.place p.word p.link p.moment w
     (word_goes (IsPlaceOf passed p.key) p.place p.word p.moment v w g o (as_word passed v p h))
 
 pub gap_goes : (v w : View) (p : PositionValue) → IsLayout v.sizes → GoesOn v w → Own (Elsewhere p.place) v w
@@ -139,9 +139,14 @@ dead_goes v w p z g d = record {
   vertex = d.vertex;
   leads = d.leads;
   met = vertex_still v w z g d.vertex d.met;
-  dead =
-      ap mark_of (dead_still v w z g d.vertex.index d.met.life.there d.met.met d.dead) ∙ d.dead;
+  link_is = d.link_is ∙ sym (dead_still v w z g d.vertex.index d.met.life.there d.met.met d.dead);
+  dead = ap mark_of (dead_still v w z g d.vertex.index d.met.life.there d.met.met d.dead) ∙ d.dead;
 }
+
+-- a position stays one whatever link it keeps
+pub position_with : (passed : Bool) (v : View) (p : PositionValue) (link : ℕ) → IsPosition passed v p
+    → IsPosition passed v (record p { link = link })
+position_with passed v p link h = as_position passed p.key p.place p.word link p.moment v (as_word passed v p h)
 
 pub position_makes : (passed : Bool) (v w : View) (own : List Event) (p : PositionValue) → Every StaysInPass own
     → Every (λ (e : Event). e.place ≢ p.place) own → Makes v own w → IsPosition passed v p → IsPosition passed w p
@@ -180,13 +185,13 @@ place_apart passed v p x field z low f h same = ⊎_elim
 -- the position at the word of a bucket
 pub started : (v w : View) (key at found : ℕ) → IsLayout w.sizes → v.numbered ≡ true → IsSound v → HasPass v
     → Looked v at found w → at ≡ bucket_at w.sizes (key % w.sizes.buckets)
-    → IsPosition false w (record { key = key; place = at; word = found; moment = w.front })
+    → IsPosition false w (record { key = key; place = at; word = found; link = 0; moment = w.front })
 started v w key at found z has s opened l at_is =
     let g = makes_goes v w [] tt (makes_look v w at found has s l) in
     let low : key % w.sizes.buckets < w.sizes.buckets = omega (arith, z.some_buckets) in
     let found_is : word_at w.sizes w.front at ≡ found = ap (λ (y : Sizes). word_at y w.front at) (goes_sizes v w g)
     ∙ sym l.word in
-    as_position false key at found w.front w
+    as_position false key at found 0 w.front w
     (word_here (IsPlaceOf false key) at found w l.sound.kept (goes_opened v w g opened) (inl at_is) found_is
     (ap mark_of (sym found_is ∙ ap (word_at w.sizes w.front) at_is)
     ∙ bucket_unmarked w.sizes z w.front l.sound.kept (key % w.sizes.buckets) low))

@@ -1,5 +1,5 @@
--- What unlinking a marked vertex tells: the load of its link, and the exchange behind it.
-use Rattle.std.proofs.Common.{◌≡◌, ◌≢◌, ℕ, ◌<◌, Bool, true, false, List, [], ◌∷◌, ◌++◌, Some, refl, sym, ap, ap₂, ◌∙◌}
+-- What unlinking a marked vertex tells: the exchange on the word before it.
+use Rattle.std.proofs.Common.{◌≡◌, ℕ, ◌<◌, Bool, true, false, List, [], ◌∷◌, ◌++◌, Some, refl, sym, ap, ap₂, ◌∙◌}
 use Rattle.std.proofs.Common.{subst, arith}
 use Rattle.packed_link.specs.Link.{pack, index_of, mark_of, tag_of}
 use Rattle.packed_link.specs.Layout.{Sizes, IsLayout, link_at}
@@ -23,59 +23,35 @@ use Rattle.core_lists.proofs.EventKeepsRest.{written, event_life, vertex_spent}
 use Rattle.core_lists.proofs.FrozenToEndIsList.{has_keeps}
 use Rattle.core_rule.specs.Fronts.{IsLifeAt, MayUnlinkVertex, MetVertex}
 use Rattle.core_rule.specs.OwnEvents.{unlink_vertex_event}
-use Rattle.core_rule.specs.Plays.{IsSound, Looked, Won}
-use Rattle.core_rule.specs.Views.{GoesOn, Steps}
+use Rattle.core_rule.specs.Plays.{IsSound, Won}
+use Rattle.core_rule.specs.Views.{Steps}
 use Rattle.core_rule.specs.declared.view.View.{View}
 use Rattle.core_rule.proofs.OwnStretch.{goes_opened}
-use Rattle.core_rule.proofs.ViewShows.{dead_still, life_shown, vertex_still}
-use Rattle.core_stretches.specs.Makes.{Makes}
-use Rattle.core_stretches.proofs.MakesAddUp.{makes_chain, makes_look, makes_won}
-use Rattle.core_stretches.proofs.MakesTell.{makes_goes, makes_own}
+use Rattle.core_rule.proofs.ViewShows.{dead_still, life_shown}
+use Rattle.core_stretches.proofs.MakesAddUp.{makes_won}
+use Rattle.core_stretches.proofs.MakesTell.{makes_goes}
 use Rattle.core_stretches.proofs.WordsLeadOn.{goes_number, goes_sizes, word_written}
-use Rattle.graph_table.specs.Table.{Missed}
-use Rattle.vertex_list.specs.Changes.{IsLost, IsUnlinked}
+use Rattle.vertex_list.specs.Changes.{IsUnlinked}
 use Rattle.vertex_list.specs.Positions.{PositionValue, IsPosition, LeadsToDead}
-use Rattle.vertex_list.proofs.ChangesTell.{lost}
 use Rattle.vertex_list.proofs.PositionsGoOn.{IsVertexAt, IsPlaceOf, as_position, as_word, place_leads_on, place_still}
-use Rattle.vertex_list.proofs.PositionsGoOn.{position_goes, position_words}
+use Rattle.vertex_list.proofs.PositionsGoOn.{position_words}
 
--- a marked vertex to which a position leads, after a load of its link
-pub record IsDeadSeen (v m : View) (p : PositionValue) (x : Life) (link : ℕ) : Type 0 where
-  pub makes : Makes v [] m
-  pub goes : GoesOn v m
+-- a marked vertex to which a position leads, by the life that the link tells
+pub record IsDeadSeen (v : View) (p : PositionValue) (x : Life) : Type 0 where
   pub leads : index_of p.word ≡ x.index
-  pub vertex : MetVertex m x
-  pub link_is : word_at m.sizes m.front (link_at m.sizes x.index) ≡ link
-  pub dead : mark_of link ≡ 1
+  pub vertex : MetVertex v x
+  pub link_is : word_at v.sizes v.front (link_at v.sizes x.index) ≡ p.link
+  pub dead : mark_of (word_at v.sizes v.front (link_at v.sizes x.index)) ≡ 1
 
-pub dead_seen : (v m : View) (p : PositionValue) (at index link tag : ℕ) → IsLayout v.sizes → v.numbered ≡ true
-    → IsSound v → LeadsToDead v p → Looked v at link m → at ≡ link_at v.sizes index → index ≡ index_of p.word
-    → tag ≡ tag_of link → IsDeadSeen v m p (record { index = index; tag = tag }) link
-dead_seen v m p at index link tag z has s d l at_is index_is tag_is =
-    let makes = makes_look v m at link has s l in
-    let g = makes_goes v m [] tt makes in
-    let sizes = goes_sizes v m g in
+pub dead_seen : (v : View) (p : PositionValue) (index tag : ℕ) → IsLayout v.sizes → IsSound v → LeadsToDead v p
+    → index ≡ index_of p.word → tag ≡ tag_of p.link → IsDeadSeen v p (record { index = index; tag = tag })
+dead_seen v p index tag z s d index_is tag_is =
     let x = d.vertex in
-    let met = vertex_still v m z g x d.met in
-    let here : word_at m.sizes m.front (link_at m.sizes index) ≡ link = ap₂
-    (λ (y : Sizes) (i : ℕ). word_at y m.front i) sizes (ap (λ (y : Sizes). link_at y index) sizes ∙ sym at_is)
-    ∙ sym l.word in
-    let same_index : index ≡ x.index = index_is ∙ d.leads in
-    let still = dead_still v m z g x.index d.met.life.there d.met.met d.dead in
-    let link_is : word_at m.sizes m.front (link_at m.sizes x.index) ≡ link = ap
-    (λ (i : ℕ). word_at m.sizes m.front (link_at m.sizes i)) (sym same_index) ∙ here in
-    let dead : mark_of (word_at m.sizes m.front (link_at m.sizes x.index)) ≡ 1 = ap mark_of still ∙ d.dead in
-    let same : record { index = index; tag = tag } ≡ x = ap₂ (λ (i t : ℕ). record { index = i; tag = t }) same_index
-    (tag_is ∙ (ap tag_of (sym link_is) ∙ life_shown m
-    (subst IsLayout (sym sizes) z) l.sound.kept x met.life met.met)) in
-    record {
-      makes = makes;
-      goes = g;
-      leads = sym index_is;
-      vertex = subst (λ (y : Life). MetVertex m y) (sym same) met;
-      link_is = here;
-      dead = ap mark_of (sym link_is) ∙ dead;
-    }
+    let same : record { index = index; tag = tag } ≡ x = ap₂ (λ (i t : ℕ). record { index = i; tag = t })
+    (index_is ∙ d.leads)
+    (tag_is ∙ (ap tag_of d.link_is ∙ life_shown v z s.kept x d.met.life d.met.met)) in
+    subst (λ (y : Life). IsDeadSeen v p y) (sym same)
+    (record { leads = d.leads; vertex = d.met; link_is = sym d.link_is; dead = d.dead })
 
 -- the list of a vertex that is unlinked is open at its head
 open_behind : (sizes : Sizes) → IsLayout sizes → (past : List Event) (e : Event) → IsKept sizes (past ++ e ∷ [])
@@ -87,33 +63,19 @@ open_behind sizes z past e kept is =
     ∙ (ap (λ (k : Kind). (state_by k sizes e (state sizes past)).frozen e.life.index) is
     ∙ unclosed sizes z past (past_kept sizes past e kept) e.life.index ok.linked.linked)
 
-module _ (passed : Bool) (v m : View) (p : PositionValue) (x : Life) (link next : ℕ) (z : IsLayout v.sizes)
-    (h : IsPosition passed v p) (d : IsDeadSeen v m p x link) (next_is : next ≡ index_of link) where
-  here : IsPosition passed m p
-  here = position_goes passed v m p d.goes (makes_own (λ (e : Event). e.place ≢ p.place) v m [] tt d.makes) h
-
-  layout : IsLayout m.sizes
-  layout = subst IsLayout (sym (goes_sizes v m d.goes)) z
-
-  pub may_unlink : MayUnlinkVertex m p.place p.word next x
-  may_unlink =
-      let a = here in record {
-        pass = goes_opened a.then m a.goes a.pass;
-        before = place_leads_on passed p.key m layout p.place
-            (place_still passed p.key a.then m (subst IsLayout
-            (goes_sizes a.then m a.goes) layout) a.goes p.place a.stands);
-        unmarked = a.unmarked;
-        leads = d.leads;
-        vertex = d.vertex;
-        dead = ap mark_of d.link_is ∙ d.dead;
-        next_is = next_is ∙ ap index_of (sym d.link_is);
-      }
-
-  pub unlink_lost : (w : View) (found : ℕ) → IsLayout w.sizes → m.numbered ≡ true → IsSound m
-      → Missed m p.place p.word found w → IsLost p v w
-  unlink_lost w found z' has s missed =
-      let l = lost passed m w p found z' has s here missed in
-      record { makes = makes_chain v m w [] [] d.makes l.makes; changed = l.changed }
+module _ (passed : Bool) (v : View) (p : PositionValue) (x : Life) (next : ℕ) (z : IsLayout v.sizes)
+    (h : IsPosition passed v p) (d : IsDeadSeen v p x) (next_is : next ≡ index_of p.link) where
+  pub may_unlink : MayUnlinkVertex v p.place p.word next x
+  may_unlink = record {
+    pass = goes_opened h.then v h.goes h.pass;
+    before = place_leads_on passed p.key v z p.place
+        (place_still passed p.key h.then v (subst IsLayout (goes_sizes h.then v h.goes) z) h.goes p.place h.stands);
+    unmarked = h.unmarked;
+    leads = d.leads;
+    vertex = d.vertex;
+    dead = d.dead;
+    next_is = next_is ∙ ap index_of (sym d.link_is);
+  }
 
   -- a vertex that is unlinked wasn't spent with the token before
   not_spent : (w : View) (e : Event) → Steps v (Some e) w → e.kind ≡ UnlinkVertex → e.life.index ≡ x.index
@@ -128,20 +90,14 @@ module _ (passed : Bool) (v m : View) (p : PositionValue) (x : Life) (link next 
       (sym same) ∙ ok.linked.linked in
       absurd (cc)
 
-  pub unlinked : (w : View) (q : PositionValue) → m.numbered ≡ true → IsSound m
-      → Won m p.place p.word (unlink_vertex_event m p.place p.word next x) w → next < 16777216
-      → q ≡ record { key = p.key; place = p.place; word = pack next 0 (tag_of p.word); moment = w.front }
+  pub unlinked : (w : View) (q : PositionValue) → v.numbered ≡ true → IsSound v
+      → Won v p.place p.word (unlink_vertex_event v p.place p.word next x) w → next < 16777216
+      → q ≡ record { key = p.key; place = p.place; word = pack next 0 (tag_of p.word); link = 0; moment = w.front }
       → IsUnlinked p v w x q
-  unlinked w q has s won_there small is =
-      let number = goes_number v m d.goes in
+  unlinked w q has s won small is =
       let e = unlink_vertex_event v p.place p.word next x in
-      let same_event : unlink_vertex_event m p.place p.word next x ≡ e = ap
-      (λ (n : ℕ). unlink_vertex_event (record v { number = n }) p.place p.word next x) number in
-      let won : Won m p.place p.word e w = subst (λ (y : Event). Won m p.place p.word y w) same_event won_there in
-      let makes = makes_chain v m w [] (e ∷ []) d.makes (makes_won m w p.place p.word e has s (sym number) won) in
+      let makes = makes_won v w p.place p.word e has s refl won in
       let g = makes_goes v w (e ∷ []) ((λ y. absurd (cc), λ y. absurd (cc)), tt) makes in
-      let gm = makes_goes m w (e ∷ []) ((λ y. absurd (cc), λ y. absurd (cc)), tt)
-      (makes_won m w p.place p.word e has s (sym number) won) in
       let sizes = goes_sizes v w g in
       let z' : IsLayout w.sizes = subst IsLayout (sym sizes) z in
       let kept : IsKept w.sizes (won.grown ++ e ∷ []) = subst
@@ -151,16 +107,16 @@ module _ (passed : Bool) (v m : View) (p : PositionValue) (x : Life) (link next 
       (written w.sizes won.grown e kept) in
       let spent = vertex_spent w.sizes won.grown e kept z' refl in
       let there : x.index < w.sizes.nodes = subst (λ (y : Sizes). x.index < y.nodes)
-      (sym (goes_sizes m w gm)) d.vertex.life.there in
+      (sym sizes) d.vertex.life.there in
       let life = event_life w.sizes won.grown e kept z' there in
-      let link_is : word_at w.sizes w.front (link_at w.sizes x.index) ≡ link =
-      dead_still m w layout gm x.index d.vertex.life.there d.vertex.met (ap mark_of d.link_is ∙ d.dead)
-      ∙ d.link_is in
+      let link_is : word_at w.sizes w.front (link_at w.sizes x.index) ≡ p.link =
+      dead_still v w z g x.index d.vertex.life.there d.vertex.met d.dead ∙ d.link_is in
       let first = makes.steps in
       let made : IsUnlinked p v w x (record {
         key = p.key;
         place = p.place;
         word = pack next 0 (tag_of p.word);
+        link = 0;
         moment =
             w.front;
       }) = record {
@@ -185,7 +141,7 @@ module _ (passed : Bool) (v m : View) (p : PositionValue) (x : Life) (link next 
         place = refl;
         word = refl;
         moment = refl;
-        position = λ other a. as_position other p.key p.place (pack next 0 (tag_of p.word)) w.front w
+        position = λ other a. as_position other p.key p.place (pack next 0 (tag_of p.word)) 0 w.front w
             (word_written IsVertexAt (IsPlaceOf other p.key) (position_words other p.key) p.place p.word p.moment v z
             (as_word other v p a) w (pack next 0 (tag_of p.word)) g word_is
             (mark_of-pack next 0 (tag_of p.word) small (omega arith)));

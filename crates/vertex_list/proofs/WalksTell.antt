@@ -30,7 +30,7 @@ use Rattle.graph_table.specs.Tokens.{TableValue, TokenValue, IsOf}
 use Rattle.vertex_list.specs.Positions.{PositionValue, IsGap, IsPosition, LeadsToDead}
 use Rattle.vertex_list.specs.Walks.{IsAt, IsDeadEnd, IsDeadStep, IsGone, IsHere}
 use Rattle.vertex_list.specs.declared.walks.Sighting.{Sighting}
-use Rattle.vertex_list.proofs.PositionsGoOn.{IsVertexAt, IsPlaceOf, as_position, as_word, position_makes}
+use Rattle.vertex_list.proofs.PositionsGoOn.{IsVertexAt, IsPlaceOf, as_position, as_word, position_makes, position_with}
 use Rattle.vertex_list.proofs.PositionsGoOn.{position_words}
 
 -- the position of a walk, whose word leads to a node
@@ -60,7 +60,7 @@ seen passed g t m u p found link at at' of of' has h some is is' l l' =
     let sizes = sym of.sizes in
     record {
       makes = makes;
-      position = as_position passed p.key p.place p.word p.moment u.view
+      position = as_position passed p.key p.place p.word p.link p.moment u.view
           (word_looks (IsPlaceOf passed p.key) p.place p.word p.moment t.view u.view makes (as_word passed t.view p h));
       node = node_loaded IsVertexAt (IsPlaceOf passed p.key) laws t.view m.view u.view at
           (index_of p.word) found at' link of.layout has of.sound (step_leads passed t.view p of.layout h some)
@@ -83,12 +83,12 @@ seen_present w x found link z kept n live =
     (present_shown w z kept (life_in w.sizes w.front x) n.met (ap mark_of n.link_is ∙ live)).1 ∙ ap Some n.key_is
 
 seen_dead : (w : View) (p : PositionValue) (found link : ℕ) → IsLoadedNode IsVertexAt (index_of p.word) found link w
-    → mark_of link ≡ 1 → LeadsToDead w p
+    → mark_of link ≡ 1 → LeadsToDead w (record p { link = link })
 seen_dead w p found link n dead = record {
   vertex = life_in w.sizes w.front (index_of p.word);
   leads = refl;
-  met =
-      n.met;
+  met = n.met;
+  link_is = sym n.link_is;
   dead = ap mark_of n.link_is ∙ dead;
 }
 
@@ -110,11 +110,14 @@ key_loaded_fits passed v w p at found z has s h some at_is l =
 
 -- a step that comes to a marked vertex stays where it is
 pub dead_step : (v w : View) (p : PositionValue) (passed : Bool) (found link : ℕ) → IsSeen passed v w p found link
-    → mark_of link ≡ 1 → IsDeadStep p v w p
+    → mark_of link ≡ 1 → IsDeadStep p v w (record p { link = link })
 dead_step v w p passed found link s dead =
     record {
-      same = refl;
-      position = λ other h. position_makes other v w [] p tt tt s.makes h;
+      key = refl;
+      place = refl;
+      word = refl;
+      moment = refl;
+      position = λ other h. position_with other w p link (position_makes other v w [] p tt tt s.makes h);
       dead =
           seen_dead w p found link s.node dead;
     }
@@ -128,16 +131,16 @@ lacks w p z h above = word_passes p.key (IsInBucketOf p.key) (IsBefore p.key) (L
 until : (passed : Bool) (w : View) (p : PositionValue) → IsPosition passed w p → IsPrefix p.moment w.front
 until passed w p h = word_until (IsPlaceOf passed p.key) p.place p.word p.moment w (as_word passed w p h)
 
-abbrev pub keyed : PositionValue → ℕ → PositionValue
-keyed p key = record p { key = key }
+abbrev pub keyed : PositionValue → ℕ → ℕ → PositionValue
+keyed p key link = record p { key = key; link = link }
 
 gone : (w : View) (from p : PositionValue) (key : ℕ) → p.key ≡ from.key → key ≡ from.key → IsLayout w.sizes
-    → IsPrefix from.moment p.moment → IsGap w p → Lacks p.key p.moment → IsGone from w (keyed p key)
+    → IsPrefix from.moment p.moment → IsGap w p → Lacks p.key p.moment → IsGone from w (keyed p key p.link)
 gone w from p key here same z since g none =
     let is : p.key ≡ key = here ∙ sym same in
     record {
       key = same;
-      gap = subst (λ (k : ℕ). IsGap w (keyed p k)) is g;
+      gap = subst (λ (k : ℕ). IsGap w (keyed p k p.link)) is g;
       there = record {
         since = since;
         until = until false w p g.position;
@@ -148,14 +151,15 @@ gone w from p key here same z since g none =
 
 -- the answers of a walk: the word leads to none
 pub gone_at_end : (w : View) (from p : PositionValue) (key : ℕ) → p.key ≡ from.key → key ≡ from.key → IsLayout w.sizes
-    → IsPrefix from.moment p.moment → IsPosition false w p → index_of p.word ≡ nowhere → IsGone from w (keyed p key)
+    → IsPrefix from.moment p.moment → IsPosition false w p → index_of p.word ≡ nowhere
+    → IsGone from w (keyed p key p.link)
 gone_at_end w from p key here same z since h none = gone w from p key here same z since
     (record { position = h; behind = λ some. absurd (some none) }) (lacks w p z h (λ some. absurd (some none)))
 
 -- or to a greater key
 pub gone_before : (v w : View) (from p : PositionValue) (key found link : ℕ) → p.key ≡ from.key → key ≡ from.key
     → IsLayout w.sizes → IsPrefix from.moment p.moment → IsSeen false v w p found link → p.key < found
-    → IsGone from w (keyed p key)
+    → IsGone from w (keyed p key p.link)
 gone_before v w from p key found link here same z since s above =
     let a : p.key < key_in w (index_of p.word) = subst (λ (k : ℕ). p.key < k) (sym s.node.key_is) above in
     gone w from p key here same z since (record {
@@ -172,14 +176,15 @@ gone_before v w from p key found link here same z since s above =
 
 -- or to a marked vertex
 pub dead_end : (v w : View) (from p : PositionValue) (key found link : ℕ) → p.key ≡ from.key → key ≡ from.key
-    → IsPrefix from.moment p.moment → IsSeen false v w p found link → mark_of link ≡ 1 → IsDeadEnd from w (keyed p key)
+    → IsPrefix from.moment p.moment → IsSeen false v w p found link → mark_of link ≡ 1
+    → IsDeadEnd from w (keyed p key link)
 dead_end v w from p key found link here same since s dead =
     let is : p.key ≡ key = here ∙ sym same in
     record {
       key = same;
       since = since;
-      position = subst (λ (k : ℕ). IsPosition false w (keyed p k)) is s.position;
-      dead = subst (λ (k : ℕ). LeadsToDead w (keyed p k)) is (seen_dead w p found link s.node dead);
+      position = subst (λ (k : ℕ). IsPosition false w (keyed p k link)) is (position_with false w p link s.position);
+      dead = subst (λ (k : ℕ). LeadsToDead w (keyed p k link)) is (seen_dead w p found link s.node dead);
     }
 
 -- or to the vertex of the key
@@ -218,7 +223,7 @@ pub record IsNearer (w : View) (p q : PositionValue) : Type 0 where
 pub goes_nearer : (v w : View) (p : PositionValue) (found link place : ℕ) (moment : List Event) → IsLayout v.sizes
     → IsLayout w.sizes → IsKept w.sizes w.front → IsPosition false v p → index_of p.word ≢ nowhere
     → IsSeen false v w p found link → mark_of link ≡ 0 → found < p.key → place ≡ link_at w.sizes (index_of p.word)
-    → moment ≡ w.front → IsNearer w p (record { key = p.key; place = place; word = link; moment = moment })
+    → moment ≡ w.front → IsNearer w p (record { key = p.key; place = place; word = link; link = p.link; moment = moment })
 goes_nearer v w p found link place moment z z' kept h some s live below at same =
     let x = index_of p.word in
     let node : IsLoadedNode (IsInBucketOf p.key) x found link w =
@@ -233,16 +238,18 @@ goes_nearer v w p found link place moment z z' kept h some s live below at same 
     (λ (k : ℕ). low_at w.sizes p.moment p.place ≤ k) s.node.key_is
     (word_rises p.key (IsInBucketOf p.key) (IsBefore p.key)
     (Lacks p.key) laws p.place p.word p.moment w z' here some) in
-    let made : IsNearer w p (record { key = p.key; place = link_at w.sizes x; word = link; moment = w.front }) =
+    let made : IsNearer w p
+    (record { key = p.key; place = link_at w.sizes x; word = link; link = p.link; moment = w.front }) =
     record {
-      position = as_position false p.key (link_at w.sizes x) link w.front w next;
+      position = as_position false p.key (link_at w.sizes x) link p.link w.front w next;
       since = until false w p s.position;
       nearer = less p.key (low_at w.sizes p.moment p.place)
           (low_at w.sizes w.front (link_at w.sizes x)) found low rises below;
     } in
-    subst (λ (i : ℕ). IsNearer w p (record { key = p.key; place = i; word = link; moment = moment })) (sym at)
+    subst (λ (i : ℕ). IsNearer w p
+    (record { key = p.key; place = i; word = link; link = p.link; moment = moment })) (sym at)
     (subst (λ (f : List Event). IsNearer w p
-    (record { key = p.key; place = link_at w.sizes x; word = link; moment = f })) (sym same) made)
+    (record { key = p.key; place = link_at w.sizes x; word = link; link = p.link; moment = f })) (sym same) made)
   where
     less : (k old new found : ℕ) → new ≡ found + 1 → old ≤ found → found < k → k + 1 - new < k + 1 - old
     less k old new found is rises below = omega arith
@@ -267,19 +274,19 @@ behind_rises v p z some h =
 pub stepped : (v w : View) (p q : PositionValue) (passed : Bool) (x : Life) (found link : ℕ) → IsLayout v.sizes
     → IsLayout w.sizes → IsKept w.sizes w.front → IsPosition passed v p → index_of p.word ≢ nowhere
     → IsSeen passed v w p found link → mark_of link ≡ 0 → x.index ≡ index_of p.word → x.tag ≡ tag_of link
-    → q ≡ record { key = found; place = link_at w.sizes (index_of p.word); word = link; moment = w.front }
+    → q ≡ record { key = found; place = link_at w.sizes (index_of p.word); word = link; link = 0; moment = w.front }
     → IsAt p v w x q
 stepped v w p q passed x found link z z' kept h some s live index_is tag_is is =
     let i = index_of p.word in
     let life : x ≡ life_in w.sizes w.front i = seen_life w i found link x.index x.tag z' kept s.node index_is tag_is in
     let opened = word_opened (IsPlaceOf passed p.key) p.place p.word p.moment w (as_word passed w p s.position) in
     let made : IsAt p v w (life_in w.sizes w.front i)
-    (record { key = found; place = link_at w.sizes i; word = link; moment = w.front }) = record {
+    (record { key = found; place = link_at w.sizes i; word = link; link = 0; moment = w.front }) = record {
       leads = refl;
       met = s.node.met;
       key = sym s.node.key_is;
       place = refl;
-      position = as_position true found (link_at w.sizes i) link w.front w
+      position = as_position true found (link_at w.sizes i) link 0 w.front w
           (word_here (IsPlaceOf true found) (link_at w.sizes i) link w kept opened
           (record {
             vertex = life_in w.sizes w.front i;

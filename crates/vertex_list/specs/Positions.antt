@@ -10,11 +10,13 @@ use Rattle.core_rule.specs.Stretches.{Own, Elsewhere, HasPass}
 use Rattle.core_rule.specs.Views.{GoesOn}
 use Rattle.core_rule.specs.declared.view.View.{View}
 
--- a position: a key, the place of a word of the list, the word that was loaded there, and the moment of that load
+-- a position: a key, the place of a word of the list, the word that was loaded there, the moment of that load, and the
+-- link of the vertex to which the word leads, if it was found marked; a position that leads to none keeps any number
 pub record PositionValue : Type 0 where
   pub key : ℕ
   pub place : ℕ
   pub word : ℕ
+  pub link : ℕ
   pub moment : List Event
 
 -- the place is the link of a vertex of this key that was met
@@ -50,9 +52,10 @@ pub record IsGap (v : View) (p : PositionValue) : Type 0 where
   pub position : IsPosition false v p
   pub behind : index_of p.word ≢ nowhere → IsVertexAbove v p.key (index_of p.word)
 
--- the position's word leads to a vertex that was met, whose link is marked
+-- the position's word leads to a vertex that was met, whose link is marked; the position keeps that link
 pub record LeadsToDead (v : View) (p : PositionValue) : Type 0 where
   pub vertex : Life
   pub leads : index_of p.word ≡ vertex.index
   pub met : MetVertex v vertex
+  pub link_is : p.link ≡ word_at v.sizes v.front (link_at v.sizes vertex.index)
   pub dead : mark_of (word_at v.sizes v.front (link_at v.sizes vertex.index)) ≡ 1

@@ -49,9 +49,12 @@ pub record IsAt (p : PositionValue) (v w : View) (x : Life) (q : PositionValue) 
   pub there : HoldsBetween p.moment w.front (Has q.key x) q.moment
   pub rises : IsPosition true v p → p.key < q.key
 
--- the position leads to a marked vertex, and is a position still
+-- the position leads to a marked vertex, and is a position still: it stands where it did, with the same word
 pub record IsDeadStep (p : PositionValue) (v w : View) (q : PositionValue) : Type 0 where
-  pub same : q ≡ p
+  pub key : q.key ≡ p.key
+  pub place : q.place ≡ p.place
+  pub word : q.word ≡ p.word
+  pub moment : q.moment ≡ p.moment
   pub position : (passed : Bool) → IsPosition passed v p → IsPosition passed w q
   pub dead : LeadsToDead w q
 

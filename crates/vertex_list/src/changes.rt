@@ -36,9 +36,9 @@ pub enum Marked {
     Was,
 }
 
-/// Unlinks the marked vertex to which a position leads, in O(1): a load of its link and an exchange on the word before
-/// it. After `Done` the position has the word that the exchange wrote, and its moment is that of the exchange. `Lost`
-/// comes only where another caller changed the word since the position's load.
+/// Unlinks the marked vertex to which a position leads, in O(1): one exchange on the word before it, to where the link
+/// leads that the position keeps. After `Done` the position has the word that the exchange wrote, and its moment is that
+/// of the exchange. `Lost` comes only where another caller changed the word since the position's load.
 pub fn unlink(table: &GraphTable, token: &mut Token, position: Position) -> Unlinked
     requires table { IsOf table.now token.old }
     requires number { token.old.view.numbered ≡ true }
@@ -51,12 +51,12 @@ pub fn unlink(table: &GraphTable, token: &mut Token, position: Position) -> Unli
         key,
         place,
         word,
+        link,
         moment: _,
     } = position;
-    let layout = table.layout();
     let seen = Link(word);
     let index = seen.index();
-    let link = Link(table.load(token, layout.link_at(index)));
+    let link = Link(link);
     let dead = Life {
         index,
         tag: link.tag(),
@@ -72,6 +72,7 @@ pub fn unlink(table: &GraphTable, token: &mut Token, position: Position) -> Unli
                     key,
                     place,
                     word,
+                    link: 0,
                     moment,
                 },
             )
@@ -94,6 +95,7 @@ pub fn link(table: &GraphTable, token: &mut Token, position: Position, fresh: Fr
         key: _,
         place,
         word,
+        link: _,
         moment: _,
     } = position;
     match table.link_vertex(token, place, Link(word), fresh) {

@@ -7,13 +7,15 @@ use packed_link::Link;
 use std::marker::Model;
 use std::snapshot::Snapshot;
 
-/// A word of a bucket's list that a token loaded: that of the bucket itself, or the link of a vertex. It's handed on
-/// and not copied, for it has the moment of its load, which takes no bytes and can't be made anew.
+/// A word of a bucket's list that a token loaded: that of the bucket itself, or the link of a vertex. If the vertex to
+/// which it leads was found marked, it keeps that vertex's link too, which stays as it is. It's handed on and not
+/// copied, for it has the moment of its load, which takes no bytes and can't be made anew.
 #[derive(Drop)]
 pub struct Position {
     pub(crate) key: u32,
     pub(crate) place: u32,
     pub(crate) word: u64,
+    pub(crate) link: u64,
     pub(crate) moment: Snapshot<Token>,
 }
 
@@ -22,7 +24,13 @@ impl Model for Position {
 
     ghost Value = { PositionValue };
 
-    ghost view = { λ p. record { key = p.key; place = p.place; word = p.word; moment = p.moment.value.view.front } };
+    ghost view = { λ p. record {
+      key = p.key;
+      place = p.place;
+      word = p.word;
+      link = p.link;
+      moment = p.moment.value.view.front;
+    } };
 }
 
 impl Position {

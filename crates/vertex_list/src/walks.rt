@@ -58,6 +58,7 @@ pub fn start(table: &GraphTable, token: &mut Token, key: u32) -> Position
         key,
         place,
         word,
+        link: 0,
         moment,
     }
 }
@@ -79,6 +80,7 @@ pub fn walk(table: &GraphTable, token: &mut Token, position: Position) -> Found
         key,
         mut place,
         mut word,
+        link: _,
         mut moment,
     } = position;
     loop {
@@ -88,6 +90,7 @@ pub fn walk(table: &GraphTable, token: &mut Token, position: Position) -> Found
                 key,
                 place,
                 word,
+                link: 0,
                 moment,
             });
         }
@@ -98,6 +101,7 @@ pub fn walk(table: &GraphTable, token: &mut Token, position: Position) -> Found
                 key,
                 place,
                 word,
+                link,
                 moment,
             });
         }
@@ -106,6 +110,7 @@ pub fn walk(table: &GraphTable, token: &mut Token, position: Position) -> Found
                 key,
                 place,
                 word,
+                link: 0,
                 moment,
             });
         }
@@ -128,7 +133,8 @@ pub fn walk(table: &GraphTable, token: &mut Token, position: Position) -> Found
 /// Goes on by one vertex, in O(1): two loads. `At`: when the link of the vertex to which the position's word leads was
 /// loaded, the vertex was linked and unmarked; the position that is handed back stands behind it and has its key. From
 /// a position that a step handed back, the key is greater. `End` comes exactly where the word leads to no vertex.
-/// `Dead`: the link of the vertex is marked, and the same position is handed back.
+/// `Dead`: the link of the vertex is marked, and the position is handed back, which stands where it did and keeps that
+/// link.
 pub fn step(table: &GraphTable, token: &mut Token, position: Position) -> Stepped
     requires table { IsOf table.now token.old }
     requires number { token.old.view.numbered ≡ true }
@@ -145,6 +151,10 @@ pub fn step(table: &GraphTable, token: &mut Token, position: Position) -> Steppe
     let key = table.load(token, layout.key_at(next)) as u32;
     let link = Link(table.load(token, layout.link_at(next)));
     if link.marked() {
+        let position = Position {
+            link: link.0,
+            ..position
+        };
         return Stepped::Dead(position);
     }
     let life = Life {
@@ -158,6 +168,7 @@ pub fn step(table: &GraphTable, token: &mut Token, position: Position) -> Steppe
             key,
             place: layout.link_at(next),
             word: link.0,
+            link: 0,
             moment,
         },
     )

@@ -48,9 +48,10 @@ returns-then-hand-clause-hand c =
     let z = c.advance.ensures.table.layout in
     let limbo = c.give_ripe.new.limbo in
     let u = c.give_ripe.new.token in
-    let b = c.give_ripe.ensures.given.given in
+    let b = c.give_ripe.ensures.given in
+    let none = c.give_ripe.result.1 in
     let epoch = c.give_ripe.result.0 in
-    ended_hand g old t h pass makes closed c.if-hand.true c.advance.result m a z epoch limbo u b
+    ended_hand g old t h pass makes closed c.if-hand.true c.advance.result m a z epoch none limbo u b
     c.give_ripe.ensures.table
 
 pub returns-then-hand-clause-order : goal.returns-then-hand-clause-order
@@ -67,9 +68,10 @@ returns-then-hand-clause-order c = λ ord.
     let z = c.advance.ensures.table.layout in
     let limbo = c.give_ripe.new.limbo in
     let u = c.give_ripe.new.token in
-    let b = c.give_ripe.ensures.given.given in
+    let b = c.give_ripe.ensures.given in
+    let none = c.give_ripe.result.1 in
     let epoch = c.give_ripe.result.0 in
-    ended_order g old t h pass makes closed c.if-hand.true c.advance.result m a z epoch limbo u b
+    ended_order g old t h pass makes closed c.if-hand.true c.advance.result m a z epoch none limbo u b
     (subst IsInOrder (sym c.hand.view_is) ord)
 
 pub returns-then-hand-clause-finished : goal.returns-then-hand-clause-finished
@@ -86,12 +88,13 @@ returns-then-hand-clause-finished c =
     let z = c.advance.ensures.table.layout in
     let limbo = c.give_ripe.new.limbo in
     let u = c.give_ripe.new.token in
-    let b = c.give_ripe.ensures.given.given in
+    let b = c.give_ripe.ensures.given in
+    let none = c.give_ripe.result.1 in
     let epoch = c.give_ripe.result.0 in
     let some = c.if-hand.true in
     let r = c.advance.result in
-    subst (λ (k : HandValue). IsFinished k (ended g old t h pass makes closed some r m a z epoch limbo u b))
-    c.hand.view_is (ended_finished g old t h pass makes closed some r m a z epoch limbo u b)
+    subst (λ (k : HandValue). IsFinished k (ended g old t h pass makes closed some r m a z epoch none limbo u b))
+    c.hand.view_is (ended_finished g old t h pass makes closed some r m a z epoch none limbo u b)
 
 pub returns-else-hand-clause-hand : goal.returns-else-hand-clause-hand
 returns-else-hand-clause-hand c =

@@ -3,8 +3,8 @@ use Rattle.core_stretches.specs.Holdings.{HasNoPass}
 use Rattle.graph_updates.specs.Hands.{HandValue, IsHandOf, IsInOrder}
 use Rattle.graph_updates.specs.Parts.{Fell}
 use Rattle.graph_updates.specs.contracts.hand.Hand.{the_view}
-use Rattle.graph_updates.proofs.SettlingTells.{IsSettling, first_closed, first_limit, gave_ripe, has_settled}
-use Rattle.graph_updates.proofs.SettlingTells.{settled_at, settled_order, settling, settling_begins, settling_goes}
+use Rattle.graph_updates.proofs.SettlingTells.{IsSettling, first_closed, first_limit, gave_ripe, settled_at}
+use Rattle.graph_updates.proofs.SettlingTells.{settled_goes, settled_order, settling, settling_begins, settling_goes}
 use Rattle.graph_updates.proofs.ending.settle.Goals as goal
 
 pub advance-requires-2-clause-closed : goal.advance-requires-2-clause-closed
@@ -73,7 +73,7 @@ invariant_of-hand c =
     let same = ap (λ (k : HandValue). k.uses) c.hand.view_is in
     let most : c.hand.inside.uses ≤ 2 ^ 32 = c.hand.invariant in
     let left : c.args.hand.now.uses < 2 ^ 32 = let no = c.if-hand-eq-USES.false in omega (arith, no, most, same) in
-    let uses = i.uses in
+    let uses = i.settled.uses in
     omega (arith, uses, left)
 
 pub returns-then-none_ripe-clause-hand : goal.returns-then-none_ripe-clause-hand
@@ -138,15 +138,12 @@ returns-then-none_ripe-clause-settled c =
     let u = c.give_ripe-epoch.new.token in
     let b = c.give_ripe-epoch.ensures.given in
     let of = c.give_ripe-epoch.ensures.table in
-    let new = gave_ripe g old now c.loop-hand.lost i epoch none limbo u b of in
-    let j = settling_goes g old now c.loop-hand.lost i epoch none limbo u b of 0 (record { least = omega arith }) in
     let same = ap (λ (k : HandValue). k.uses) c.hand.view_is in
     let most : c.hand.inside.uses ≤ 2 ^ 32 = c.hand.invariant in
     let left : c.args.hand.now.uses < 2 ^ 32 = let no = c.if-hand-eq-USES.false in omega (arith, no, most, same) in (
       left,
       (
-        has_settled g old new (c.loop-hand.lost + 0) c.requires.hand
-            c.requires.closed j,
+        settled_goes g old now c.loop-hand.lost i epoch none limbo u b of,
         settled_at g old now c.loop-hand.lost i epoch none limbo u b of c.requires.hand c.if-none_ripe.true,
       ),
     )
@@ -165,7 +162,7 @@ invariant_of-hand-then-lost-tries c =
     let same = ap (λ (k : HandValue). k.uses) c.hand.view_is in
     let most : c.hand.inside.uses ≤ 2 ^ 32 = c.hand.invariant in
     let left : c.args.hand.now.uses < 2 ^ 32 = let no = c.if-hand-eq-USES.false in omega (arith, no, most, same) in
-    let uses = i.uses in
+    let uses = i.settled.uses in
     omega (arith, uses, left)
 
 pub returns-then-lost-tries-clause-hand : goal.returns-then-lost-tries-clause-hand
@@ -237,9 +234,9 @@ returns-then-lost-tries-clause-settled c =
     let left : c.args.hand.now.uses < 2 ^ 32 = let no = c.if-hand-eq-USES.false in omega (arith, no, most, same) in (
       left,
       (
-        has_settled g old new (c.loop-hand.lost + 1) c.requires.hand
-            c.requires.closed j,
-        subst (λ (n : ℕ). Fell n u.view.number old.token.view.front u.view.front) c.if-lost-tries.true j.fell,
+        j.settled,
+        subst (λ (n : ℕ). Fell n u.view.number j.settled.moved.front u.view.front) c.if-lost-tries.true
+            j.fell,
       ),
     )
 

@@ -1,4 +1,5 @@
 use Rattle.std.proofs.Common.{refl, subst, sym}
+use Rattle.graph_kinds.specs.Answer.{plain}
 use Rattle.graph_updates.specs.Hands.{HandValue, IsHandOf}
 use Rattle.graph_updates.specs.Replying.{HasEnded, IsDueAt}
 use Rattle.graph_updates.specs.contracts.hand.Hand.{the_view}
@@ -8,7 +9,7 @@ use Rattle.graph_updates.proofs.EntriesRight.{at_ends}
 use Rattle.graph_updates.proofs.replying.reply.Goals as goal
 
 module _ (c : goal.After-reply) where
-  ends : HasReplied c.args.table.now c.args.call.now c.args.tries c.args.outcome c.args.entered.now
+  ends : HasReplied c.args.table.now c.args.call.now c.args.tries (plain c.args.outcome) c.args.entered.now
       (with_token (the_view c.hand.inside) c.reply.new.token)
   ends =
       let back = sym c.hand.view_is in

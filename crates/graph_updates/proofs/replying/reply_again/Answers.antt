@@ -1,4 +1,5 @@
 use Rattle.std.proofs.Common.{length, subst, sym, ◌≤◌, arith}
+use Rattle.graph_kinds.specs.Answer.{plain}
 use Rattle.graph_kinds.specs.declared.outcome.Outcome.TheVariants.{Again}
 use Rattle.core_journal.proofs.Lists.{prefix_length}
 use Rattle.core_stretches.proofs.MakesTell.{makes_later}
@@ -22,7 +23,7 @@ reply-requires-clause-start c =
     omega (arith, same, low)
 
 module _ (c : goal.After-reply) where
-  ends : HasReplied c.args.table.now c.args.call.now c.args.tries Again c.args.entered.now
+  ends : HasReplied c.args.table.now c.args.call.now c.args.tries (plain Again) c.args.entered.now
       (with_token (the_view c.hand.inside) c.reply.new.token)
   ends =
       let back = sym c.hand.view_is in

@@ -1,4 +1,5 @@
 use Rattle.std.proofs.Common.{subst, sym}
+use Rattle.graph_kinds.specs.Answer.{plain}
 use Rattle.graph_kinds.specs.declared.call.Call.TheVariants.{RemoveVertex}
 use Rattle.graph_kinds.specs.declared.outcome.Outcome.TheVariants.{Absent}
 use Rattle.graph_updates.specs.Hands.{HandValue, IsHandOf}
@@ -10,7 +11,7 @@ use Rattle.graph_updates.proofs.EntriesRight.{mark_ends}
 use Rattle.graph_updates.proofs.replying.reply_behind_mark.Goals as goal
 
 module _ (c : goal.After-reply_at_mark) where
-  ends : HasReplied c.args.table.now (RemoveVertex c.args.key) c.args.tries Absent c.args.entered.now
+  ends : HasReplied c.args.table.now (RemoveVertex c.args.key) c.args.tries (plain Absent) c.args.entered.now
       (with_token (the_view c.hand.inside) c.reply_at_mark.new.token)
   ends =
       let back = sym c.hand.view_is in

@@ -1,4 +1,5 @@
 use Rattle.std.proofs.Common.{subst, sym}
+use Rattle.graph_kinds.specs.Answer.{plain}
 use Rattle.graph_kinds.specs.declared.outcome.Outcome.TheVariants.{Full}
 use Rattle.graph_updates.specs.Hands.{HandValue, IsHandOf}
 use Rattle.graph_updates.specs.Replying.{HasEnded, IsDueForFull}
@@ -9,7 +10,7 @@ use Rattle.graph_updates.proofs.EntriesRight.{full_ends}
 use Rattle.graph_updates.proofs.replying.reply_full.Goals as goal
 
 module _ (c : goal.After-reply) where
-  ends : HasReplied c.args.table.now c.args.call.now c.args.tries Full c.args.entered.now
+  ends : HasReplied c.args.table.now c.args.call.now c.args.tries (plain Full) c.args.entered.now
       (with_token (the_view c.hand.inside) c.reply.new.token)
   ends =
       let back = sym c.hand.view_is in

@@ -1,4 +1,5 @@
 use Rattle.std.proofs.Common.{◌≤◌, arith, length, subst, sym}
+use Rattle.graph_kinds.specs.Answer.{plain}
 use Rattle.packed_link.specs.Layout.{IsLayout}
 use Rattle.core_journal.proofs.Lists.{prefix_length}
 use Rattle.core_stretches.proofs.MakesTell.{makes_later}
@@ -36,7 +37,7 @@ reply-requires-clause-place c = λ other.
     prefix_length at m.front (at_until c.args.call.now 1 3 old.token.view m at layout d.stretch)
 
 module _ (c : goal.After-reply) where
-  ends : HasReplied c.args.table.now c.args.call.now c.args.tries c.args.outcome c.args.entered.now
+  ends : HasReplied c.args.table.now c.args.call.now c.args.tries (plain c.args.outcome) c.args.entered.now
       (with_token (the_view c.hand.inside) c.reply.new.token)
   ends =
       let back = sym c.hand.view_is in

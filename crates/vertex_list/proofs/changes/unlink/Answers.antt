@@ -1,60 +1,51 @@
-use Rattle.std.proofs.Common.{arith, ap, ap₂, sym, subst, true, ◌∙◌, ◌≡◌, ℕ}
+use Rattle.std.proofs.Common.{arith, ap, ap₂, sym, subst, ◌∙◌, ◌≡◌, ℕ}
 use Rattle.packed_link.specs.Link.{pack, tag_of}
-use Rattle.packed_link.specs.Layout.{Sizes, link_at}
 use Rattle.packed_link.specs.declared.link.Life.{Life}
-use Rattle.core_rule.specs.declared.view.View.{View}
 use Rattle.graph_table.specs.Tokens.{TokenValue}
 use Rattle.vertex_list.specs.Changes.{IsLost, IsUnlinked}
 use Rattle.vertex_list.specs.Positions.{IsPosition, LeadsToDead, PositionValue}
-use Rattle.vertex_list.proofs.UnlinksTell.{dead_seen, may_unlink, unlink_lost, unlinked}
+use Rattle.vertex_list.proofs.ChangesTell.{lost}
+use Rattle.vertex_list.proofs.UnlinksTell.{dead_seen, may_unlink, unlinked}
 use Rattle.vertex_list.proofs.changes.unlink.Goals as goal
 
 pub unlink_vertex-requires-clause-may : goal.unlink_vertex-requires-clause-may
 unlink_vertex-requires-clause-may c =
     let v = c.args.token.now.view in
-    let m = c.load.new.token.view in
     let p : PositionValue = record {
       key = c.position.inside.key;
       place = c.position.inside.place;
-      word =
-          c.position.inside.word;
+      word = c.position.inside.word;
+      link = c.position.inside.link;
       moment = c.position.inside.moment.value.view.front;
     } in
     let h = subst (λ (q : PositionValue). IsPosition c.requires.position.0 v q)
     (sym c.position.view_is) c.requires.position.1 in
     let dead = subst (λ (q : PositionValue). LeadsToDead v q) (sym c.position.view_is) c.requires.dead in
-    let at = c.link_at.ensures.place ∙ ap (λ (s : Sizes). link_at s c.index-index.result)
-    (c.layout-layout.ensures.sizes ∙ sym c.requires.table.sizes) in
-    let d = dead_seen v m p _ c.index-index.result c.load.result c.tag.result c.requires.table.layout c.requires.number
-    c.requires.table.sound dead c.load.ensures.looked at c.index-index.ensures.index c.tag.ensures.tag in
-    may_unlink c.requires.position.0 v m p _ c.load.result c.index-next.result c.requires.table.layout h d
-    c.index-next.ensures.index
+    let d = dead_seen v p c.index-index.result c.tag.result c.requires.table.layout c.requires.table.sound dead
+    c.index-index.ensures.index c.tag.ensures.tag in
+    may_unlink c.requires.position.0 v p _ c.index-next.result c.requires.table.layout h d c.index-next.ensures.index
 
 pub returns-in-Won-clause-unlinked : goal.returns-in-Won-clause-unlinked
 returns-in-Won-clause-unlinked c =
     let v = c.args.token.now.view in
-    let m = c.load.new.token.view in
     let p : PositionValue = record {
       key = c.position.inside.key;
       place = c.position.inside.place;
-      word =
-          c.position.inside.word;
+      word = c.position.inside.word;
+      link = c.position.inside.link;
       moment = c.position.inside.moment.value.view.front;
     } in
     let h = subst (λ (q : PositionValue). IsPosition c.requires.position.0 v q)
     (sym c.position.view_is) c.requires.position.1 in
     let dead = subst (λ (q : PositionValue). LeadsToDead v q) (sym c.position.view_is) c.requires.dead in
-    let at = c.link_at.ensures.place ∙ ap (λ (s : Sizes). link_at s c.index-index.result)
-    (c.layout-layout.ensures.sizes ∙ sym c.requires.table.sizes) in
-    let d = dead_seen v m p _ c.index-index.result c.load.result c.tag.result c.requires.table.layout c.requires.number
-    c.requires.table.sound dead c.load.ensures.looked at c.index-index.ensures.index c.tag.ensures.tag in
-    let has : m.numbered ≡ true = ap (λ (u : View). u.numbered) c.load.ensures.looked.view ∙ c.requires.number in
+    let d = dead_seen v p c.index-index.result c.tag.result c.requires.table.layout c.requires.table.sound dead
+    c.index-index.ensures.index c.tag.ensures.tag in
     let w = c.unlink_vertex.new.token.view in
     let q : PositionValue = record {
       key = c.position.inside.key;
       place = c.position.inside.place;
-      word =
-          c.pack-word.result.0;
+      word = c.pack-word.result.0;
+      link = 0;
       moment = c.of-moment.result.value.view.front;
     } in
     let word : c.pack-word.result.0 ≡ pack c.index-next.result 0 (tag_of p.word) = c.pack-word.ensures.word
@@ -63,17 +54,17 @@ returns-in-Won-clause-unlinked c =
       key = p.key;
       place = p.place;
       word = pack c.index-next.result 0 (tag_of p.word);
-      moment =
-          w.front;
+      link = 0;
+      moment = w.front;
     } = ap₂ (λ (x : ℕ) (t : TokenValue). record {
       key = p.key;
       place = p.place;
       word = x;
-      moment =
-          t.view.front;
+      link = 0;
+      moment = t.view.front;
     }) word c.of-moment.ensures in
-    let done = unlinked c.requires.position.0 v m p _ c.load.result c.index-next.result c.requires.table.layout h d
-    c.index-next.ensures.index w q has c.load.ensures.table.sound c.in-Won.ensures.tried.1
+    let done = unlinked c.requires.position.0 v p _ c.index-next.result c.requires.table.layout h d
+    c.index-next.ensures.index w q c.requires.number c.requires.table.sound c.in-Won.ensures.tried.1
     (omega (arith, c.index-next.ensures.bound)) is in
     subst (λ (x : Life). IsUnlinked c.args.position v w x q) (sym c.in-Won.ensures.tried.0)
     (subst (λ (r : PositionValue). IsUnlinked r v w
@@ -82,24 +73,16 @@ returns-in-Won-clause-unlinked c =
 pub returns-clause-unlinked : goal.returns-clause-unlinked
 returns-clause-unlinked c =
     let v = c.args.token.now.view in
-    let m = c.load.new.token.view in
     let p : PositionValue = record {
       key = c.position.inside.key;
       place = c.position.inside.place;
-      word =
-          c.position.inside.word;
+      word = c.position.inside.word;
+      link = c.position.inside.link;
       moment = c.position.inside.moment.value.view.front;
     } in
     let h = subst (λ (q : PositionValue). IsPosition c.requires.position.0 v q)
     (sym c.position.view_is) c.requires.position.1 in
-    let dead = subst (λ (q : PositionValue). LeadsToDead v q) (sym c.position.view_is) c.requires.dead in
-    let at = c.link_at.ensures.place ∙ ap (λ (s : Sizes). link_at s c.index-index.result)
-    (c.layout-layout.ensures.sizes ∙ sym c.requires.table.sizes) in
-    let d = dead_seen v m p _ c.index-index.result c.load.result c.tag.result c.requires.table.layout c.requires.number
-    c.requires.table.sound dead c.load.ensures.looked at c.index-index.ensures.index c.tag.ensures.tag in
-    let has : m.numbered ≡ true = ap (λ (u : View). u.numbered) c.load.ensures.looked.view ∙ c.requires.number in
     let w = c.unlink_vertex.new.token.view in
     subst (λ (r : PositionValue). IsLost r v w) c.position.view_is
-    (unlink_lost c.requires.position.0 v m p _ c.load.result c.index-next.result c.requires.table.layout h d
-    c.index-next.ensures.index w _ c.unlink_vertex.ensures.table.layout has c.load.ensures.table.sound
+    (lost c.requires.position.0 v w p _ c.unlink_vertex.ensures.table.layout c.requires.number c.requires.table.sound h
     c.in-Lost.ensures.tried)

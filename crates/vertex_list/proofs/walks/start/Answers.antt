@@ -17,5 +17,5 @@ returns-clause-position c =
     (c.bucket_at-place.ensures.place ∙ ap₂ (λ (s : Sizes) (b : ℕ). bucket_at s (c.args.key % b)) sizes
     (c.buckets.ensures.buckets ∙ ap (λ (s : Sizes). s.buckets) sizes)) in
     subst (λ (f : List Event). IsPosition false w
-    (record { key = c.args.key; place = c.bucket_at-place.result; word = c.load-word.result; moment = f }))
+    (record { key = c.args.key; place = c.bucket_at-place.result; word = c.load-word.result; link = 0; moment = f }))
     (ap (λ (t : TokenValue). t.view.front) (sym c.of-moment.ensures)) here

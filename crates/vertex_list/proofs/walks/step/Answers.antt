@@ -1,8 +1,9 @@
-use Rattle.std.proofs.Common.{rules, arith, ap, ap₂, sym, ◌∙◌, ◌≡◌, ◌≢◌, ◌<◌, ◌^◌, ℕ}
+use Rattle.std.proofs.Common.{rules, arith, ap, ap₂, subst, sym, ◌∙◌, ◌≡◌, ◌≢◌, ◌<◌, ◌^◌, ℕ}
 use Rattle.packed_link.specs.Link.{index_of, mark_of, nowhere}
 use Rattle.packed_link.specs.Layout.{Sizes, key_at, link_at}
 use Rattle.graph_table.specs.Tokens.{TokenValue}
 use Rattle.vertex_list.specs.Positions.{PositionValue}
+use Rattle.vertex_list.specs.Walks.{IsDeadStep}
 use Rattle.vertex_list.proofs.WalksTell.{step_leads, seen, key_loaded_fits, dead_step, stepped}
 use Rattle.vertex_list.proofs.walks.step.Goals as goal
 
@@ -54,7 +55,8 @@ returns-then-marked-clause-stepped c =
     let s = seen c.requires.position.0 c.args.table.now c.args.token.now c.load-key.new.token c.load.new.token p
     c.load-key.result c.load.result _ _ c.requires.table c.load-key.ensures.table c.requires.number h some key link
     c.load-key.ensures.looked c.load.ensures.looked in
-    dead_step v u p c.requires.position.0 c.load-key.result c.load.result s (search rules)
+    subst (λ (r : PositionValue). IsDeadStep p v u (record r { link = c.load.result })) (sym c.position.view_is)
+    (dead_step v u p c.requires.position.0 c.load-key.result c.load.result s (search rules))
 
 pub returns-clause-stepped : goal.returns-clause-stepped
 returns-clause-stepped c =
@@ -81,6 +83,7 @@ returns-clause-stepped c =
       key = c.load-key.result;
       place = c.link_at-2.result;
       word = c.load.result;
+      link = 0;
       moment =
           c.of-moment.result.value.view.front;
     } in
@@ -89,12 +92,14 @@ returns-clause-stepped c =
       place = link_at u.sizes (index_of p.word);
       word =
           c.load.result;
+      link = 0;
       moment = u.front;
     } = ap₂
     (λ (x : ℕ) (t : TokenValue). record {
       key = c.load-key.result;
       place = x;
       word = c.load.result;
+      link = 0;
       moment =
           t.view.front;
     }) place c.of-moment.ensures in

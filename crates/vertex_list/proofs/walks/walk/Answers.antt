@@ -19,6 +19,7 @@ returns-then-next-eq16777215-clause-found c =
       place = c.loop-layout.place;
       word =
           c.loop-layout.word;
+      link = 0;
       moment = c.loop-layout.moment.value.view.front;
     } in
     let same = ap (λ (q : PositionValue). q.key) c.position.view_is in
@@ -34,6 +35,7 @@ key_at-requires c =
       place = c.loop-layout.place;
       word =
           c.loop-layout.word;
+      link = 0;
       moment = c.loop-layout.moment.value.view.front;
     } in
     let same = ap (λ (q : PositionValue). q.key) c.position.view_is in
@@ -58,6 +60,7 @@ returns-then-marked-clause-makes c =
       place = c.loop-layout.place;
       word =
           c.loop-layout.word;
+      link = 0;
       moment = c.loop-layout.moment.value.view.front;
     } in
     let same = ap (λ (q : PositionValue). q.key) c.position.view_is in
@@ -84,6 +87,7 @@ returns-then-found-from-clause-makes c =
       place = c.loop-layout.place;
       word =
           c.loop-layout.word;
+      link = 0;
       moment = c.loop-layout.moment.value.view.front;
     } in
     let same = ap (λ (q : PositionValue). q.key) c.position.view_is in
@@ -110,6 +114,7 @@ returns-then-found-from-2-clause-makes c =
       place = c.loop-layout.place;
       word =
           c.loop-layout.word;
+      link = 0;
       moment = c.loop-layout.moment.value.view.front;
     } in
     let same = ap (λ (q : PositionValue). q.key) c.position.view_is in
@@ -136,6 +141,7 @@ returns-then-marked-clause-found c =
       place = c.loop-layout.place;
       word =
           c.loop-layout.word;
+      link = 0;
       moment = c.loop-layout.moment.value.view.front;
     } in
     let same = ap (λ (q : PositionValue). q.key) c.position.view_is in
@@ -163,6 +169,7 @@ returns-then-found-from-clause-found c =
       place = c.loop-layout.place;
       word =
           c.loop-layout.word;
+      link = 0;
       moment = c.loop-layout.moment.value.view.front;
     } in
     let same = ap (λ (q : PositionValue). q.key) c.position.view_is in
@@ -190,6 +197,7 @@ returns-then-found-from-2-clause-found c =
       place = c.loop-layout.place;
       word =
           c.loop-layout.word;
+      link = 0;
       moment = c.loop-layout.moment.value.view.front;
     } in
     let same = ap (λ (q : PositionValue). q.key) c.position.view_is in
@@ -225,6 +233,7 @@ loop-layout-smaller c =
       place = c.loop-layout.place;
       word =
           c.loop-layout.word;
+      link = 0;
       moment = c.loop-layout.moment.value.view.front;
     } in
     let same = ap (λ (q : PositionValue). q.key) c.position.view_is in
@@ -263,6 +272,7 @@ loop-layout-preserved c =
       place = c.loop-layout.place;
       word =
           c.loop-layout.word;
+      link = 0;
       moment = c.loop-layout.moment.value.view.front;
     } in
     let same = ap (λ (q : PositionValue). q.key) c.position.view_is in

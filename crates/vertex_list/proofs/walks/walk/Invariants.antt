@@ -15,6 +15,7 @@ invariant-loop-layout l = record {
     key = l.fn.position.key;
     place = l.place;
     word = l.word;
+    link = 0;
     moment =
         l.moment.value.view.front;
   });

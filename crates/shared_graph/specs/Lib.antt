@@ -1,0 +1,6 @@
+pub mod Callers
+pub mod Hiring
+pub mod Joining
+pub mod Looking
+pub mod Performing
+pub mod Ports

@@ -1,0 +1,18 @@
+//! One graph that callers share, each on a thread of its own.
+//!
+//! Contracts see a caller as its hand, with the keys and level ends of its last answer; and the graph as its table. What
+//! a caller has seen of the journal is its front.
+#![tactic(auto)]
+
+mod caller;
+mod closing;
+mod graph;
+mod hands;
+mod opening;
+mod port;
+mod port_calls;
+
+pub use caller::Caller;
+pub use graph::{Note, SharedGraph};
+pub use graph_updates::Settled;
+pub use port::GraphPort;
