@@ -202,7 +202,8 @@ module _ {X : Type 0} where
             (λ v. (c == i) ≡ v → length (get_or (set now c after) i x).kept.items
             ≡ length (own i (drop (k + 1) rows))) [
               | true ↦ λ q.
-                  let one : own i (drop k rows) ≡ (get_or rows k d).call ∷ own i (drop (k + 1) rows) = rw q at (calls i) in
+                  let one : own i (drop k rows) ≡ (get_or rows k d).call ∷ own i (drop (k + 1) rows) =
+                  rw q at (calls i) in
                   let n : length (get_or now i x).kept.items ≡ length (own i (drop k rows)) = m.rest i x h in
                   let n2 : length (get_or (set now c after) i x).kept.items ≡ length after.kept.items =
                   ap (λ (l : Lane X). length l.kept.items) (same_lane now c i x after room (eqb-true c i q)) in

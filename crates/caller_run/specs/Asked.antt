@@ -45,7 +45,7 @@ module _ {X : Type 0} (book : X → List Entry) (left front : X → ℕ) where
     pub later : front old ≤ front new
 
   -- a port has answered each of these calls, with these answers: the entries that its book has gained are those of the
-  -- calls that aren't answered Worn; as many calls as it had uses left aren't, and each call behind those is
+  -- calls that aren't answered Worn; as many calls as it had uses left aren't, and each later one is, without keys
   pub record HasAnsweredAll (old new : X) (tries : ℕ) (calls : List Call) (replies : List Answer) : Type 0 where
     pub some : HasAnsweredSome old new tries calls
     pub one_each : length replies ≡ length calls

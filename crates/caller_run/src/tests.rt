@@ -3,7 +3,7 @@
 ghost use Rattle.std.specs.Prelude.{◌≡◌, ◌≤◌, IfOk, vec_len};
 
 use crate::{Lane, run_callers};
-use graph_kinds::{Call, CallerPort, Memory, Outcome, Row};
+use graph_kinds::{Call, CallerPort, Outcome, Row};
 use std::alloc::{AllocError, Global};
 use std::sync::atomic::{AtomicBool, Ordering};
 
