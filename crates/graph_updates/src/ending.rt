@@ -25,7 +25,8 @@ pub enum Begun {
     Worn,
 }
 
-/// What became of settling: the epoch that was loaded last, no try was left, or the hand has had all its uses.
+/// What became of settling: no node of the limbo is ripe at this epoch, no try was left, or the hand has had all its
+/// uses.
 #[derive(Clone, Copy, Debug, Drop, PartialEq, Eq)]
 pub enum Settled {
     Done(u64),
@@ -119,9 +120,10 @@ fn tidy(table: &GraphTable, token: &mut Token, limbo: &mut Limbo)
     give_ripe(table, token, limbo);
 }
 
-/// Closes the pass. Where the hand retired a node since it began, the epoch is moved on once, if that can be, and ripe
-/// nodes are given back until none is or a give-back is lost. O(1), and O(callers + nodes given back) where it retired.
-/// The pass is open, and the token has moved the epoch fewer than 2^34 times.
+/// Closes the pass. If the hand retired a node since it began, the epoch is then moved on once, if that can be, and nodes
+/// are given back, the oldest first, until none is ripe at an epoch loaded after that or a give-back is lost, which takes
+/// a foreign event; else nothing more is done. O(1), and O(callers + nodes given back) if it retired. The pass is open,
+/// and the token has moved the epoch fewer than 2^34 times.
 pub fn finish(table: &GraphTable, hand: &mut Hand)
     requires hand { IsHandOf table.now hand.old }
     requires pass { HasPass hand.old.token.view }
@@ -153,11 +155,12 @@ fn advance_twice(table: &GraphTable, token: &mut Token)
     let _second = advance(table, token);
 }
 
-/// Moves the epoch on twice, where that can be, and gives back each ripe node: O(callers + nodes given back). `Done`
-/// tells the epoch that was loaded last; no node of the limbo is ripe at it. A lost give-back is a lost try, and starts
-/// giving back anew; `Again` comes where as many tries were lost as were given, each with a foreign event of its own.
-/// `Worn` comes exactly where the hand has had 4,294,967,296 uses; nothing is done then. It counts one use. The hand is
-/// in order and has no open pass.
+/// Moves the epoch on twice, each time if that can be, and then gives back ripe nodes, the oldest first, and does nothing
+/// else: O(callers + nodes given back). `Done` tells an epoch that was loaded after the moves; no node of the limbo is
+/// ripe at it, and the limbo is empty if no other caller's pass lagged. A lost give-back is a lost try, and starts giving
+/// back anew; `Again` comes only if as many tries were lost as were given, each with a foreign event of its own after the
+/// moves. `Worn` comes exactly if the hand has had 4,294,967,296 uses; nothing is done then. It counts one use. The hand
+/// is in order and has no open pass.
 pub fn settle(table: &GraphTable, hand: &mut Hand, tries: u32) -> Settled
     requires hand { IsHandOf table.now hand.old }
     requires closed { HasNoPass hand.old.token.view }
