@@ -16,7 +16,7 @@ use Rattle.epoch_limbo.specs.Passes.{IsOpened}
 use Rattle.epoch_limbo.specs.declared.advancing.Advanced.{Advanced}
 use Rattle.epoch_limbo.specs.declared.advancing.Advanced.TheVariants.{Held, Lost, Moved}
 use Rattle.graph_table.specs.Tokens.{IsOf, TableValue, TokenValue}
-use Rattle.graph_updates.specs.Ending.{HasBegun, HasGiven, IsEnding, IsFinished, IsGiving}
+use Rattle.graph_updates.specs.Ending.{GivesOldest, HasBegun, HasTidied, IsEnding, IsFinished, IsGiving}
 use Rattle.graph_updates.specs.Hands.{HandValue, IsHandOf, IsInOrder, IsRoomyLimbo}
 use Rattle.graph_updates.specs.Parts.{LeavesGraph, MakesOnly}
 use Rattle.graph_updates.proofs.GivingTells.{giving_leaves, giving_parts, giving_pass}
@@ -155,6 +155,30 @@ advances Moved v w z m = record {
 advances (Held caller) v w z m = advances_none v w z m.makes
 advances Lost v w z m = advances_none v w z m.makes
 
+-- moving the epoch on leaves a limbo
+pub advanced_limbo : (r : Advanced) (v w : View) (limbo : LimboValue) → IsLayout v.sizes → MatchAdvanced r v w
+    → IsRoomyLimbo limbo v → IsRoomyLimbo limbo w
+advanced_limbo r v w limbo z m = ((advances r v w z m).parts limbo).limbo
+
+pub advanced_number : (r : Advanced) (v w : View) (limbo : LimboValue) → IsLayout v.sizes → MatchAdvanced r v w
+    → v.numbered ≡ true → w.numbered ≡ true
+advanced_number r v w limbo z m = ((advances r v w z m).parts limbo).numbered
+
+pub advanced_pass : (r : Advanced) (v w : View) → IsLayout v.sizes → MatchAdvanced r v w → HasNoPass v → HasNoPass w
+advanced_pass r v w z m = (advances r v w z m).pass
+
+pub advanced_there : (r : Advanced) (v w : View) (limbo : LimboValue) → IsLayout v.sizes → MatchAdvanced r v w
+    → v.number < v.sizes.callers → w.number < w.sizes.callers
+advanced_there r v w limbo z m = ((advances r v w z m).parts limbo).there
+
+pub advanced_limit : (r : Advanced) (v w : View) → IsLayout v.sizes → MatchAdvanced r v w
+    → made moves v.number v.front + 1 < most_moves → made moves w.number w.front < most_moves
+advanced_limit r v w z m few =
+    let leaves = (advances r v w z m).leaves in
+    let n = makes_counts moves v w leaves.own leaves.makes in
+    let one = leaves.shifts in
+    omega (arith, n, one, few)
+
 -- giving back ends a call too
 ends_by : (v w : View) → MakesOnly IsGiving v w → MakesOnly IsEnding v w
 ends_by v w h = record {
@@ -180,6 +204,9 @@ module _ (g : TableValue) (old : HandValue) (t : TokenValue) (h : IsHandOf g old
 
   pub ending_there : t.view.number < t.view.sizes.callers
   ending_there = first_parts.there h.there
+
+  pub ending_limbo : IsRoomyLimbo old.limbo t.view
+  ending_limbo = first_parts.limbo h.limbo
 
   -- the hand retired no node
   module _ (none : old.retired ≡ false) where
@@ -209,8 +236,10 @@ module _ (g : TableValue) (old : HandValue) (t : TokenValue) (h : IsHandOf g old
       gone = [];
       limbo = refl;
       room = refl;
+      shut = t.view;
+      withdrew = makes;
       tidied = λ is. absurd (cc);
-      still = λ _. (refl, makes);
+      still = λ _. (refl, refl);
       spare = refl;
       uses = refl;
       retired = none;
@@ -218,74 +247,70 @@ module _ (g : TableValue) (old : HandValue) (t : TokenValue) (h : IsHandOf g old
     }
 
   -- it did: the epoch is moved on, and ripe nodes are given back
-  module _ (some : old.retired ≡ true) (r : Advanced) (m : TokenValue) (a : MatchAdvanced r t.view m.view) where
-    moved : Advances t.view m.view
-    moved = advances r t.view m.view (still_layout old.token.view t.view (withdraw_event old.token.view ∷ [])
-        h.of.layout makes) a
+  module _ (some : old.retired ≡ true) (limbo : LimboValue) (u : TokenValue)
+      (tidied : HasTidied old.limbo limbo t.view u.view) where
+    abbrev m : View
+    m = tidied.moved
 
-    second_parts : LeavesParts old.limbo old.limbo old.token.view m.view
-    second_parts = parts_chain old.limbo old.limbo old.limbo old.token.view t.view m.view first_parts
+    abbrev given : GivesOldest tidied.epoch old.limbo limbo m u.view
+    given = tidied.given.given
+
+    moved : Advances t.view m
+    moved = advances tidied.result t.view m (still_layout old.token.view t.view (withdraw_event old.token.view ∷ [])
+        h.of.layout makes) tidied.advanced
+
+    layout : IsLayout m.sizes
+    layout = still_layout t.view m moved.leaves.own (still_layout old.token.view t.view
+        (withdraw_event old.token.view ∷ []) h.of.layout makes) moved.leaves.makes
+
+    second_parts : LeavesParts old.limbo old.limbo old.token.view m
+    second_parts = parts_chain old.limbo old.limbo old.limbo old.token.view t.view m first_parts
         (moved.parts old.limbo)
 
-    pub moved_number : m.view.numbered ≡ true
-    moved_number = second_parts.numbered h.numbered
+    abbrev pub ended : HandValue
+    ended = record { token = u; limbo = limbo; spare = old.spare; uses = old.uses; retired = false }
 
-    pub moved_limbo : IsRoomyLimbo old.limbo m.view
-    moved_limbo = second_parts.limbo h.limbo
+    last_parts : LeavesParts old.limbo limbo old.token.view u.view
+    last_parts = parts_chain old.limbo old.limbo limbo old.token.view m u.view second_parts
+        (giving_parts m u.view layout given.only old.limbo limbo given.limbo given.all)
 
-    module _ (z : IsLayout m.view.sizes) (epoch : ℕ) (none : Bool) (limbo : LimboValue) (u : TokenValue)
-        (b : HasGiven epoch none old.limbo limbo m.view u.view) where
-      abbrev pub ended : HandValue
-      ended = record { token = u; limbo = limbo; spare = old.spare; uses = old.uses; retired = false }
+    pub ended_hand : IsOf g u → IsHandOf g ended
+    ended_hand = hand_goes g old ended h refl last_parts
 
-      last_parts : LeavesParts old.limbo limbo old.token.view u.view
-      last_parts = parts_chain old.limbo old.limbo limbo old.token.view m.view u.view second_parts
-          (giving_parts m.view u.view z b.given.only old.limbo limbo b.given.limbo b.given.all)
+    ended_leaves : LeavesGraph 0 1 old.token.view u.view
+    ended_leaves = leaves_chain 0 1 0 0 old.token.view m u.view
+        (leaves_chain 0 0 0 1 old.token.view t.view m
+        (closed_leaves old.token.view t.view h.of.layout makes) moved.leaves)
+        (giving_leaves m u.view layout given.only)
 
-      pub ended_hand : IsOf g u → IsHandOf g ended
-      ended_hand = hand_goes g old ended h refl last_parts
+    ended_closed : HasNoPass u.view
+    ended_closed = giving_pass m u.view layout given.only false (moved.pass closed)
 
-      ended_leaves : LeavesGraph 0 1 old.token.view u.view
-      ended_leaves = leaves_chain 0 1 0 0 old.token.view m.view u.view
-          (leaves_chain 0 0 0 1 old.token.view t.view m.view
-          (closed_leaves old.token.view t.view h.of.layout makes) moved.leaves)
-          (giving_leaves m.view u.view z b.given.only)
+    pub ended_order : IsInOrder old → IsInOrder ended
+    ended_order ord =
+        let one = due_open old.token.view pass in
+        let zero = due_closed u.view ended_closed in
+        let most = ord.uses in
+        order_goes old ended 0 1 h.of.layout ended_leaves (nodes_go g old ended h refl last_parts ord.nodes)
+        (omega arith) (omega (arith, one, zero)) most ord
 
-      ended_closed : HasNoPass u.view
-      ended_closed = giving_pass m.view u.view z b.given.only false (moved.pass closed)
-
-      pub ended_order : IsInOrder old → IsInOrder ended
-      ended_order ord =
-          let one = due_open old.token.view pass in
-          let zero = due_closed u.view ended_closed in
-          let most = ord.uses in
-          order_goes old ended 0 1 h.of.layout ended_leaves (nodes_go g old ended h refl last_parts ord.nodes)
-          (omega arith) (omega (arith, one, zero)) most ord
-
-      pub ended_finished : IsFinished old ended
-      ended_finished = record {
-        only = only_chain IsEnding old.token.view m.view u.view
-            (only_chain IsEnding old.token.view t.view m.view
-            (closed_only old.token.view t.view h.of.layout makes) moved.only)
-            (ends_by m.view u.view b.given.only);
-        stretch = ended_leaves;
-        closed = ended_closed;
-        gone = b.given.gone;
-        limbo = b.given.nodes;
-        room = b.given.room;
-        tidied = λ _. record {
-          closed = t.view;
-          withdrew = makes;
-          result = r;
-          moved = m.view;
-          advanced = a;
-          epoch = epoch;
-          none = none;
-          given = b;
-        };
-        still = λ is. absurd (cc);
-        spare = refl;
-        uses = refl;
-        retired = refl;
-        nodes = nodes_go g old ended h refl last_parts;
-      }
+    pub ended_finished : IsFinished old ended
+    ended_finished = record {
+      only = only_chain IsEnding old.token.view m u.view
+          (only_chain IsEnding old.token.view t.view m
+          (closed_only old.token.view t.view h.of.layout makes) moved.only)
+          (ends_by m u.view given.only);
+      stretch = ended_leaves;
+      closed = ended_closed;
+      gone = given.gone;
+      limbo = given.nodes;
+      room = given.room;
+      shut = t.view;
+      withdrew = makes;
+      tidied = λ _. tidied;
+      still = λ is. absurd (cc);
+      spare = refl;
+      uses = refl;
+      retired = refl;
+      nodes = nodes_go g old ended h refl last_parts;
+    }

@@ -31,16 +31,16 @@ use Rattle.epoch_limbo.specs.Passes.{EpochIs}
 use Rattle.epoch_limbo.specs.declared.advancing.Advanced.{Advanced}
 use Rattle.epoch_limbo.specs.declared.advancing.Advanced.TheVariants.{Held, Lost, Moved}
 use Rattle.graph_table.specs.Tokens.{IsOf, RipeValue, TableValue, TokenValue}
-use Rattle.graph_updates.specs.Ending.{HasGiven, HasSettled, IsFreeIn, IsGiving, IsRipeBy, IsSettledAt, LagsIn}
+use Rattle.graph_updates.specs.Ending.{HasGiven, HasMovedTwice, HasSettled, IsFreeIn, IsGiving, IsRipeBy, IsSettledAt, LagsIn}
 use Rattle.graph_updates.specs.Ending.{NoneLagged, WasFreed}
 use Rattle.graph_updates.specs.Hands.{HandValue, HasItsNodes, IsHandOf, IsInOrder, IsRoomyLimbo}
 use Rattle.graph_updates.specs.Parts.{Fell}
 use Rattle.graph_updates.proofs.BurialLists.{every_both, every_map}
 use Rattle.graph_updates.proofs.EndingTells.{Advances, advances}
 use Rattle.graph_updates.proofs.GivingTells.{giving_leaves, giving_parts, giving_pass}
-use Rattle.graph_updates.proofs.HandsStay.{LeavesParts, due_closed, hand_goes, limit_goes, nodes_go, order_goes}
+use Rattle.graph_updates.proofs.HandsStay.{LeavesParts, due_closed, hand_goes, nodes_go, order_goes}
 use Rattle.graph_updates.proofs.HandsStay.{parts_chain}
-use Rattle.graph_updates.proofs.PartsLeave.{leaves_chain, only_chain}
+use Rattle.graph_updates.proofs.PartsLeave.{leaves_chain, only_chain, still_layout}
 
 -- the front of a later view is kept by the sizes of an earlier one
 kept_later : (v w : View) (own : List Event) → Makes v own w → IsKept v.sizes w.front
@@ -141,82 +141,74 @@ pub record IsSettling (g : TableValue) (old now : HandValue) (lost : ℕ) : Type
       ≤ word_at old.token.view.sizes now.token.view.front (epoch_at old.token.view.sizes)
 
 -- the epoch is moved on twice
-module _ (g : TableValue) (old : HandValue) (h : IsHandOf g old) (closed : HasNoPass old.token.view) (r s : Advanced)
-    (t m : TokenValue) (a : MatchAdvanced r old.token.view t.view) (of : IsOf g t) where
-  first : Advances old.token.view t.view
-  first = advances r old.token.view t.view h.of.layout a
+pub twice_limit : (old : HandValue) → IsInOrder old
+    → made moves old.token.view.number old.token.view.front + 1 < most_moves
+twice_limit old ord = let moved = ord.moved in let uses = ord.uses in omega (arith, moved, uses)
 
-  pub first_closed : HasNoPass t.view
+module _ (g : TableValue) (old : HandValue) (h : IsHandOf g old) (closed : HasNoPass old.token.view) (m : TokenValue)
+    (both : HasMovedTwice old.token.view m.view) (last_of : IsOf g m) where
+  abbrev t : View
+  t = both.first
+
+  first : Advances old.token.view t
+  first = advances both.one old.token.view t h.of.layout both.once
+
+  first_closed : HasNoPass t
   first_closed = first.pass closed
 
-  pub first_number : t.view.numbered ≡ true
-  first_number = (first.parts old.limbo).numbered h.numbered
+  second : Advances t m.view
+  second = advances both.two t m.view (still_layout old.token.view t first.leaves.own h.of.layout first.leaves.makes)
+      both.twice
 
-  pub first_there : t.view.number < t.view.sizes.callers
-  first_there = (first.parts old.limbo).there h.there
+  abbrev pub settling : HandValue
+  settling = record { token = m; limbo = old.limbo; spare = old.spare; uses = old.uses + 1; retired = old.retired }
 
-  pub first_limit : IsInOrder old → made moves t.view.number t.view.front < most_moves
-  first_limit ord =
-      let one = first.leaves.shifts in
-      limit_goes old t.view first.leaves.own first.leaves.makes (omega (arith, one)) ord
+  both_parts : LeavesParts old.limbo old.limbo old.token.view m.view
+  both_parts = parts_chain old.limbo old.limbo old.limbo old.token.view t m.view (first.parts old.limbo)
+      (second.parts old.limbo)
 
-  module _ (b : MatchAdvanced s t.view m.view) (last_of : IsOf g m) where
-    second : Advances t.view m.view
-    second = advances s t.view m.view of.layout b
+  second_number : m.view.numbered ≡ true
+  second_number = both_parts.numbered h.numbered
 
-    abbrev pub settling : HandValue
-    settling = record { token = m; limbo = old.limbo; spare = old.spare; uses = old.uses + 1; retired = old.retired }
+  rises_twice : NoneLagged old.token.view.sizes old.token.view.number old.token.view.front m.view.front
+      → word_at old.token.view.sizes old.token.view.front (epoch_at old.token.view.sizes) + 2
+      ≤ word_at old.token.view.sizes m.view.front (epoch_at old.token.view.sizes)
+  rises_twice none =
+      let v = old.token.view in
+      let one = makes_later v t first.leaves.own first.leaves.makes in
+      let two = makes_later t m.view second.leaves.own second.leaves.makes in
+      let x = advance_rises both.one v t closed both.once
+      (λ at p q. none at p (prefix_trans at t.front m.view.front q two.grows)) in
+      let y = advance_rises both.two t m.view first_closed both.twice
+      (λ at p q i lag. none at (prefix_trans v.front t.front at one.grows p) q i
+      (subst (λ (z : Sizes). LagsIn z v.number i at) one.sizes
+      (subst (λ (n : ℕ). LagsIn t.sizes n i at) one.number lag))) in
+      let y_is : word_at v.sizes t.front (epoch_at v.sizes) + 1 ≤ word_at v.sizes m.view.front (epoch_at v.sizes)
+      = subst (λ (z : Sizes). word_at z t.front (epoch_at z) + 1 ≤ word_at z m.view.front (epoch_at z))
+      one.sizes y in
+      omega (arith, x, y_is)
 
-    both_parts : LeavesParts old.limbo old.limbo old.token.view m.view
-    both_parts = parts_chain old.limbo old.limbo old.limbo old.token.view t.view m.view (first.parts old.limbo)
-        (second.parts old.limbo)
-
-    second_number : m.view.numbered ≡ true
-    second_number = both_parts.numbered h.numbered
-
-    rises_twice : NoneLagged old.token.view.sizes old.token.view.number old.token.view.front m.view.front
-        → word_at old.token.view.sizes old.token.view.front (epoch_at old.token.view.sizes) + 2
-        ≤ word_at old.token.view.sizes m.view.front (epoch_at old.token.view.sizes)
-    rises_twice none =
-        let v = old.token.view in
-        let one = makes_later v t.view first.leaves.own first.leaves.makes in
-        let two = makes_later t.view m.view second.leaves.own second.leaves.makes in
-        let x = advance_rises r v t.view closed a
-        (λ at p q. none at p (prefix_trans at t.view.front m.view.front q two.grows)) in
-        let y = advance_rises s t.view m.view first_closed b
-        (λ at p q i lag. none at (prefix_trans v.front t.view.front at one.grows p) q i
-        (subst (λ (z : Sizes). LagsIn z v.number i at) one.sizes
-        (subst (λ (n : ℕ). LagsIn t.view.sizes n i at) one.number lag))) in
-        let y_is : word_at v.sizes t.view.front (epoch_at v.sizes) + 1 ≤ word_at v.sizes m.view.front (epoch_at v.sizes)
-        = subst (λ (z : Sizes). word_at z t.view.front (epoch_at z) + 1 ≤ word_at z m.view.front (epoch_at z))
-        one.sizes y in
-        omega (arith, x, y_is)
-
-    pub settling_begins : IsSettling g old settling 0
-    settling_begins = record {
-      hand = hand_goes g old settling h refl both_parts last_of;
-      nodes = nodes_go g old settling h refl both_parts;
-      settled = record {
-        stretch = leaves_chain 0 1 0 1 old.token.view t.view m.view first.leaves second.leaves;
-        one = r;
-        first = t.view;
-        once = a;
-        two = s;
-        moved = m.view;
-        twice = b;
-        gives = record { own = []; are = tt; makes = makes_self m.view second_number last_of.sound };
-        gone = [];
-        limbo = refl;
-        ripe = tt;
-        freed = tt;
-        room = refl;
-        spare = refl;
-        uses = refl;
-      };
-      closed = second.pass first_closed;
-      fell = record { least = omega arith };
-      epochs = rises_twice;
-    }
+  pub settling_begins : IsSettling g old settling 0
+  settling_begins = record {
+    hand = hand_goes g old settling h refl both_parts last_of;
+    nodes = nodes_go g old settling h refl both_parts;
+    settled = record {
+      stretch = leaves_chain 0 1 0 1 old.token.view t m.view first.leaves second.leaves;
+      moved = m.view;
+      moves = both;
+      gives = record { own = []; are = tt; makes = makes_self m.view second_number last_of.sound };
+      gone = [];
+      limbo = refl;
+      ripe = tt;
+      freed = tt;
+      room = refl;
+      spare = refl;
+      uses = refl;
+    };
+    closed = second.pass first_closed;
+    fell = record { least = omega arith };
+    epochs = rises_twice;
+  }
 
 -- ripe nodes are given back
 module _ (g : TableValue) (old now : HandValue) (lost : ℕ) (i : IsSettling g old now lost) (epoch : ℕ) (none : Bool)
@@ -301,12 +293,8 @@ module _ (g : TableValue) (old now : HandValue) (lost : ℕ) (i : IsSettling g o
   settled_goes = record {
     stretch = leaves_chain 0 2 0 0 old.token.view now.token.view u.view i.settled.stretch
         (giving_leaves now.token.view u.view i.hand.of.layout b.given.only);
-    one = i.settled.one;
-    first = i.settled.first;
-    once = i.settled.once;
-    two = i.settled.two;
     moved = moved;
-    twice = i.settled.twice;
+    moves = i.settled.moves;
     gives = only_chain IsGiving moved now.token.view u.view i.settled.gives b.given.only;
     gone = i.settled.gone ++ b.given.gone;
     limbo = i.settled.limbo ∙ (ap (λ (ns : List RipeValue). i.settled.gone ++ ns) b.given.nodes ∙ sym

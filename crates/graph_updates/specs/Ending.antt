@@ -94,20 +94,18 @@ pub record HasGiven (epoch : ℕ) (none : Bool) (old new : LimboValue) (v w : Vi
 abbrev pub IsEnding : Kind → Type 0
 IsEnding k = (k ≡ Withdraw) ⊎ ((k ≡ MoveEpoch) ⊎ IsGiving k)
 
--- after the pass was closed the epoch was moved on if that could be, and then each node that was ripe at an epoch
--- loaded after that was given back, or a foreign event fell
-pub record HasTidied (old new : HandValue) : Type 0 where
-  pub closed : View
-  pub withdrew : Makes old.token.view (withdraw_event old.token.view ∷ []) closed
+-- the epoch was moved on if that could be, and then each node that was ripe at an epoch loaded after that was given
+-- back, or a foreign event fell
+pub record HasTidied (old new : LimboValue) (v w : View) : Type 0 where
   pub result : Advanced
   pub moved : View
-  pub advanced : MatchAdvanced result closed moved
+  pub advanced : MatchAdvanced result v moved
   pub epoch : ℕ
   pub none : Bool
-  pub given : HasGiven epoch none old.limbo new.limbo moved new.token.view
+  pub given : HasGiven epoch none old new moved w
 
--- a call has ended: the pass is closed; and if the hand had retired a node it was tidied, else it made no other event
--- and its limbo is as it was
+-- a call has ended: the pass was closed; and then, if the hand had retired a node, it was tidied, and else nothing was
+-- done
 pub record IsFinished (old new : HandValue) : Type 0 where
   pub only : MakesOnly IsEnding old.token.view new.token.view
   pub stretch : LeavesGraph 0 1 old.token.view new.token.view
@@ -115,9 +113,10 @@ pub record IsFinished (old new : HandValue) : Type 0 where
   pub gone : List RipeValue
   pub limbo : old.limbo.nodes ≡ gone ++ new.limbo.nodes
   pub room : new.limbo.room ≡ old.limbo.room
-  pub tidied : old.retired ≡ true → HasTidied old new
-  pub still : old.retired ≡ false → (new.limbo ≡ old.limbo)
-      × Makes old.token.view (withdraw_event old.token.view ∷ []) new.token.view
+  pub shut : View
+  pub withdrew : Makes old.token.view (withdraw_event old.token.view ∷ []) shut
+  pub tidied : old.retired ≡ true → HasTidied old.limbo new.limbo shut new.token.view
+  pub still : old.retired ≡ false → (new.limbo ≡ old.limbo) × (new.token.view ≡ shut)
   pub spare : new.spare ≡ old.spare
   pub uses : new.uses ≡ old.uses
   pub retired : new.retired ≡ false
@@ -135,17 +134,21 @@ abbrev pub NoneLagged : Sizes → ℕ → (old new : List Event) → Type 0
 NoneLagged sizes caller old new = (at : List Event) → IsPrefix old at → IsPrefix at new → (i : ℕ)
     → LagsIn sizes caller i at → ⊥
 
+-- the epoch was moved on twice, each time if that could be
+pub record HasMovedTwice (v w : View) : Type 0 where
+  pub one : Advanced
+  pub first : View
+  pub once : MatchAdvanced one v first
+  pub two : Advanced
+  pub twice : MatchAdvanced two first w
+
 -- what settling leaves however it ends: the epoch was moved on twice if that could be, and then no own event fell but
 -- that nodes were given back, the oldest of the limbo: each was ripe by the epoch of the new front, and free at a moment
 -- since the moves
 pub record HasSettled (old new : HandValue) : Type 0 where
   pub stretch : LeavesGraph 0 2 old.token.view new.token.view
-  pub one : Advanced
-  pub first : View
-  pub once : MatchAdvanced one old.token.view first
-  pub two : Advanced
   pub moved : View
-  pub twice : MatchAdvanced two first moved
+  pub moves : HasMovedTwice old.token.view moved
   pub gives : MakesOnly IsGiving moved new.token.view
   pub gone : List RipeValue
   pub limbo : old.limbo.nodes ≡ gone ++ new.limbo.nodes

@@ -1,13 +1,13 @@
 //! A call begins and ends: its pass is opened and closed, and what is ripe is given back.
 
-ghost use Rattle.std.specs.Prelude.{◌≡◌, ◌<◌, true, false};
+ghost use Rattle.std.specs.Prelude.{◌≡◌, ◌+◌, ◌<◌, true, false};
 ghost use Rattle.core_journal.specs.Event.{moves};
 ghost use Rattle.core_kept.specs.Counts.{made, most_moves};
 ghost use Rattle.core_rule.specs.Retired.{IsShown};
 ghost use Rattle.core_rule.specs.Stretches.{HasPass};
 ghost use Rattle.core_stretches.specs.Holdings.{HasNoPass};
 ghost use Rattle.graph_table.specs.Tokens.{IsOf};
-ghost use Rattle.graph_updates.specs.Ending.{HasGiven, IsFinished, MatchBegun, MatchGift, MatchSettled};
+ghost use Rattle.graph_updates.specs.Ending.{HasGiven, HasMovedTwice, HasTidied, IsFinished, MatchBegun, MatchGift, MatchSettled};
 ghost use Rattle.graph_updates.specs.Hands.{IsHandOf, IsInOrder, IsRoomyLimbo};
 
 use crate::hand::Hand;
@@ -25,7 +25,8 @@ pub enum Begun {
     Worn,
 }
 
-/// What became of settling: the epoch that was loaded last, no try was left, or the hand has had all its uses.
+/// What became of settling: no node of the limbo is ripe at this epoch, no try was left, or the hand has had all its
+/// uses.
 #[derive(Clone, Copy, Debug, Drop, PartialEq, Eq)]
 pub enum Settled {
     Done(u64),
@@ -101,9 +102,28 @@ pub fn give_ripe(table: &GraphTable, token: &mut Token, limbo: &mut Limbo) -> (u
     }
 }
 
-/// Closes the pass. Where the hand retired a node since it began, the epoch is moved on once, if that can be, and ripe
-/// nodes are given back until none is or a give-back is lost. O(1), and O(callers + nodes given back) where it retired.
-/// The pass is open, and the token has moved the epoch fewer than 2^34 times.
+/// Moves the epoch on once, if that can be, and then gives back each node that is ripe at an epoch loaded after that,
+/// until none is or a give-back is lost: O(callers + nodes given back). The caller has no open pass, and has moved the
+/// epoch fewer than 2^34 times.
+#[tactic(auto, using(crate::proofs::EndingTells::advanced_limbo, crate::proofs::EndingTells::advanced_number))]
+fn tidy(table: &GraphTable, token: &mut Token, limbo: &mut Limbo)
+    requires table { IsOf table.now token.old }
+    requires number { token.old.view.numbered ≡ true }
+    requires there { token.old.view.number < token.old.view.sizes.callers }
+    requires closed { HasNoPass token.old.view }
+    requires limit { made moves token.old.view.number token.old.view.front < most_moves }
+    requires limbo { IsRoomyLimbo limbo.old token.old.view }
+    ensures table { IsOf table.now token.new }
+    ensures tidied { HasTidied limbo.old limbo.new token.old.view token.new.view }
+{
+    advance(table, token);
+    give_ripe(table, token, limbo);
+}
+
+/// Closes the pass. If the hand retired a node since it began, the epoch is then moved on once, if that can be, and nodes
+/// are given back, the oldest first, until none is ripe at an epoch loaded after that or a give-back is lost, which takes
+/// a foreign event; else nothing more is done. O(1), and O(callers + nodes given back) if it retired. The pass is open,
+/// and the token has moved the epoch fewer than 2^34 times.
 pub fn finish(table: &GraphTable, hand: &mut Hand)
     requires hand { IsHandOf table.now hand.old }
     requires pass { HasPass hand.old.token.view }
@@ -115,16 +135,32 @@ pub fn finish(table: &GraphTable, hand: &mut Hand)
     close_pass(table, &mut hand.token);
     if hand.retired {
         hand.retired = false;
-        advance(table, &mut hand.token);
-        give_ripe(table, &mut hand.token, &mut hand.limbo);
+        tidy(table, &mut hand.token, &mut hand.limbo);
     }
 }
 
-/// Moves the epoch on twice, where that can be, and gives back each ripe node: O(callers + nodes given back). `Done`
-/// tells the epoch that was loaded last; no node of the limbo is ripe at it. A lost give-back is a lost try, and starts
-/// giving back anew; `Again` comes where as many tries were lost as were given, each with a foreign event of its own.
-/// `Worn` comes exactly where the hand has had 4,294,967,296 uses; nothing is done then. It counts one use. The hand is
-/// in order and has no open pass.
+/// Moves the epoch on twice, each time if that can be: O(callers). The caller has no open pass, and has moved the epoch
+/// fewer than 2^34 - 1 times.
+#[tactic(auto, using(crate::proofs::EndingTells::advanced_limit, crate::proofs::EndingTells::advanced_number, crate::proofs::EndingTells::advanced_pass, crate::proofs::EndingTells::advanced_there,))]
+fn advance_twice(table: &GraphTable, token: &mut Token)
+    requires table { IsOf table.now token.old }
+    requires number { token.old.view.numbered ≡ true }
+    requires there { token.old.view.number < token.old.view.sizes.callers }
+    requires closed { HasNoPass token.old.view }
+    requires limit { made moves token.old.view.number token.old.view.front + 1 < most_moves }
+    ensures table { IsOf table.now token.new }
+    ensures twice { HasMovedTwice token.old.view token.new.view }
+{
+    let _first = advance(table, token);
+    let _second = advance(table, token);
+}
+
+/// Moves the epoch on twice, each time if that can be, and then gives back ripe nodes, the oldest first, and does nothing
+/// else: O(callers + nodes given back). `Done` tells an epoch that was loaded after the moves; no node of the limbo is
+/// ripe at it, and the limbo is empty if no other caller's pass lagged. A lost give-back is a lost try, and starts giving
+/// back anew; `Again` comes only if as many tries were lost as were given, each with a foreign event of its own after the
+/// moves. `Worn` comes exactly if the hand has had 4,294,967,296 uses; nothing is done then. It counts one use. The hand
+/// is in order and has no open pass.
 pub fn settle(table: &GraphTable, hand: &mut Hand, tries: u32) -> Settled
     requires hand { IsHandOf table.now hand.old }
     requires closed { HasNoPass hand.old.token.view }
@@ -139,8 +175,7 @@ pub fn settle(table: &GraphTable, hand: &mut Hand, tries: u32) -> Settled
         return Settled::Worn;
     }
     hand.uses += 1;
-    advance(table, &mut hand.token);
-    advance(table, &mut hand.token);
+    advance_twice(table, &mut hand.token);
     let mut lost = 0u32;
     loop {
         let (epoch, none_ripe) = give_ripe(table, &mut hand.token, &mut hand.limbo);

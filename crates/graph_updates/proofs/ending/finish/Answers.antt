@@ -5,12 +5,23 @@ use Rattle.core_rule.specs.Stretches.{HasPass}
 use Rattle.graph_updates.specs.Ending.{IsFinished}
 use Rattle.graph_updates.specs.Hands.{HandValue, IsHandOf, IsInOrder}
 use Rattle.graph_updates.specs.contracts.hand.Hand.{the_view}
-use Rattle.graph_updates.proofs.EndingTells.{at_rest, ended, ended_finished, ended_hand, ended_order, ending_limit}
-use Rattle.graph_updates.proofs.EndingTells.{moved_limbo, rest_finished, rest_hand, rest_order}
+use Rattle.graph_updates.proofs.EndingTells.{at_rest, ended, ended_finished, ended_hand, ended_order, ending_limbo}
+use Rattle.graph_updates.proofs.EndingTells.{ending_limit, ending_there, rest_finished, rest_hand, rest_order}
 use Rattle.graph_updates.proofs.ending.finish.Goals as goal
 
-pub advance-requires-clause-limit : goal.advance-requires-clause-limit
-advance-requires-clause-limit c =
+pub tidy-requires-clause-there : goal.tidy-requires-clause-there
+tidy-requires-clause-there c =
+    let g = c.args.table.now in
+    let old = the_view c.hand.inside in
+    let h = subst (λ (k : HandValue). IsHandOf g k) (sym c.hand.view_is) c.requires.hand in
+    let pass = subst (λ (k : HandValue). HasPass k.token.view) (sym c.hand.view_is) c.requires.pass in
+    let t = c.close_pass.new.token in
+    let makes = c.close_pass.ensures.makes in
+    let closed = c.close_pass.ensures.closed in
+    ending_there g old t h pass makes closed
+
+pub tidy-requires-clause-limit : goal.tidy-requires-clause-limit
+tidy-requires-clause-limit c =
     let g = c.args.table.now in
     let old = the_view c.hand.inside in
     let h = subst (λ (k : HandValue). IsHandOf g k) (sym c.hand.view_is) c.requires.hand in
@@ -22,8 +33,8 @@ advance-requires-clause-limit c =
     (subst (λ (k : HandValue). made moves k.token.view.number k.token.view.front < most_moves) (sym c.hand.view_is)
     c.requires.limit)
 
-pub give_ripe-requires-clause-limbo : goal.give_ripe-requires-clause-limbo
-give_ripe-requires-clause-limbo c =
+pub tidy-requires-clause-limbo : goal.tidy-requires-clause-limbo
+tidy-requires-clause-limbo c =
     let g = c.args.table.now in
     let old = the_view c.hand.inside in
     let h = subst (λ (k : HandValue). IsHandOf g k) (sym c.hand.view_is) c.requires.hand in
@@ -31,8 +42,7 @@ give_ripe-requires-clause-limbo c =
     let t = c.close_pass.new.token in
     let makes = c.close_pass.ensures.makes in
     let closed = c.close_pass.ensures.closed in
-    moved_limbo g old t h pass makes closed c.if-hand.true c.advance.result c.advance.new.token
-    c.advance.ensures.advanced
+    ending_limbo g old t h pass makes closed
 
 pub returns-then-hand-clause-hand : goal.returns-then-hand-clause-hand
 returns-then-hand-clause-hand c =
@@ -43,16 +53,10 @@ returns-then-hand-clause-hand c =
     let t = c.close_pass.new.token in
     let makes = c.close_pass.ensures.makes in
     let closed = c.close_pass.ensures.closed in
-    let m = c.advance.new.token in
-    let a = c.advance.ensures.advanced in
-    let z = c.advance.ensures.table.layout in
-    let limbo = c.give_ripe.new.limbo in
-    let u = c.give_ripe.new.token in
-    let b = c.give_ripe.ensures.given in
-    let none = c.give_ripe.result.1 in
-    let epoch = c.give_ripe.result.0 in
-    ended_hand g old t h pass makes closed c.if-hand.true c.advance.result m a z epoch none limbo u b
-    c.give_ripe.ensures.table
+    let limbo = c.tidy.new.limbo in
+    let u = c.tidy.new.token in
+    let tidied = c.tidy.ensures.tidied in
+    ended_hand g old t h pass makes closed c.if-hand.true limbo u tidied c.tidy.ensures.table
 
 pub returns-then-hand-clause-order : goal.returns-then-hand-clause-order
 returns-then-hand-clause-order c = λ ord.
@@ -63,16 +67,10 @@ returns-then-hand-clause-order c = λ ord.
     let t = c.close_pass.new.token in
     let makes = c.close_pass.ensures.makes in
     let closed = c.close_pass.ensures.closed in
-    let m = c.advance.new.token in
-    let a = c.advance.ensures.advanced in
-    let z = c.advance.ensures.table.layout in
-    let limbo = c.give_ripe.new.limbo in
-    let u = c.give_ripe.new.token in
-    let b = c.give_ripe.ensures.given in
-    let none = c.give_ripe.result.1 in
-    let epoch = c.give_ripe.result.0 in
-    ended_order g old t h pass makes closed c.if-hand.true c.advance.result m a z epoch none limbo u b
-    (subst IsInOrder (sym c.hand.view_is) ord)
+    let limbo = c.tidy.new.limbo in
+    let u = c.tidy.new.token in
+    let tidied = c.tidy.ensures.tidied in
+    ended_order g old t h pass makes closed c.if-hand.true limbo u tidied (subst IsInOrder (sym c.hand.view_is) ord)
 
 pub returns-then-hand-clause-finished : goal.returns-then-hand-clause-finished
 returns-then-hand-clause-finished c =
@@ -83,18 +81,12 @@ returns-then-hand-clause-finished c =
     let t = c.close_pass.new.token in
     let makes = c.close_pass.ensures.makes in
     let closed = c.close_pass.ensures.closed in
-    let m = c.advance.new.token in
-    let a = c.advance.ensures.advanced in
-    let z = c.advance.ensures.table.layout in
-    let limbo = c.give_ripe.new.limbo in
-    let u = c.give_ripe.new.token in
-    let b = c.give_ripe.ensures.given in
-    let none = c.give_ripe.result.1 in
-    let epoch = c.give_ripe.result.0 in
+    let limbo = c.tidy.new.limbo in
+    let u = c.tidy.new.token in
+    let tidied = c.tidy.ensures.tidied in
     let some = c.if-hand.true in
-    let r = c.advance.result in
-    subst (λ (k : HandValue). IsFinished k (ended g old t h pass makes closed some r m a z epoch none limbo u b))
-    c.hand.view_is (ended_finished g old t h pass makes closed some r m a z epoch none limbo u b)
+    subst (λ (k : HandValue). IsFinished k (ended g old t h pass makes closed some limbo u tidied)) c.hand.view_is
+    (ended_finished g old t h pass makes closed some limbo u tidied)
 
 pub returns-else-hand-clause-hand : goal.returns-else-hand-clause-hand
 returns-else-hand-clause-hand c =

@@ -3,34 +3,13 @@ use Rattle.core_stretches.specs.Holdings.{HasNoPass}
 use Rattle.graph_updates.specs.Hands.{HandValue, IsHandOf, IsInOrder}
 use Rattle.graph_updates.specs.Parts.{Fell}
 use Rattle.graph_updates.specs.contracts.hand.Hand.{the_view}
-use Rattle.graph_updates.proofs.SettlingTells.{IsSettling, first_closed, first_limit, gave_ripe, settled_at}
-use Rattle.graph_updates.proofs.SettlingTells.{settled_goes, settled_order, settling, settling_begins, settling_goes}
+use Rattle.graph_updates.proofs.SettlingTells.{IsSettling, gave_ripe, settled_at, settled_goes}
+use Rattle.graph_updates.proofs.SettlingTells.{settled_order, settling, settling_begins, settling_goes, twice_limit}
 use Rattle.graph_updates.proofs.ending.settle.Goals as goal
 
-pub advance-requires-2-clause-closed : goal.advance-requires-2-clause-closed
-advance-requires-2-clause-closed c =
-    let g = c.args.table.now in
-    let old = the_view c.hand.inside in
-    let h = subst (λ (k : HandValue). IsHandOf g k) (sym c.hand.view_is) c.requires.hand in
-    let closed = subst (λ (k : HandValue). HasNoPass k.token.view) (sym c.hand.view_is) c.requires.closed in
-    let r = c.advance.result in
-    let t = c.advance.new.token in
-    let a = c.advance.ensures.advanced in
-    let of = c.advance.ensures.table in
-    first_closed g old h closed r r t t a of
-
-pub advance-requires-2-clause-limit : goal.advance-requires-2-clause-limit
-advance-requires-2-clause-limit c =
-    let g = c.args.table.now in
-    let old = the_view c.hand.inside in
-    let h = subst (λ (k : HandValue). IsHandOf g k) (sym c.hand.view_is) c.requires.hand in
-    let closed = subst (λ (k : HandValue). HasNoPass k.token.view) (sym c.hand.view_is) c.requires.closed in
-    let r = c.advance.result in
-    let t = c.advance.new.token in
-    let a = c.advance.ensures.advanced in
-    let of = c.advance.ensures.table in
-    first_limit g old h closed r r t t a of
-    (subst IsInOrder (sym c.hand.view_is) c.requires.order)
+pub advance_twice-requires-clause-limit : goal.advance_twice-requires-clause-limit
+advance_twice-requires-clause-limit c =
+    twice_limit (the_view c.hand.inside) (subst IsInOrder (sym c.hand.view_is) c.requires.order)
 
 pub loop-hand-init : goal.loop-hand-init
 loop-hand-init c =
@@ -38,17 +17,12 @@ loop-hand-init c =
     let old = the_view c.hand.inside in
     let h = subst (λ (k : HandValue). IsHandOf g k) (sym c.hand.view_is) c.requires.hand in
     let closed = subst (λ (k : HandValue). HasNoPass k.token.view) (sym c.hand.view_is) c.requires.closed in
-    let r = c.advance.result in
-    let t = c.advance.new.token in
-    let a = c.advance.ensures.advanced in
-    let of = c.advance.ensures.table in
-    let s = c.advance-2.result in
-    let m = c.advance-2.new.token in
-    let b = c.advance-2.ensures.advanced in
-    let last = c.advance-2.ensures.table in
+    let m = c.advance_twice.new.token in
+    let both = c.advance_twice.ensures.twice in
+    let of = c.advance_twice.ensures.table in
     record {
-      settling = subst (λ (k : HandValue). IsSettling g k (settling g old h closed r s t m a of b last) 0)
-          c.hand.view_is (settling_begins g old h closed r s t m a of b last);
+      settling = subst (λ (k : HandValue). IsSettling g k (settling g old h closed m both of) 0) c.hand.view_is
+          (settling_begins g old h closed m both of);
       low = c.requires.some;
     }
 
