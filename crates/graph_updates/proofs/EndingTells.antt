@@ -1,6 +1,6 @@
 -- A call begins and ends: what opening and closing its pass, moving the epoch on and giving back leave of a hand.
-use Rattle.std.proofs.Common.{◌≡◌, ℕ, ◌+◌, ◌^◌, ◌<◌, true, false, [], ◌∷◌, refl, arith}
-use Rattle.std.proofs.Common.{Bool, inl, inr}
+use Rattle.std.proofs.Common.{◌≡◌, ◌+◌, ◌^◌, ◌<◌, true, false, [], ◌∷◌, refl, arith}
+use Rattle.std.proofs.Common.{inl, inr}
 use Rattle.packed_link.specs.Layout.{IsLayout}
 use Rattle.core_journal.specs.Event.{moves}
 use Rattle.core_kept.specs.Counts.{made, most_moves}

@@ -31,7 +31,8 @@ use Rattle.epoch_limbo.specs.Passes.{EpochIs}
 use Rattle.epoch_limbo.specs.declared.advancing.Advanced.{Advanced}
 use Rattle.epoch_limbo.specs.declared.advancing.Advanced.TheVariants.{Held, Lost, Moved}
 use Rattle.graph_table.specs.Tokens.{IsOf, RipeValue, TableValue, TokenValue}
-use Rattle.graph_updates.specs.Ending.{HasGiven, HasMovedTwice, HasSettled, IsFreeIn, IsGiving, IsRipeBy, IsSettledAt, LagsIn}
+use Rattle.graph_updates.specs.Ending.{HasGiven, HasMovedTwice, HasSettled, IsFreeIn, IsGiving, IsRipeBy, IsSettledAt}
+use Rattle.graph_updates.specs.Ending.{LagsIn}
 use Rattle.graph_updates.specs.Ending.{NoneLagged, WasFreed}
 use Rattle.graph_updates.specs.Hands.{HandValue, HasItsNodes, IsHandOf, IsInOrder, IsRoomyLimbo}
 use Rattle.graph_updates.specs.Parts.{Fell}

@@ -143,8 +143,8 @@ pub record HasMovedTwice (v w : View) : Type 0 where
   pub twice : MatchAdvanced two first w
 
 -- what settling leaves however it ends: the epoch was moved on twice if that could be, and then no own event fell but
--- that nodes were given back, the oldest of the limbo: each was ripe by the epoch of the new front, and free at a moment
--- since the moves
+-- that nodes were given back, the oldest of the limbo: each was ripe by the epoch of the new front, and free at a
+-- moment since the moves
 pub record HasSettled (old new : HandValue) : Type 0 where
   pub stretch : LeavesGraph 0 2 old.token.view new.token.view
   pub moved : View

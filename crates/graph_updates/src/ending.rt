@@ -7,7 +7,8 @@ ghost use Rattle.core_rule.specs.Retired.{IsShown};
 ghost use Rattle.core_rule.specs.Stretches.{HasPass};
 ghost use Rattle.core_stretches.specs.Holdings.{HasNoPass};
 ghost use Rattle.graph_table.specs.Tokens.{IsOf};
-ghost use Rattle.graph_updates.specs.Ending.{HasGiven, HasMovedTwice, HasTidied, IsFinished, MatchBegun, MatchGift, MatchSettled};
+ghost use Rattle.graph_updates.specs.Ending.{HasGiven, HasMovedTwice, HasTidied, IsFinished};
+ghost use Rattle.graph_updates.specs.Ending.{MatchBegun, MatchGift, MatchSettled};
 ghost use Rattle.graph_updates.specs.Hands.{IsHandOf, IsInOrder, IsRoomyLimbo};
 
 use crate::hand::Hand;
@@ -120,10 +121,10 @@ fn tidy(table: &GraphTable, token: &mut Token, limbo: &mut Limbo)
     give_ripe(table, token, limbo);
 }
 
-/// Closes the pass. If the hand retired a node since it began, the epoch is then moved on once, if that can be, and nodes
-/// are given back, the oldest first, until none is ripe at an epoch loaded after that or a give-back is lost, which takes
-/// a foreign event; else nothing more is done. O(1), and O(callers + nodes given back) if it retired. The pass is open,
-/// and the token has moved the epoch fewer than 2^34 times.
+/// Closes the pass. If the hand retired a node since it began, the epoch is then moved on once, if that can be, and
+/// nodes are given back, the oldest first, until none is ripe at an epoch loaded after that or a give-back is lost,
+/// which takes a foreign event; else nothing more is done. O(1), and O(callers + nodes given back) if it retired. The
+/// pass is open, and the token has moved the epoch fewer than 2^34 times.
 pub fn finish(table: &GraphTable, hand: &mut Hand)
     requires hand { IsHandOf table.now hand.old }
     requires pass { HasPass hand.old.token.view }
@@ -141,7 +142,6 @@ pub fn finish(table: &GraphTable, hand: &mut Hand)
 
 /// Moves the epoch on twice, each time if that can be: O(callers). The caller has no open pass, and has moved the epoch
 /// fewer than 2^34 - 1 times.
-#[tactic(auto, using(crate::proofs::EndingTells::advanced_limit, crate::proofs::EndingTells::advanced_number, crate::proofs::EndingTells::advanced_pass, crate::proofs::EndingTells::advanced_there,))]
 fn advance_twice(table: &GraphTable, token: &mut Token)
     requires table { IsOf table.now token.old }
     requires number { token.old.view.numbered ≡ true }
@@ -155,12 +155,12 @@ fn advance_twice(table: &GraphTable, token: &mut Token)
     let _second = advance(table, token);
 }
 
-/// Moves the epoch on twice, each time if that can be, and then gives back ripe nodes, the oldest first, and does nothing
-/// else: O(callers + nodes given back). `Done` tells an epoch that was loaded after the moves; no node of the limbo is
-/// ripe at it, and the limbo is empty if no other caller's pass lagged. A lost give-back is a lost try, and starts giving
-/// back anew; `Again` comes only if as many tries were lost as were given, each with a foreign event of its own after the
-/// moves. `Worn` comes exactly if the hand has had 4,294,967,296 uses; nothing is done then. It counts one use. The hand
-/// is in order and has no open pass.
+/// Moves the epoch on twice, each time if that can be, and then gives back ripe nodes, the oldest first, and does
+/// nothing else: O(callers + nodes given back). `Done` tells an epoch that was loaded after the moves; no node of the
+/// limbo is ripe at it, and the limbo is empty if no other caller's pass lagged. A lost give-back is a lost try, and
+/// starts giving back anew; `Again` comes only if as many tries were lost as were given, each with a foreign event of
+/// its own after the moves. `Worn` comes exactly if the hand has had 4,294,967,296 uses; nothing is done then. It
+/// counts one use. The hand is in order and has no open pass.
 pub fn settle(table: &GraphTable, hand: &mut Hand, tries: u32) -> Settled
     requires hand { IsHandOf table.now hand.old }
     requires closed { HasNoPass hand.old.token.view }
