@@ -223,7 +223,8 @@ pub record IsNearer (w : View) (p q : PositionValue) : Type 0 where
 pub goes_nearer : (v w : View) (p : PositionValue) (found link place : ℕ) (moment : List Event) → IsLayout v.sizes
     → IsLayout w.sizes → IsKept w.sizes w.front → IsPosition false v p → index_of p.word ≢ nowhere
     → IsSeen false v w p found link → mark_of link ≡ 0 → found < p.key → place ≡ link_at w.sizes (index_of p.word)
-    → moment ≡ w.front → IsNearer w p (record { key = p.key; place = place; word = link; link = p.link; moment = moment })
+    → moment ≡ w.front
+    → IsNearer w p (record { key = p.key; place = place; word = link; link = p.link; moment = moment })
 goes_nearer v w p found link place moment z z' kept h some s live below at same =
     let x = index_of p.word in
     let node : IsLoadedNode (IsInBucketOf p.key) x found link w =
