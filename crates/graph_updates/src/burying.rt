@@ -9,9 +9,8 @@ use epoch_limbo::Limbo;
 use graph_table::{GraphTable, Spent, Token};
 
 /// Closes the list of a vertex that the token unlinked, freezes it edge by edge, retires each edge as it's handed over,
-/// and then the vertex: O(1 + edges), a load, a step and a load for its stamp for each edge. Where every other node
-/// that the token spent is in the limbo, every one is then. The limbo has room for all nodes. The graph is left as it
-/// is.
+/// and then the vertex: O(1 + edges), two loads and a step for each edge. Where every other node that the token spent
+/// is in the limbo, every one is then. The limbo has room for all nodes. The graph is left as it is.
 pub fn bury(table: &GraphTable, token: &mut Token, limbo: &mut Limbo, spent: Spent)
     requires table { IsOf table.now token.old }
     requires number { token.old.view.numbered ≡ true }

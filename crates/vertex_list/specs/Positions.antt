@@ -10,8 +10,8 @@ use Rattle.core_rule.specs.Stretches.{Own, Elsewhere, HasPass}
 use Rattle.core_rule.specs.Views.{GoesOn}
 use Rattle.core_rule.specs.declared.view.View.{View}
 
--- a position: a key, the place of a word of the list, the word that was loaded there, the moment of that load, and the
--- link of the vertex to which the word leads, if it was found marked; a position that leads to none keeps any number
+-- a position: a key, the place of a word of the list, the word that was loaded there, the moment of that load, and a
+-- link: that of the vertex to which the word leads, if it was found marked, and else any number
 pub record PositionValue : Type 0 where
   pub key : ℕ
   pub place : ℕ

@@ -36,9 +36,9 @@ pub enum Marked {
     Was,
 }
 
-/// Unlinks the marked vertex to which a position leads, in O(1): one exchange on the word before it, to where the link
-/// leads that the position keeps. After `Done` the position has the word that the exchange wrote, and its moment is
-/// that of the exchange. `Lost` comes only where another caller changed the word since the position's load.
+/// Unlinks the marked vertex to which a position leads, in O(1): one exchange on the word before it, and no load, for
+/// the position keeps the vertex's link. After `Done` the position has the word that the exchange wrote, and its moment
+/// is that of the exchange. `Lost` comes only where another caller changed the word since the position's load.
 pub fn unlink(table: &GraphTable, token: &mut Token, position: Position) -> Unlinked
     requires table { IsOf table.now token.old }
     requires number { token.old.view.numbered ≡ true }
