@@ -1,3 +1,4 @@
 pub mod Asked
 pub mod Closed
+pub mod Gathered
 pub mod LookingOn

@@ -6,6 +6,7 @@
 
 mod caller;
 mod closing;
+mod gathering;
 mod graph;
 mod hands;
 mod opening;
