@@ -1,6 +1,6 @@
 -- Callers that look on, and what is known of the journal when the first of them has met all others.
-use Rattle.std.proofs.Common.{◌≡◌, ◌≢◌, ◌⊎◌, ℕ, zero, suc, ◌+◌, ◌<◌, ◌≤◌, List, ◌∷◌, [], length, get_or, set, map, inl, inr}
-use Rattle.std.proofs.Common.{get_or-set_same, get_or-set_other, refl, sym, ap₂, ◌∙◌, subst, arith, ⊎_elim}
+use Rattle.std.proofs.Common.{◌≡◌, ℕ, zero, suc, ◌+◌, ◌<◌, ◌≤◌, List, ◌∷◌, [], length, get_or, map, inl, inr}
+use Rattle.std.proofs.Common.{refl, sym, ap₂, ◌∙◌, subst, arith, ⊎_elim}
 use Rattle.std.proofs.lemmas.Bool.{cases_lt}
 use Rattle.graph_kinds.specs.History.{Every}
 use Rattle.core_journal.specs.declared.book.Book.{Book}
@@ -52,34 +52,6 @@ each_chain xs ys zs p q = record {
   each = λ i d low. looks_chain (get_or xs i d) (get_or ys i d) (get_or zs i d) (p.each i d low)
       (q.each i d (let n = p.count in omega (arith, low, n)));
 }
-
--- a number is one, or another one
-same_or : (i k : ℕ) → (k ≡ i) ⊎ (i ≢ k)
-same_or i k = ⊎_elim (λ (l : i < k). inr (λ e. omega (arith, e, l)))
-    (λ (high : k ≤ i). ⊎_elim (λ (l : k < i). inr (λ e. omega (arith, e, l)))
-    (λ (le : i ≤ k). inl (omega (arith, le, high))) (cases_lt k i)) (cases_lt i k)
-
--- one caller of a list looks on
-pub set_looks : (xs : List CallerValue) (k : ℕ) (a : CallerValue) → k < length xs
-    → ((d : CallerValue) → LooksOn (get_or xs k d) a) → length (set xs k a) ≡ length xs → LookOnEach xs (set xs k a)
-set_looks xs k a room look count = record {
-  count = count;
-  each = λ i d low. ⊎_elim
-      (λ (is : k ≡ i). subst (λ (j : ℕ). LooksOn (get_or xs j d) (get_or (set xs k a) j d)) is
-      (subst (λ (c : CallerValue). LooksOn (get_or xs k d) c) (sym (get_or-set_same xs k a d room)) (look d)))
-      (λ (other : i ≢ k). subst (λ (c : CallerValue). LooksOn (get_or xs i d) c)
-      (sym (get_or-set_other xs k i a d other)) (looks_self (get_or xs i d)))
-      (same_or i k);
-}
-
-pub set_callers : (g : TableValue) (xs : List CallerValue) (k : ℕ) (a : CallerValue) → k < length xs
-    → length (set xs k a) ≡ length xs → IsCallerOf g a → AreCallersOf g xs → AreCallersOf g (set xs k a)
-set_callers g xs k a room count home all = λ i d low. ⊎_elim
-    (λ (is : k ≡ i). subst (λ (j : ℕ). IsCallerOf g (get_or (set xs k a) j d)) is
-    (subst (λ (c : CallerValue). IsCallerOf g c) (sym (get_or-set_same xs k a d room)) home))
-    (λ (other : i ≢ k). subst (λ (c : CallerValue). IsCallerOf g c) (sym (get_or-set_other xs k i a d other))
-    (all i d (omega (arith, low, count))))
-    (same_or i k)
 
 -- a caller that is yet to look on was before as it is
 pub between_more : (xs ys : List CallerValue) (n : ℕ)
@@ -133,7 +105,7 @@ has_still number (a ∷ xs) (b ∷ ys) l h = ⊎_elim
     (λ (e : a.hand.token.view.number ≡ number). inl ((l.each 0 a (omega arith)).number ∙ e))
     (λ (k : HasCaller xs number). inr (has_still number xs ys (rest_looks a b xs ys l) k)) h
 
-every_home : (g : TableValue) (cs : List CallerValue) → AreCallersOf g cs → Every (IsCallerOf g) cs
+pub every_home : (g : TableValue) (cs : List CallerValue) → AreCallersOf g cs → Every (IsCallerOf g) cs
 every_home g [] h = tt
 every_home g (c ∷ cs) h = (h 0 c (omega arith), every_home g cs (λ i d low. h (suc i) d (omega (arith, low))))
 

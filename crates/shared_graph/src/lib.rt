@@ -9,10 +9,15 @@ mod closing;
 mod gathering;
 mod graph;
 mod hands;
+mod laws;
 mod opening;
 mod port;
 
 pub use caller::Caller;
 pub use graph::{Note, SharedGraph};
 pub use graph_updates::Settled;
+pub use laws::callers_by_number_are_all;
 pub use port::GraphPort;
+
+#[cfg(test)]
+mod tests;
