@@ -1,3 +1,5 @@
 pub mod Asked
 pub mod Closed
+pub mod Gathered
 pub mod LookingOn
+pub mod Numbered

@@ -1,4 +1,5 @@
 pub mod Callers
+pub mod Gathering
 pub mod Hiring
 pub mod Joining
 pub mod Looking

@@ -39,6 +39,13 @@ impl Caller {
         self.hand.uses()
     }
 
+    // Outside its calls a caller is between two calls: for contracts alone.
+    pub(crate) fn rests(&self)
+        ensures { IsBetweenCalls self.now.hand }
+    {
+        let _hand = &self.hand;
+    }
+
     /// Gives the caller's token up, in O(1): the caller was between two calls.
     pub(crate) fn into_token(self) -> Token
         ensures token { result ≡ self.hand.token }

@@ -6,8 +6,10 @@
 
 mod caller;
 mod closing;
+mod gathering;
 mod graph;
 mod hands;
+mod laws;
 mod opening;
 mod port;
 mod port_calls;
@@ -15,4 +17,8 @@ mod port_calls;
 pub use caller::Caller;
 pub use graph::{Note, SharedGraph};
 pub use graph_updates::Settled;
+pub use laws::callers_by_number_are_all;
 pub use port::GraphPort;
+
+#[cfg(test)]
+mod tests;

@@ -1,0 +1,40 @@
+//! The callers of a graph meet before it ends.
+
+ghost use Rattle.std.specs.Prelude.{◌≡◌, ◌≢◌, ◌<◌, ℕ, length, slice_index_or};
+ghost use Rattle.shared_graph.specs.Callers.{CallerValue, IsBetweenCalls};
+ghost use Rattle.shared_graph.specs.Gathering.{AreBetweenCalls, AreCallersOf, HasMet, LookOnEach};
+
+use crate::caller::Caller;
+use crate::graph::SharedGraph;
+
+impl SharedGraph {
+    /// The first caller meets what each has seen, in O(callers).
+    pub fn gather(&self, callers: &mut [Caller])
+        requires some { 0 < length callers.old }
+        requires callers { AreCallersOf self.now callers.old }
+        ensures callers { AreCallersOf self.now callers.new }
+        ensures between { AreBetweenCalls callers.old }
+        ensures looks { LookOnEach callers.old callers.new }
+        ensures met { (i : ℕ) → i < length callers.old → HasMet callers.old callers.new i }
+    {
+        for number in 0..callers.len() {
+            self.gather_one(callers, number);
+        }
+    }
+
+    // The first caller meets what one has seen.
+    fn gather_one(&self, callers: &mut [Caller], number: usize)
+        requires there { number < length callers.old }
+        requires callers { AreCallersOf self.now callers.old }
+        ensures callers { AreCallersOf self.now callers.new }
+        ensures between { (d : CallerValue) → IsBetweenCalls (slice_index_or callers.old number d).hand }
+        ensures looks { LookOnEach callers.old callers.new }
+        ensures met { HasMet callers.old callers.new number }
+        ensures others { (i : ℕ) (d : CallerValue) → 0 < i → i ≢ number
+            → slice_index_or callers.new i d ≡ slice_index_or callers.old i d }
+    {
+        callers[number].rests();
+        let note = self.note(&mut callers[number]);
+        self.meet(&mut callers[0], note);
+    }
+}
