@@ -1,0 +1,6 @@
+//! The shared graph.
+#![tactic(auto)]
+
+mod reading;
+
+pub use reading::read;
