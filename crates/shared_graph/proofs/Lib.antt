@@ -1,5 +1,12 @@
 pub mod Asked
 pub mod Closed
+pub mod Elements
 pub mod Gathered
+pub mod GraphRead
 pub mod LookingOn
 pub mod Numbered
+pub mod Puts
+pub mod ReadLives
+pub mod Rests
+pub mod Ways
+pub mod WaysOfTable

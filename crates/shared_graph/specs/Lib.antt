@@ -5,3 +5,4 @@ pub mod Joining
 pub mod Looking
 pub mod Performing
 pub mod Ports
+pub mod Reading

@@ -13,6 +13,7 @@ mod laws;
 mod opening;
 mod port;
 mod port_calls;
+mod reading;
 
 pub use caller::Caller;
 pub use graph::{Note, SharedGraph};
