@@ -7,7 +7,8 @@ use Rattle.std.proofs.lemmas.Map.Steps.{length-le_from_distinct_below}
 use mathlib.Core.Logic.{dite}
 use native.Mathlib.Decide.{ℕ_discrete}
 use Rattle.graph_kinds.specs.History.{Every}
-use Rattle.core_epoch.proofs.Lists.{contains_none, contains_cases, contains_first, contains_later, once_first, once_rest}
+use Rattle.core_epoch.proofs.Lists.{contains_none, contains_cases, contains_first, contains_later, once_first}
+use Rattle.core_epoch.proofs.Lists.{once_rest}
 
 module _ {A : Type 0} where
   -- y is an element
@@ -26,7 +27,8 @@ module _ {A : Type 0} where
   pub in_parts : (xs ys : List A) (y : A) → IsIn (xs ++ ys) y → IsIn xs y ⊎ IsIn ys y
   in_parts [] ys y h = inr h
   in_parts (x ∷ xs) ys y h = ⊎_elim (λ (e : x ≡ y). inl (inl e))
-      (λ (t : IsIn (xs ++ ys) y). ⊎_elim (λ (l : IsIn xs y). inl (inr l)) (λ (r : IsIn ys y). inr r) (in_parts xs ys y t)) h
+      (λ (t : IsIn (xs ++ ys) y). ⊎_elim (λ (l : IsIn xs y). inl (inr l)) (λ (r : IsIn ys y). inr r)
+      (in_parts xs ys y t)) h
 
   -- a fact of all elements
   pub each_in : (P : A → Type 0) (xs : List A) → ((x : A) → IsIn xs x → P x) → Every P xs

@@ -1,6 +1,7 @@
 -- A graph that is built by putting in what was read.
 use Rattle.std.proofs.Common.{◌≡◌, ℕ, ◌+◌, ◌<◌, ◌≤◌, Bool, true, false, cond, ◌&&◌, ◌||◌, ◌==◌, List, [], ◌∷◌}
-use Rattle.std.proofs.Common.{Option, Some, None, length, refl, sym, ap, ap₂, ◌∙◌, subst, arith, inl, inr, ⊎_elim, eqb-true}
+use Rattle.std.proofs.Common.{Option, Some, None, length, refl, sym, ap, ap₂, ◌∙◌, subst, arith, inl, inr, ⊎_elim}
+use Rattle.std.proofs.Common.{eqb-true}
 use Rattle.std.proofs.Common.{eq-eqb, true≢false, drop, get_or}
 use Rattle.std.specs.Prelude.{nat_lt}
 use Rattle.std.specs.Cmp.{nat_cmp_total}
@@ -95,7 +96,8 @@ keys_put : (g : Graph) (vs : List ReadVertex) (v : ReadVertex) → IsIn vs v →
 keys_put g [] v h = absurd h
 keys_put g (u ∷ vs) v h = ⊎_elim
     (λ (e : u ≡ v). keys_stay (change g (AddVertex u.key)) vs v.key
-    (has_put g.keys u.key v.key ∙ ap (λ b. b || has g v.key) (eq-eqb v.key u.key (ap (λ (x : ReadVertex). x.key) (sym e)))))
+    (has_put g.keys u.key v.key ∙ ap (λ b. b || has g v.key) (eq-eqb v.key u.key (ap (λ (x : ReadVertex). x.key)
+    (sym e)))))
     (λ (t : IsIn vs v). keys_put (change g (AddVertex u.key)) vs v t) h
 
 module _ (G : Graph) where
@@ -141,7 +143,8 @@ module _ (G : Graph) where
       → ((e : ReadEdge) → IsIn es e → weight_of G e.from e.to ≡ Some e.weight) → (a b w : ℕ)
       → weight_of G a b ≡ Some w → weight_of g a b ≡ Some w → weight_of (with_fitting_edges g es) a b ≡ Some w
   weights_stay g [] all a b w is h = h
-  weights_stay g (e ∷ es) all a b w is h = weights_stay (cond (edge_fits g e) (change g (AddEdge e.from e.to e.weight)) g) es
+  weights_stay g (e ∷ es) all a b w is h = weights_stay (cond (edge_fits g e) (change g
+      (AddEdge e.from e.to e.weight)) g) es
       (λ d t. all d (inr t)) a b w is (by (edge_fits g e))
     where
       same : (t : Bool) → ((a == e.from) && (b == e.to)) ≡ t → cond t (Some e.weight) (weight_of g a b) ≡ Some w
@@ -178,14 +181,16 @@ module _ (G : Graph) where
         put : (b c w : ℕ) → ((b == b) && (c == c)) ≡ true
         put b c w = and_from (b == b) (c == c) (eq-eqb b b refl) (eq-eqb c c refl)
 
-        now : d ≡ e → weight_of (cond (edge_fits g d) (change g (AddEdge d.from d.to d.weight)) g) e.from e.to ≡ Some e.weight
+        now : d ≡ e → weight_of (cond (edge_fits g d) (change g
+            (AddEdge d.from d.to d.weight)) g) e.from e.to ≡ Some e.weight
         now s =
             let here : weight_of (change g (AddEdge d.from d.to d.weight)) d.from d.to ≡ Some d.weight =
             weight_put g.pairs d.from d.to d.weight d.from d.to
             ∙ ap (λ t. cond t (Some d.weight) (weight_of g d.from d.to)) (put d.from d.to d.weight) in
             ap (λ t. weight_of (cond t (change g (AddEdge d.from d.to d.weight)) g) e.from e.to)
             (fits_there g keys d (all d (inl refl)))
-            ∙ subst (λ (x : ReadEdge). weight_of (change g (AddEdge d.from d.to d.weight)) x.from x.to ≡ Some x.weight) s here
+            ∙ subst (λ (x : ReadEdge). weight_of (change g (AddEdge d.from d.to d.weight)) x.from x.to ≡ Some
+            x.weight) s here
 
     -- where the vertices are the keys of a graph and the edges its pairs, that graph is built
     pub built : (vs : List ReadVertex) (es : List ReadEdge)
@@ -196,7 +201,8 @@ module _ (G : Graph) where
         → with_fitting_edges (with_vertices empty_graph vs) es ≡ G
     built vs es keys all_keys pairs all_pairs = same_graph (with_fitting_edges (with_vertices empty_graph vs) es) G
         (λ k. ap (λ ks. set.contains ks k) (edges_keys (with_vertices empty_graph vs) es) ∙ has_same k)
-        (λ a b. weight_same a b (weight_of G a b) refl (weight_of (with_fitting_edges (with_vertices empty_graph vs) es) a b) refl)
+        (λ a b. weight_same a b (weight_of G a b) refl (weight_of (with_fitting_edges
+        (with_vertices empty_graph vs) es) a b) refl)
       where
         same_bool : (x y : Bool) → (x ≡ true → y ≡ true) → (y ≡ true → x ≡ true) → x ≡ y
         same_bool true y f h = sym (f refl)
@@ -204,11 +210,14 @@ module _ (G : Graph) where
         same_bool false false f h = refl
 
         has_same : (k : ℕ) → has (with_vertices empty_graph vs) k ≡ has G k
-        has_same k = same_bool (has (with_vertices empty_graph vs) k) (has G k) (keys_only empty_graph vs keys (λ q h. absurd (true≢false (sym h ∙ set.contains-empty nat_cmp q))) k)
-            (λ h. let v = all_keys k h in subst (λ q. has (with_vertices empty_graph vs) q ≡ true) v.2 (keys_put empty_graph vs v.0 v.1))
+        has_same k = same_bool (has (with_vertices empty_graph vs) k) (has G k) (keys_only empty_graph vs keys
+            (λ q h. absurd (true≢false (sym h ∙ set.contains-empty nat_cmp q))) k)
+            (λ h. let v = all_keys k h in subst (λ q. has (with_vertices empty_graph vs) q ≡ true) v.2
+            (keys_put empty_graph vs v.0 v.1))
 
         weight_same : (a b : ℕ) (o : Option ℕ) → weight_of G a b ≡ o → (q : Option ℕ)
-            → weight_of (with_fitting_edges (with_vertices empty_graph vs) es) a b ≡ q → weight_of (with_fitting_edges (with_vertices empty_graph vs) es) a b ≡ weight_of G a b
+            → weight_of (with_fitting_edges (with_vertices empty_graph vs) es) a b ≡ q
+            → weight_of (with_fitting_edges (with_vertices empty_graph vs) es) a b ≡ weight_of G a b
         weight_same a b (Some w) is q own = weights_put (with_vertices empty_graph vs) es has_same pairs
             (record { from = a; to = b; weight = w }) (all_pairs a b w is) ∙ sym is
         weight_same a b None is None own = own ∙ sym is
@@ -217,6 +226,7 @@ module _ (G : Graph) where
             absurd (cc)
           where
             none : (x y n : ℕ) → weight_of (with_vertices empty_graph vs) x y ≡ Some n → ⊥
-            none x y n h = let p : weight_of (with_vertices empty_graph vs) x y ≡ None = ap (λ m. map.get m (x, y)) (vertices_pairs empty_graph vs)
+            none x y n h = let p : weight_of (with_vertices empty_graph vs) x y ≡ None = ap (λ m. map.get m (x, y))
+                (vertices_pairs empty_graph vs)
                 ∙ map.get-empty pair_cmp (x, y) in
                 absurd (cc)

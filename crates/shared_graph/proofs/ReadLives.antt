@@ -1,4 +1,5 @@
--- What is read from the words of a kept journal: exactly the keys and the pairs of its graph, from no more nodes than the
+-- What is read from the words of a kept journal: exactly the keys and the pairs of its graph, from no more nodes than
+-- the
 -- table has.
 use Rattle.std.proofs.Common.{◌≡◌, ◌≢◌, ℕ, ◌+◌, ◌<◌, ◌≤◌, ◌%◌, ◌^◌, Bool, true, false, cond, not, ◌&&◌, ◌||◌}
 use Rattle.std.proofs.Common.{◌==◌, List, [], ◌∷◌, ◌++◌, Some, length, refl, sym, ap, ap₂, ◌∙◌, subst, arith}
@@ -97,7 +98,8 @@ module _ (sizes : Sizes) (z : IsLayout sizes) (journal : List Event) (kept : IsK
   bucket_low j x low h = linked_there x (on_bucket j x low h).linked
 
   -- what is met on the list of a linked vertex
-  pub list_met : (x : ℕ) → x < sizes.nodes → IsLinkedVertex sizes journal x → IsMet (edge_chain sizes journal x) (s.edges x)
+  pub list_met : (x : ℕ) → x < sizes.nodes → IsLinkedVertex sizes journal x
+      → IsMet (edge_chain sizes journal x) (s.edges x)
   list_met x there l = (edge_lists sizes z journal kept).each x record {
     there = there;
     used = subst IsUsed (sym l.linked) tt;
@@ -189,7 +191,8 @@ module _ (sizes : Sizes) (z : IsLayout sizes) (journal : List Event) (kept : IsK
       in_flat (vertex_read sizes journal) (chain_nodes sizes journal) x.index
       (record { index = x.index; key = k })
       (in_flat s.bucket (range_with_len 0 sizes.buckets) j x.index
-      (in_contains (range_with_len 0 sizes.buckets) j (range_contains 0 sizes.buckets j (omega arith) (omega (arith, low))))
+      (in_contains (range_with_len 0 sizes.buckets) j (range_contains 0 sizes.buckets j (omega arith) (omega
+      (arith, low))))
       (in_contains (s.bucket j) x.index (((bucket_met j low).exactly x.index).0 on)))
       (there_vertex x k h)
 
@@ -235,7 +238,8 @@ module _ (sizes : Sizes) (z : IsLayout sizes) (journal : List Event) (kept : IsK
       }
 
   -- a word names a life that is present
-  names_there : (word : ℕ) (x : Life) (k : ℕ) → index_of word ≡ x.index → tag_of word ≡ x.tag → key_of journal x ≡ Some k
+  names_there : (word : ℕ) (x : Life) (k : ℕ) → index_of word ≡ x.index → tag_of word ≡ x.tag
+      → key_of journal x ≡ Some k
       → names_present sizes journal word ≡ true → present_key journal x ≡ Some k
   names_there word x k index tag key h =
       let p = and_parts (nat_lt (index_of word) sizes.nodes)
@@ -243,7 +247,8 @@ module _ (sizes : Sizes) (z : IsLayout sizes) (journal : List Event) (kept : IsK
       && (mark_of (w (link_at sizes (index_of word))) == 0)) h in
       let q = and_parts (tag_of (w (link_at sizes (index_of word))) == tag_of word)
       (mark_of (w (link_at sizes (index_of word))) == 0) p.1 in
-      let place : w (link_at sizes x.index) ≡ w (link_at sizes (index_of word)) = ap (λ i. w (link_at sizes i)) (sym index) in
+      let place : w (link_at sizes x.index) ≡ w (link_at sizes (index_of word)) = ap (λ i. w (link_at sizes i))
+      (sym index) in
       alive sizes z journal kept x k key
       (ap tag_of place ∙ (eqb-true (tag_of (w (link_at sizes (index_of word)))) (tag_of word) q.0 ∙ tag))
       (ap mark_of place ∙ eqb-true (mark_of (w (link_at sizes (index_of word)))) 0 q.1)
@@ -407,7 +412,8 @@ module _ (sizes : Sizes) (z : IsLayout sizes) (journal : List Event) (kept : IsK
       apart x y h g e =
           let v = (in_buckets x h).vertex in
           let c = from_list y g in
-          let d = ((listing sizes z journal kept).on c.of.index y (stands_contained (s.edges c.of.index) y c.gives)).edge in
+          let d = ((listing sizes z journal kept).on c.of.index y (stands_contained
+          (s.edges c.of.index) y c.gives)).edge in
           true≢false (sym v ∙ (ap (λ i. (s.node i).vertex) e ∙ d))
 
   -- the vertices that are read are linked vertices of the table

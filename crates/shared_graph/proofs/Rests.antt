@@ -46,7 +46,8 @@ pub loaded_word : (g : TableValue) (begun t u : TokenValue) (place found : ℕ) 
     → Looked t.view place found u.view
     → AtRest begun t u (found ≡ word_at g.sizes begun.view.front place)
 loaded_word g begun t u place found r l still = (
-  between_same begun.view.front t.view.front u.view.front (makes_later begun.view t.view [] r.makes).grows l.grows still,
+  between_same begun.view.front t.view.front u.view.front (makes_later begun.view t.view [] r.makes).grows l.grows
+      still,
   l.word ∙ ap₂ (λ (z : Sizes) (f : List Event). word_at z f place) r.of.sizes still,
 )
 

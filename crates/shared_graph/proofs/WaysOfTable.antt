@@ -22,7 +22,8 @@ use Rattle.shared_graph.proofs.Ways.{HasRead, IsOnWay, flat_flat, none_read, one
 use Rattle.shared_graph.proofs.Ways.{way_ends, way_goes, way_is_over, way_starts}
 
 -- a fact of all elements is one of each
-pub each_at : {A : Type 0} (P : A → Type 0) (xs : List A) (i : ℕ) (d : A) → i < length xs → Every P xs → P (get_or xs i d)
+pub each_at : {A : Type 0} (P : A → Type 0) (xs : List A) (i : ℕ) (d : A) → i < length xs → Every P xs
+    → P (get_or xs i d)
 each_at P [] i d low all = absurd (omega (arith, low))
 each_at P (x ∷ xs) zero d low all = all.0
 each_at P (x ∷ xs) (suc i) d low all = each_at P xs i d (omega (arith, low)) all.1
@@ -43,7 +44,8 @@ module _ (g : TableValue) (begun : TokenValue) where
       before now word left rest
 
   -- a walk begins
-  pub bucket_starts : (t u : TokenValue) (bucket place word left : ℕ) (before : List ReadVertex) → bucket < g.sizes.buckets
+  pub bucket_starts : (t u : TokenValue) (bucket place word left : ℕ) (before : List ReadVertex)
+      → bucket < g.sizes.buckets
       → place ≡ bucket_at g.sizes bucket → IsReading g begun u → AtRest begun t u (word ≡ w place)
       → AtRest begun t u (BucketWay bucket before before word left left)
   bucket_starts t u bucket place word left before low is r told still =
@@ -66,13 +68,15 @@ module _ (g : TableValue) (begun : TokenValue) where
       let kept = read_kept g begun u r still in (
         d.0,
         λ linked. way_starts (edge_chain g.sizes begun.view.front vertex.index)
-            ((state g.sizes begun.view.front).edges vertex.index) (edge_read g.sizes begun.view.front vertex.key) before word
+            ((state g.sizes begun.view.front).edges vertex.index)
+            (edge_read g.sizes begun.view.front vertex.key) before word
             left (list_met g.sizes (read_layout g begun u r) begun.view.front kept vertex.index low linked).met
             (ap index_of (d.1 ∙ ap w is)),
       )
 
   -- it goes on by a node
-  pub bucket_goes : (t u v : TokenValue) (bucket word word' left rest rest' index : ℕ) (before now now' : List ReadVertex)
+  pub bucket_goes : (t u v : TokenValue) (bucket word word' left rest rest' index : ℕ)
+      (before now now' : List ReadVertex)
       → index < g.sizes.nodes → index ≡ index_of word → rest ≡ rest' + 1 → IsReading g begun v
       → AtRest begun t u (BucketWay bucket before now word left rest)
       → AtRest begun u v ((word' ≡ w (link_at g.sizes index))
@@ -102,8 +106,10 @@ module _ (g : TableValue) (begun : TokenValue) where
       let z = read_layout g begun v r in (
         o.0,
         λ linked. way_goes (edge_chain g.sizes begun.view.front vertex.index)
-            ((state g.sizes begun.view.front).edges vertex.index) (edge_read g.sizes begun.view.front vertex.key) before now now'
-            word word' left rest rest' index g.sizes.nodes (omega (arith, z.few_nodes)) low is (ap index_of d.1.0) d.1.1 one
+            ((state g.sizes begun.view.front).edges vertex.index)
+            (edge_read g.sizes begun.view.front vertex.key) before now now'
+            word word' left rest rest' index g.sizes.nodes (omega (arith, z.few_nodes)) low is
+            (ap index_of d.1.0) d.1.1 one
             (o.1 linked),
       )
 
@@ -113,7 +119,8 @@ module _ (g : TableValue) (begun : TokenValue) where
       → AtRest begun t u (BucketWay bucket before now word left rest)
       → AtRest begun t u (length ((state g.sizes begun.view.front).bucket bucket) ≤ left
       → (rest + length ((state g.sizes begun.view.front).bucket bucket) ≡ left)
-      × (now ≡ before ++ flat_map (vertex_read g.sizes begun.view.front) ((state g.sizes begun.view.front).bucket bucket)))
+      × (now ≡ before ++ flat_map (vertex_read g.sizes begun.view.front)
+      ((state g.sizes begun.view.front).bucket bucket)))
   bucket_ends t u bucket word left rest index before now low high is r old still =
       let o = old still in
       let kept = read_kept g begun u r still in
@@ -126,13 +133,15 @@ module _ (g : TableValue) (begun : TokenValue) where
       → AtRest begun t u (BucketWay bucket before now word left rest)
       → AtRest begun t u (length ((state g.sizes begun.view.front).bucket bucket) ≤ left
       → (rest + length ((state g.sizes begun.view.front).bucket bucket) ≡ left)
-      × (now ≡ before ++ flat_map (vertex_read g.sizes begun.view.front) ((state g.sizes begun.view.front).bucket bucket)))
+      × (now ≡ before ++ flat_map (vertex_read g.sizes begun.view.front)
+      ((state g.sizes begun.view.front).bucket bucket)))
   bucket_over t u bucket word left rest before now none old still =
       let o = old still in (
         o.0,
         λ room.
             let a = way_is_over (bucket_chain g.sizes begun.view.front bucket)
-            ((state g.sizes begun.view.front).bucket bucket) (vertex_read g.sizes begun.view.front) before now word left rest
+            ((state g.sizes begun.view.front).bucket bucket) (vertex_read g.sizes begun.view.front) before now word
+            left rest
             room none o.1 in
             (a.spent, a.items),
       )
@@ -152,9 +161,11 @@ module _ (g : TableValue) (begun : TokenValue) where
         o.0,
         λ linked room.
             let a = way_ends (edge_chain g.sizes begun.view.front vertex.index)
-            ((state g.sizes begun.view.front).edges vertex.index) (edge_read g.sizes begun.view.front vertex.key) before now word
+            ((state g.sizes begun.view.front).edges vertex.index)
+            (edge_read g.sizes begun.view.front vertex.key) before now word
             left rest index g.sizes.nodes
-            (λ y h. list_low g.sizes (read_layout g begun u r) begun.view.front kept vertex.index y h) high is (o.1 linked) in
+            (λ y h. list_low g.sizes (read_layout g begun u r) begun.view.front kept vertex.index y h) high is
+            (o.1 linked) in
             (a.spent, a.items),
       )
 
@@ -171,7 +182,8 @@ module _ (g : TableValue) (begun : TokenValue) where
         o.0,
         λ linked room.
             let a = way_is_over (edge_chain g.sizes begun.view.front vertex.index)
-            ((state g.sizes begun.view.front).edges vertex.index) (edge_read g.sizes begun.view.front vertex.key) before now word
+            ((state g.sizes begun.view.front).edges vertex.index)
+            (edge_read g.sizes begun.view.front vertex.key) before now word
             left rest room none (o.1 linked) in
             (a.spent, a.items),
       )
@@ -195,7 +207,8 @@ module _ (g : TableValue) (begun : TokenValue) where
       → AtRest begun t u (BucketsRead bucket now left rest)
       → AtRest begun u v (length ((state g.sizes begun.view.front).bucket bucket) ≤ rest
       → (rest' + length ((state g.sizes begun.view.front).bucket bucket) ≡ rest)
-      × (now' ≡ now ++ flat_map (vertex_read g.sizes begun.view.front) ((state g.sizes begun.view.front).bucket bucket)))
+      × (now' ≡ now ++ flat_map (vertex_read g.sizes begun.view.front)
+      ((state g.sizes begun.view.front).bucket bucket)))
       → AtRest begun t v (BucketsRead (bucket + 1) now' left rest')
   next_bucket t u v bucket left rest rest' now now' old new still =
       let d = new still in
@@ -204,7 +217,8 @@ module _ (g : TableValue) (begun : TokenValue) where
       ∙ ap (λ i. range_with_len 0 bucket ++ i ∷ []) (omega arith) in (
         o.0,
         subst (λ ps. HasRead (state g.sizes begun.view.front).bucket
-            (λ j. flat_map (vertex_read g.sizes begun.view.front) ((state g.sizes begun.view.front).bucket j)) ps [] now'
+            (λ j. flat_map (vertex_read g.sizes begun.view.front)
+            ((state g.sizes begun.view.front).bucket j)) ps [] now'
             left rest') (sym more)
             (one_more_read (state g.sizes begun.view.front).bucket
             (λ j. flat_map (vertex_read g.sizes begun.view.front) ((state g.sizes begun.view.front).bucket j))
@@ -261,9 +275,11 @@ module _ (g : TableValue) (begun : TokenValue) where
         o.0,
         λ linked. subst (λ ps. ListsRead ps now' left rest') (sym (take_more vertices i x low))
             (one_more_read (λ (v : ReadVertex). (state g.sizes begun.view.front).edges v.index)
-            (edges_of_vertex g.sizes begun.view.front) (take i vertices) (get_or vertices i x) [] now now' left rest rest'
+            (edges_of_vertex g.sizes begun.view.front) (take i vertices)
+            (get_or vertices i x) [] now now' left rest rest'
             (o.1 linked)
-            (d.1 (each_at (λ (v : ReadVertex). IsLinkedVertex g.sizes begun.view.front v.index) vertices i x low linked))),
+            (d.1 (each_at (λ (v : ReadVertex). IsLinkedVertex g.sizes begun.view.front v.index) vertices i x low
+            linked))),
       )
 
   pub last_list : (t u : TokenValue) (vertices some : List ReadVertex) (left rest : ℕ) (now : List ReadEdge)

@@ -16,7 +16,7 @@ use Rattle.graph_table.specs.Tokens.{IsOf, TableValue, TokenValue}
 use Rattle.shared_graph.specs.declared.reading.ReadVertex.{ReadVertex}
 use Rattle.shared_graph.specs.declared.reading.ReadEdge.{ReadEdge}
 
--- the token is one of the table, and since the reading began, when it had a number, it made nothing
+-- the token is one of the table, and has made nothing since the reading began, when it had a number
 pub record IsReading (g : TableValue) (begun now : TokenValue) : Type 0 where
   pub of : IsOf g now
   pub numbered : begun.view.numbered ≡ true
@@ -43,14 +43,14 @@ names_present sizes journal word =
     && ((tag_of (word_at sizes journal (link_at sizes (index_of word))) == tag_of word)
     && (mark_of (word_at sizes journal (link_at sizes (index_of word))) == 0))
 
--- the vertex at a node, if its link is unmarked
+-- the vertex at a node, if the node's link is unmarked
 abbrev pub vertex_read : Sizes → List Event → ℕ → List ReadVertex
 vertex_read sizes journal x =
     cond (mark_of (word_at sizes journal (link_at sizes x)) == 0)
     (record { index = x; key = low_half (word_at sizes journal (key_at sizes x)) } ∷ []) []
 
--- the edge at a node that leads from a key, if its link is unmarked and its target is present
-abbrev pub edge_read : Sizes → List Event → ℕ → ℕ → List ReadEdge
+-- the edge at a node, on the list of a source with a key, if the node's link is unmarked and the target is present
+abbrev pub edge_read : Sizes → List Event → (from y : ℕ) → List ReadEdge
 edge_read sizes journal from y =
     cond ((mark_of (word_at sizes journal (link_at sizes y)) == 0)
     && names_present sizes journal (word_at sizes journal (second_at sizes y)))

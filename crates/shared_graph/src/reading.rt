@@ -6,7 +6,7 @@
 //! journal, and the graph is that of the journal; so its contracts are of the form "if the front is still that of the
 //! beginning" (`ToldAtRest` of `specs/Reading.antt`).
 
-ghost use Rattle.std.specs.Prelude.{◌≡◌, ◌<◌, ◌≤◌, ◌+◌, ◌%◌, ◌^◌, ◌++◌, [], true, length, flat_map, IfOk, OnOk};
+ghost use Rattle.std.specs.Prelude.{◌≡◌, ◌<◌, ◌≤◌, ◌+◌, ◌++◌, [], true, length, IfOk, OnOk};
 ghost use Rattle.packed_link.specs.Layout.{link_at, word_count};
 ghost use Rattle.graph_kinds.specs.Graph.{key_count, pair_count};
 ghost use Rattle.graph_kinds.specs.History.{Every};
@@ -313,7 +313,8 @@ fn put_vertices(graph: &mut PlainGraph, vertices: &[ReadVertex]) -> Result<(), M
     requires room { key_count graph.old + pair_count graph.old + length vertices.now ≤ 65536 }
     ensures put { OnOk result (graph.new ≡ with_vertices graph.old vertices.now) }
     ensures room { OnOk result
-        (key_count graph.new + pair_count graph.new ≤ key_count graph.old + pair_count graph.old + length vertices.now) }
+        (key_count graph.new + pair_count graph.new ≤ key_count graph.old + pair_count graph.old + length
+        vertices.now) }
 {
     for vertex in vertices {
         graph.put_vertex(vertex.key)?;

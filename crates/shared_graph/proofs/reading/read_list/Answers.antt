@@ -9,7 +9,8 @@ loop-rest-init c = record {
   room = omega arith;
   told = list_starts c.args.table.now c.args.begun.now.value c.args.token.now c.look-word.new.token c.args.vertex.now
       c.second_at.result c.look-word.result c.args.left c.args.edges.now.items c.requires.vertex
-      (c.second_at.ensures.place ∙ ap (λ (z : Sizes). second_at z c.args.vertex.now.index) c.layout-layout.ensures.sizes)
+      (c.second_at.ensures.place ∙ ap (λ (z : Sizes). second_at z c.args.vertex.now.index)
+      c.layout-layout.ensures.sizes)
       c.look-word.ensures.reading c.look-word.ensures.told;
 }
 
