@@ -1,7 +1,7 @@
 //! One graph that callers share, each on a thread of its own.
 //!
-//! Contracts see a caller as its hand, with the keys and level ends of its last answer; and the graph as its table. What
-//! a caller has seen of the journal is its front.
+//! Contracts see a caller as its hand, with the keys and level ends of its last answer; and the graph as its table.
+//! What a caller has seen of the journal is its front.
 #![tactic(auto)]
 
 mod caller;

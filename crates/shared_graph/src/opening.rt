@@ -14,8 +14,8 @@ use packed_link::Layout;
 use std::alloc::Global;
 
 impl SharedGraph {
-    /// An empty graph and its callers, numbered from 0 in order: O(nodes + buckets + callers · nodes). There are at most
-    /// 16 callers, 65,536 nodes and 65,536 buckets, and at least one of each.
+    /// An empty graph and its callers, numbered from 0 in order: O(nodes + buckets + callers · nodes). There are at
+    /// most 16 callers, 65,536 nodes and 65,536 buckets, and at least one of each.
     ///
     /// # Errors
     /// `Memory`.
