@@ -19,4 +19,5 @@ pub record LookOnEach (old new : List CallerValue) : Type 0 where
 
 -- what a caller saw before, the first one has seen now
 abbrev pub HasMet : List CallerValue → List CallerValue → ℕ → Type 0
-HasMet old new i = (d e : CallerValue) → IsPrefix (front_of (slice_index_or old i d)) (front_of (slice_index_or new 0 e))
+HasMet old new i =
+    (d e : CallerValue) → IsPrefix (front_of (slice_index_or old i d)) (front_of (slice_index_or new 0 e))
