@@ -11,8 +11,10 @@ mod graph;
 mod hands;
 mod opening;
 mod port;
+mod reading;
 
 pub use caller::Caller;
+pub use closing::CloseMemory;
 pub use graph::{Note, SharedGraph};
 pub use graph_updates::Settled;
 pub use port::GraphPort;
