@@ -1,6 +1,6 @@
 -- Callers that look on, and what is known of the journal when the first of them has met all others.
-use Rattle.std.proofs.Common.{◌≡◌, ℕ, zero, suc, ◌+◌, ◌<◌, ◌≤◌, List, ◌∷◌, [], ◌++◌, take, length, get_or, set, map, inl, inr}
-use Rattle.std.proofs.Common.{get_or-set_same, refl, sym, ap, ap₂, ◌∙◌, subst, arith, ⊎_elim}
+use Rattle.std.proofs.Common.{◌≡◌, ℕ, zero, suc, ◌+◌, ◌<◌, ◌≤◌, List, ◌∷◌, [], ◌++◌, take, length, get_or, set, map}
+use Rattle.std.proofs.Common.{get_or-set_same, inl, inr, refl, sym, ap, ap₂, ◌∙◌, subst, arith, ⊎_elim}
 use Rattle.std.proofs.lemmas.Bool.{cases_lt}
 use Rattle.std.proofs.Math.Seq.{take-append_seam}
 use Rattle.graph_kinds.specs.Graph.{Graph}
@@ -109,7 +109,7 @@ has_still number (a ∷ xs) (b ∷ ys) l h = ⊎_elim
     (λ (e : a.hand.token.view.number ≡ number). inl ((l.each 0 a (omega arith)).number ∙ e))
     (λ (k : HasCaller xs number). inr (has_still number xs ys (rest_looks a b xs ys l) k)) h
 
-every_home : (g : TableValue) (cs : List CallerValue) → AreCallersOf g cs → Every (IsCallerOf g) cs
+pub every_home : (g : TableValue) (cs : List CallerValue) → AreCallersOf g cs → Every (IsCallerOf g) cs
 every_home g [] h = tt
 every_home g (c ∷ cs) h = (h 0 c (omega arith), every_home g cs (λ i d low. h (suc i) d (omega (arith, low))))
 

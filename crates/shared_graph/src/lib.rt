@@ -9,6 +9,7 @@ mod closing;
 mod gathering;
 mod graph;
 mod hands;
+mod laws;
 mod opening;
 mod port;
 mod reading;
@@ -17,4 +18,8 @@ pub use caller::Caller;
 pub use closing::CloseMemory;
 pub use graph::{Note, SharedGraph};
 pub use graph_updates::Settled;
+pub use laws::callers_by_number_are_all;
 pub use port::GraphPort;
+
+#[cfg(test)]
+mod tests;
