@@ -1,8 +1,11 @@
 -- Callers that look on, and what is known of the journal when the first of them has met all others.
-use Rattle.std.proofs.Common.{◌≡◌, ℕ, zero, suc, ◌+◌, ◌<◌, ◌≤◌, List, ◌∷◌, [], length, get_or, map, inl, inr}
-use Rattle.std.proofs.Common.{refl, sym, ap₂, ◌∙◌, subst, arith, ⊎_elim}
+use Rattle.std.proofs.Common.{◌≡◌, ℕ, zero, suc, ◌+◌, ◌<◌, ◌≤◌, List, ◌∷◌, [], ◌++◌, take, length, get_or, set, map}
+use Rattle.std.proofs.Common.{get_or-set_same, inl, inr, refl, sym, ap, ap₂, ◌∙◌, subst, arith, ⊎_elim}
 use Rattle.std.proofs.lemmas.Bool.{cases_lt}
+use Rattle.std.proofs.Math.Seq.{take-append_seam}
+use Rattle.graph_kinds.specs.Graph.{Graph}
 use Rattle.graph_kinds.specs.History.{Every}
+use Rattle.core_journal.specs.GraphOf.{graph_of}
 use Rattle.core_journal.specs.declared.book.Book.{Book}
 use Rattle.core_journal.specs.declared.event.Event.{Event}
 use Rattle.core_journal.specs.Prefix.{IsPrefix}
@@ -15,7 +18,8 @@ use Rattle.shared_graph.specs.Callers.{CallerValue, HasCaller, HoldsEach, IsBetw
 use Rattle.shared_graph.specs.Callers.{book_in, front_of}
 use Rattle.shared_graph.specs.Gathering.{AreBetweenCalls, AreCallersOf, HasMet, LookOnEach}
 use Rattle.shared_graph.specs.Joining.{AreClosedBy, HasThisAccount, IsJoined}
-use Rattle.shared_graph.proofs.Closed.{no_longer, whole_front}
+use Rattle.shared_graph.specs.Closing.{IsClosedAs, IsReadBetween}
+use Rattle.shared_graph.proofs.Closed.{ended, no_longer, whole_front}
 
 pub looks_self : (c : CallerValue) → LooksOn c c
 looks_self c = record {
@@ -169,3 +173,59 @@ pub gathered_whole : (g : TableValue) (xs : List CallerValue) (t : TokenValue) (
     → IsPrefix front t.view.front → front ≡ t.view.front
 gathered_whole g xs t front h between z met begins =
     whole_front front t.view.front begins (no_longer g xs t h z (length front) (lasts_within front xs between met))
+
+-- the first caller, which had met all others, read a graph
+pub read_between : (xs ys : List CallerValue) (a b : CallerValue) (g : Graph) → 0 < length xs → LookOnEach xs ys
+    → ((i : ℕ) → i < length xs → HasMet xs ys i) → ((d : CallerValue) → get_or ys 0 d ≡ b) → LooksOn b a
+    → (front_of a ≡ front_of b → g ≡ graph_of (front_of b)) → IsReadBetween xs (set ys 0 a) g
+read_between xs ys a b g some looks met at later graph =
+    let room : 0 < length ys = let n = looks.count in omega (arith, some, n) in
+    let first : (d : CallerValue) → get_or (set ys 0 a) 0 d ≡ a = λ d. get_or-set_same ys 0 a d room in
+    record {
+      front = front_of b;
+      met = λ i d low. subst (λ (c : CallerValue). IsPrefix (front_of (get_or xs i d)) (front_of c)) (at d)
+          (met i low d d);
+      begins = λ d. subst (λ (c : CallerValue). IsPrefix (front_of b) (front_of c)) (sym (first d)) later.grows;
+      graph = λ d same. graph (ap front_of (sym (first d)) ∙ same);
+    }
+
+-- the front of a caller that was joined begins the front of the token
+joined_seen : (v : View) (zs : List CallerValue) → Every (IsJoined v) zs → (i : ℕ) (d : CallerValue) → i < length zs
+    → IsPrefix (front_of (get_or zs i d)) v.front
+joined_seen v [] all i d low = absurd (omega (arith, low))
+joined_seen v (z ∷ zs) all zero d low = all.0.seen
+joined_seen v (z ∷ zs) all (suc i) d low = joined_seen v zs all.1 i d (omega (arith, low))
+
+-- between one list and a second that begin each other there's no third
+between_same : (xs ys zs : List Event) → IsPrefix xs ys → IsPrefix ys zs → xs ≡ zs → ys ≡ xs
+between_same xs ys zs p q is =
+    let n = prefix_length xs ys p in
+    let m = ap length is in
+    whole_front ys zs q (omega (arith, n, m)) ∙ sym is
+
+-- the callers that were handed in have ended, and what was read is the graph of the whole journal
+pub closed_as : (g : TableValue) (xs zs : List CallerValue) (t : TokenValue) (x : Graph) → 0 < length xs
+    → HoldsEach g xs → AreBetweenCalls xs → LookOnEach xs zs → IsReadBetween xs zs x → AreClosedBy g zs t
+    → IsClosedAs g xs x
+closed_as g xs zs t x some h between looks r z =
+    let old = closed_before g xs zs t looks between z in
+    let d : CallerValue = item xs some in
+    let first = joined_seen t.view zs z.joined 0 d (let n = looks.count in omega (arith, some, n)) in
+    let begins = prefix_trans r.front (front_of (get_or zs 0 d)) t.view.front (r.begins d) first in
+    let is : r.front ≡ t.view.front = gathered_whole g xs t r.front h between old r.met begins in
+    let still : front_of (get_or zs 0 d) ≡ r.front = between_same r.front (front_of (get_or zs 0 d)) t.view.front
+    (r.begins d) first is in
+    record { journal = t.view.front; ended = ended g xs t h old; graph = r.graph d still ∙ ap graph_of is }
+  where
+    item : (ys : List CallerValue) → 0 < length ys → CallerValue
+    item [] low = absurd (omega (arith, low))
+    item (y ∷ ys) low = y
+
+-- all callers of a graph are some
+pub some_callers : (g : TableValue) (xs : List CallerValue) → 0 < g.sizes.callers → HoldsEach g xs → 0 < length xs
+some_callers g [] some h = absurd (h.each 0 some)
+some_callers g (x ∷ xs) some h = omega arith
+
+-- what a `Vec` holds after its whole slice was lent
+pub lent_back : (n : ℕ) (zs ys : List CallerValue) → length zs ≡ n → take n (zs ++ ys) ≡ zs
+lent_back n zs ys e = rw (← e) (take-append_seam zs ys)

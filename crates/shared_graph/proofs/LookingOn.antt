@@ -1,5 +1,5 @@
 -- A hand that looks on is one of its table still, in order, with its pass closed.
-use Rattle.std.proofs.Common.{◌≡◌, [], None, Some, Option, append-nil, refl, sym, ap}
+use Rattle.std.proofs.Common.{◌≡◌, ℕ, [], None, Some, Option, append-nil, refl, sym, ap}
 use Rattle.std.proofs.Common.{◌∙◌, subst, arith}
 use Rattle.packed_link.specs.declared.link.Life.{Life}
 use Rattle.core_journal.specs.State.{Pass}
@@ -8,11 +8,12 @@ use Rattle.core_journal.proofs.Lists.{prefix_refl}
 use Rattle.core_rule.specs.Plays.{Met, both_fronts, stays}
 use Rattle.core_rule.specs.Retired.{IsRetired}
 use Rattle.core_rule.specs.Stretches.{IsAlike}
+use Rattle.core_rule.specs.Views.{moved_on}
 use Rattle.core_rule.specs.declared.view.View.{View}
 use Rattle.core_rule.proofs.AlikeViews.{retired_alike}
 use Rattle.core_stretches.specs.Holdings.{HasNoPass}
 use Rattle.core_stretches.specs.Makes.{Makes}
-use Rattle.core_stretches.proofs.MakesTell.{makes_goes}
+use Rattle.core_stretches.proofs.MakesTell.{makes_goes, makes_later}
 use Rattle.epoch_limbo.specs.Limbos.{LimboValue}
 use Rattle.graph_table.specs.Tokens.{IsOf, RipeValue, TableValue, TokenValue}
 use Rattle.graph_updates.specs.Hands.{HandValue, HasItsNodes, HoldsNoOther, HoldsSpare, IsHandOf, IsInOrder}
@@ -143,3 +144,12 @@ split_grows v w is = subst (λ (u : View). IsPrefix v.front u.front) (sym is) (p
 
 pub met_sight : (v n w : View) → Met (both_fronts v n) w → w ≡ with_sight v w
 met_sight v n w m = m.view ∙ ap (λ (u : View). with_sight v u) (sym m.view)
+
+-- and so has one that loaded words and made no event
+pub read_sight : (v w : View) → Makes v [] w → w.last ≡ v.last → w ≡ with_sight v w
+read_sight v w m last =
+    let is : w ≡ grown_to v w = m.steps.view ∙ ap (λ (n : ℕ). moved_on v w.front n) last in
+    is ∙ ap (λ (u : View). with_sight v u) (sym is)
+
+pub read_grows : (v w : View) → Makes v [] w → IsPrefix v.front w.front
+read_grows v w m = (makes_later v w [] m).grows

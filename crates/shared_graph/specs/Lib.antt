@@ -1,4 +1,5 @@
 pub mod Callers
+pub mod Closing
 pub mod Gathering
 pub mod Hiring
 pub mod Joining

@@ -1,17 +1,52 @@
 //! How a shared graph ends.
 
+ghost use Rattle.std.specs.Prelude.{IfErr, IfOk};
 ghost use Rattle.graph_kinds.specs.History.{Every};
 ghost use Rattle.graph_table.specs.Tokens.{IsOf, TokenValue};
 ghost use Rattle.shared_graph.specs.Callers.{CallerValue, HoldsEach, IsCallerOf, IsEnded};
+ghost use Rattle.shared_graph.specs.Closing.{IsClosedAs, IsHandedBack};
 ghost use Rattle.shared_graph.specs.Joining.{AreClosedBy, IsJoined};
 
 use crate::caller::Caller;
 use crate::graph::SharedGraph;
+use graph_kinds::Memory;
 use graph_table::{GraphTable, Token};
+use plain_graph::PlainGraph;
+use std::alloc::Global;
+
+/// A refusal of memory: the graph wasn't closed, and stands as it was, with its callers.
+#[derive(Drop)]
+pub struct CloseMemory {
+    pub graph: SharedGraph,
+    pub callers: Vec<Caller>,
+}
 
 impl SharedGraph {
+    /// Closes the graph: its callers end, and what they leave is read into a plain graph. The callers are all of the
+    /// graph's, each once. O(buckets + nodes · log nodes + callers).
+    ///
+    /// # Errors
+    /// `CloseMemory` where there's no memory for the plain graph: the graph and its callers come back, in the same order.
+    pub fn close(self, alloc: Global, callers: Vec<Caller>) -> Result<PlainGraph, CloseMemory>
+        requires each { HoldsEach self callers.items }
+        ensures closed { IfOk result (IsClosedAs self callers.items) }
+        ensures refused { IfErr result (IsHandedBack self callers.items) }
+    {
+        let mut callers = callers;
+        match self.gather_and_read(alloc, callers.as_mut_slice()) {
+            Ok(graph) => {
+                self.finish(callers);
+                Ok(graph)
+            }
+            Err(Memory) => Err(CloseMemory {
+                graph: self,
+                callers,
+            }),
+        }
+    }
+
     /// Ends the graph: the tokens of all its callers are joined to one, whose front is the whole journal.
-    pub(crate) fn finish(self, callers: Vec<Caller>)
+    fn finish(self, callers: Vec<Caller>)
         requires each { HoldsEach self callers.items }
         ensures ended { (t : TokenValue) × (AreClosedBy self callers.items t
             × IsEnded self callers.items t.view.front) }

@@ -16,6 +16,7 @@ mod port_calls;
 mod reading;
 
 pub use caller::Caller;
+pub use closing::CloseMemory;
 pub use graph::{Note, SharedGraph};
 pub use graph_updates::Settled;
 pub use laws::callers_by_number_are_all;
