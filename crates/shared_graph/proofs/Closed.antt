@@ -263,6 +263,7 @@ module _ (g : TableValue) (cs : List CallerValue) (t : TokenValue) (h : HoldsEac
       record {
         longest = longest;
         seen = fronts_seen cs z.joined;
+        regular = regular g.sizes layout v.front kept;
         books = books;
         closed = record { has = λ p e at turns. has_book e.caller cs (has_caller p e at) };
         legal = history_legal g.sizes v.front (map book_in cs) (regular g.sizes layout v.front kept) h.apart books;

@@ -1,11 +1,11 @@
 -- Callers that are numbered from 0 in order are all callers, each once.
 use Rattle.std.proofs.Common.{◌≡◌, ◌≢◌, ◌⊎◌, ℕ, zero, suc, ◌+◌, ◌<◌, ◌≤◌, List, [], ◌∷◌, length, map, get_or, inl, inr}
-use Rattle.std.proofs.Common.{refl, ap, ◌∙◌, arith, ⊎_elim}
+use Rattle.std.proofs.Common.{refl, sym, ap, ◌∙◌, arith, ⊎_elim}
 use Rattle.graph_kinds.specs.History.{Every}
 use Rattle.core_journal.specs.declared.book.Book.{Book}
 use Rattle.core_journal.specs.Right.{CallersApart}
 use Rattle.graph_table.specs.Tokens.{TableValue}
-use Rattle.shared_graph.specs.Callers.{CallerValue, HasCaller, HoldsEach, book_in}
+use Rattle.shared_graph.specs.Callers.{CallerValue, HasCaller, HoldsEach, IsCallerOf, book_in}
 use Rattle.shared_graph.specs.Gathering.{AreCallersOf}
 use Rattle.shared_graph.proofs.Gathered.{every_home}
 
@@ -57,3 +57,19 @@ holds_each g cs count home from =
       each = λ n low. has_each 0 n cs from0 (omega arith) (omega (arith, low, count));
       apart = all_apart 0 cs from0;
     }
+
+-- two callers of a graph of two, numbered 0 and 1
+module _ (g : TableValue) (a b : CallerValue) (two : g.sizes.callers ≡ 2) (ha : IsCallerOf g a) (hb : IsCallerOf g b)
+    (zero_is : a.hand.token.view.number ≡ 0) (one_is : b.hand.token.view.number ≡ 1) where
+  both_home : AreCallersOf g (a ∷ b ∷ [])
+  both_home zero d low = ha
+  both_home (suc zero) d low = hb
+  both_home (suc (suc i)) d low = absurd (omega (arith, low))
+
+  both_numbers : (i : ℕ) (d : CallerValue) → i < 2 → (get_or (a ∷ b ∷ []) i d).hand.token.view.number ≡ i
+  both_numbers zero d low = zero_is
+  both_numbers (suc zero) d low = one_is
+  both_numbers (suc (suc i)) d low = absurd (omega (arith, low))
+
+  pub holds_two : HoldsEach g (a ∷ b ∷ [])
+  holds_two = holds_each g (a ∷ b ∷ []) (sym two) both_home both_numbers

@@ -5,7 +5,7 @@ use Rattle.graph_kinds.specs.declared.answer.Answer.{Answer}
 use Rattle.graph_kinds.specs.declared.outcome.Outcome.{Outcome}
 use Rattle.core_journal.specs.declared.book.Book.{Book}
 use Rattle.core_journal.specs.declared.event.Event.{Event}
-use Rattle.core_journal.specs.GraphOf.{graph_of}
+use Rattle.core_journal.specs.GraphOf.{graph_of, IsRegular}
 use Rattle.core_journal.specs.History.{history, IsClosed}
 use Rattle.core_journal.specs.Prefix.{IsPrefix}
 use Rattle.core_journal.specs.Right.{CallersApart, IsBookOf}
@@ -88,12 +88,13 @@ abbrev pub IsFrontOfOne : List CallerValue → List Event → Type 0
 IsFrontOfOne [] journal = ⊥
 IsFrontOfOne (c ∷ cs) journal = (front_of c ≡ journal) ⊎ IsFrontOfOne cs journal
 
--- what is known when all callers have ended: the journal is the longest of their fronts; their books are true of it, so
--- that each entry is right and framed and each event that changes the graph has just one own entry; no other caller's
--- event stands in it; and the history of it and all books is legal and ends in its graph
+-- what is known when all callers have ended: the journal is the longest of their fronts, and regular; their books are
+-- true of it, so that each entry is right and framed and each event that changes the graph has just one own entry; no
+-- other caller's event stands in it; and the history of it and all books is legal and ends in its graph
 pub record IsEnded (g : TableValue) (cs : List CallerValue) (journal : List Event) : Type 0 where
   pub longest : IsFrontOfOne cs journal
   pub seen : Every (λ (c : CallerValue). IsPrefix (front_of c) journal) cs
+  pub regular : IsRegular journal
   pub books : Every (IsBookOf g.sizes journal) (map book_in cs)
   pub closed : IsClosed journal (map book_in cs)
   pub legal : IsLegal (history journal (map book_in cs)) (graph_of journal)

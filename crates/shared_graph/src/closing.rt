@@ -22,11 +22,14 @@ pub struct CloseMemory {
 }
 
 impl SharedGraph {
-    /// Closes the graph: its callers end, and what they leave is read into a plain graph. The callers are all of the
-    /// graph's, each once. O(buckets + nodes · log nodes + callers).
+    /// Closes the graph and gives the plain graph of its whole journal, which is the longest of the callers' fronts:
+    /// the books of all callers are right and framed in it, each event that changes the graph has just one own entry,
+    /// and the history of all books is legal and ends in the graph that is given. The callers are all of this graph's,
+    /// each once; a note that no caller met hinders nothing. O(callers + buckets + nodes · log nodes).
     ///
     /// # Errors
-    /// `CloseMemory` where there's no memory for the plain graph: the graph and its callers come back, in the same order.
+    /// `CloseMemory` if there's no room for the plain graph, before any caller has ended: the graph and its callers
+    /// come back, in the same order, as they were but for what the callers have seen.
     pub fn close(self, alloc: Global, callers: Vec<Caller>) -> Result<PlainGraph, CloseMemory>
         requires each { HoldsEach self callers.items }
         ensures closed { IfOk result (IsClosedAs self callers.items) }

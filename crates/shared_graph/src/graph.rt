@@ -55,7 +55,11 @@ impl SharedGraph {
         self.table.layout()
     }
 
-    /// Adds a vertex: `graph_updates::add_vertex` on the caller's hand.
+    /// Adds a vertex: `Added`, or `Present(0)` if it was there at a moment of this call. It takes a node if the caller
+    /// has no spare one. `Full` if the key was missing at a moment and no node was free at another one; `Again` if as
+    /// many tries were lost as were given, each to a foreign event of its own; `Worn` exactly if the caller has had
+    /// 4,294,967,296 uses. After these three the graph is as it was, as far as this call goes. O(vertices of the bucket
+    /// before the key), and what helping costs.
     pub fn add_vertex(&self, caller: &mut Caller, key: u32, tries: u32) -> Outcome
         requires caller { IsCallerOf self.now caller.old }
         requires some { 0 < tries }
@@ -65,7 +69,9 @@ impl SharedGraph {
         add_vertex(&self.table, &mut caller.hand, key, tries)
     }
 
-    /// Removes a vertex with its edges and the edges to it: `graph_updates::remove_vertex` on the caller's hand.
+    /// Removes a vertex with its edges and the edges to it: `Removed(0)`, or `Absent` if it was missing at a moment of
+    /// this call, also right after another caller's removal of it. `Again` and `Worn` come as for `add_vertex`.
+    /// O(vertices of the bucket before the key + edges of the vertices that it unlinks + callers).
     pub fn remove_vertex(&self, caller: &mut Caller, key: u32, tries: u32) -> Outcome
         requires caller { IsCallerOf self.now caller.old }
         requires some { 0 < tries }
@@ -75,7 +81,8 @@ impl SharedGraph {
         remove_vertex(&self.table, &mut caller.hand, key, tries)
     }
 
-    /// Whether a vertex has the key: `graph_updates::has_vertex` on the caller's hand.
+    /// Whether a vertex has the key: `Yes` or `No`, as the graph was at a moment of this call. `Again` and `Worn` come
+    /// as for `add_vertex`. O(vertices of the bucket before the key), and what helping costs.
     pub fn has_vertex(&self, caller: &mut Caller, key: u32, tries: u32) -> Outcome
         requires caller { IsCallerOf self.now caller.old }
         requires some { 0 < tries }
@@ -101,7 +108,11 @@ impl SharedGraph {
         }
     }
 
-    /// Gives back each node that is ripe: `graph_updates::settle` on the caller's hand.
+    /// Moves the epoch on twice, each time if that can be, and then gives back the nodes that this caller spent and
+    /// that are ripe: O(callers + nodes given back). `Done` tells an epoch that was loaded after the moves; no node
+    /// that the caller holds is ripe at it, and it holds none if no other caller's pass lagged. `Again` if as many
+    /// give-backs were lost as tries were given, each to a foreign event; `Worn` exactly if the caller has had
+    /// 4,294,967,296 uses. It counts one use and leaves the graph.
     pub fn settle(&self, caller: &mut Caller, tries: u32) -> Settled
         requires caller { IsCallerOf self.now caller.old }
         requires some { 0 < tries }
@@ -113,7 +124,7 @@ impl SharedGraph {
         settle(&self.table, &mut caller.hand, tries)
     }
 
-    /// The keys of the caller's last answer, in O(1).
+    /// The keys of the caller's last answer, in O(1): none for an answer other than Path, Cost and Levels.
     pub fn keys<'c>(&self, caller: &'c Caller) -> &'c [u32]
         ensures keys { result.now ≡ caller.now.keys }
     {
@@ -121,7 +132,8 @@ impl SharedGraph {
         &[]
     }
 
-    /// Where each level of the caller's last answer ends, in O(1), as numbers of keys.
+    /// Where each level of the caller's last answer ends, in O(1), as numbers of keys: none for an answer other than
+    /// Levels.
     pub fn ends<'c>(&self, caller: &'c Caller) -> &'c [u32]
         ensures ends { result.now ≡ caller.now.ends }
     {
