@@ -13,7 +13,7 @@ use Rattle.graph_updates.specs.Hands.{HasAllSpent, IsRoomyLimbo}
 
 -- a caller: its token, the nodes that it spent, the one that it took and didn't link, how many rounds it has made, and
 -- how many nodes it has taken from the free list and given back
-pub record CallerValue : Type 0 where
+pub record WorkerValue : Type 0 where
   pub token : TokenValue
   pub limbo : LimboValue
   pub spare : Option Life
@@ -41,7 +41,7 @@ pub record HasMade (takes gives most_moved : ℕ) (v : View) : Type 0 where
 -- between two rounds: the token has its number and no open pass, its limbo has all that it spent, it holds its spare
 -- node and no other; what the caller counted is what the token took and gave back; and it took no more nodes than it
 -- made rounds, gave back at most 2^32 a round, and moved the epoch no more often than it made rounds
-pub record IsBetweenRounds (c : CallerValue) : Type 0 where
+pub record IsBetweenRounds (c : WorkerValue) : Type 0 where
   pub numbered : c.token.view.numbered ≡ true
   pub closed : HasNoPass c.token.view
   pub work : LimboHoldsAll c.limbo c.token.view
@@ -66,7 +66,7 @@ pub record CountsGo (takes gives shifts : ℕ) (v w : View) : Type 0 where
 
 -- within some rounds a caller reached a goal: it took so many nodes more and gave back so many more, or it made all of
 -- these rounds
-pub record HasTurnedOver (goal limit : ℕ) (before after : CallerValue) : Type 0 where
+pub record HasTurnedOver (goal limit : ℕ) (before after : WorkerValue) : Type 0 where
   pub within : after.rounds ≤ before.rounds + limit
   pub taken : after.rounds < before.rounds + limit → before.taken + goal ≤ after.taken
   pub given : after.rounds < before.rounds + limit → before.given + goal ≤ after.given

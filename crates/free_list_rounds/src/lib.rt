@@ -4,14 +4,14 @@
 //! epoch. So a round of a caller does all of that once, on a key of its own. Nothing stands on this crate.
 #![tactic(auto)]
 
-mod caller;
 mod growing;
 mod resting;
 mod rounds;
 #[cfg(test)]
 mod tests;
+mod worker;
 
-pub use caller::{Caller, enter};
 pub use growing::{build, clear};
 pub use resting::settle;
 pub use rounds::{rest, round, run, run_both, run_until};
+pub use worker::{Worker, enter};

@@ -4,9 +4,9 @@ ghost use Rattle.std.specs.Prelude.{◌≡◌, ◌<◌, ◌≤◌, ◌+◌, ◌^
 ghost use Rattle.free_list_rounds.specs.Rounds.{HasTurnedOver, IsBetweenRounds};
 ghost use Rattle.graph_table.specs.Tokens.{IsOf};
 
-use crate::caller::Caller;
 use crate::growing::{build, clear};
 use crate::resting::settle;
+use crate::worker::Worker;
 use epoch_limbo::{close_pass, open_pass};
 use graph_table::GraphTable;
 use std::thread;
@@ -14,7 +14,7 @@ use std::thread::Threads;
 
 /// One round: in a pass, takes a node, links it as a vertex of this key, removes and buries it; after the pass, moves
 /// the epoch on and gives back what is ripe. Where another caller comes between, the rest is left to a later round.
-pub fn round(table: &GraphTable, caller: Caller, key: u32) -> Caller
+pub fn round(table: &GraphTable, caller: Worker, key: u32) -> Worker
     requires table { IsOf table.now caller.token }
     requires between { IsBetweenRounds caller }
     requires left { caller.rounds + 1 < 2 ^ 32 }
@@ -22,7 +22,7 @@ pub fn round(table: &GraphTable, caller: Caller, key: u32) -> Caller
     ensures between { IsBetweenRounds result }
     ensures rounds { result.rounds ≡ caller.rounds + 1 }
 {
-    let Caller {
+    let Worker {
         mut token,
         mut limbo,
         spare,
@@ -35,7 +35,7 @@ pub fn round(table: &GraphTable, caller: Caller, key: u32) -> Caller
     clear(table, &mut token, &mut limbo, key);
     close_pass(table, &mut token);
     let gave = settle(table, &mut token, &mut limbo);
-    Caller {
+    Worker {
         token,
         limbo,
         spare,
@@ -47,7 +47,7 @@ pub fn round(table: &GraphTable, caller: Caller, key: u32) -> Caller
 
 /// Moves the epoch on, where that can be, and gives ripe nodes back, in O(callers + nodes in limbo); it counts as a
 /// round, in which no node is taken.
-pub fn rest(table: &GraphTable, caller: Caller) -> Caller
+pub fn rest(table: &GraphTable, caller: Worker) -> Worker
     requires table { IsOf table.now caller.token }
     requires between { IsBetweenRounds caller }
     requires left { caller.rounds + 1 < 2 ^ 32 }
@@ -55,7 +55,7 @@ pub fn rest(table: &GraphTable, caller: Caller) -> Caller
     ensures between { IsBetweenRounds result }
     ensures rounds { result.rounds ≡ caller.rounds + 1 }
 {
-    let Caller {
+    let Worker {
         mut token,
         mut limbo,
         spare,
@@ -64,7 +64,7 @@ pub fn rest(table: &GraphTable, caller: Caller) -> Caller
         given,
     } = caller;
     let gave = settle(table, &mut token, &mut limbo);
-    Caller {
+    Worker {
         token,
         limbo,
         spare,
@@ -75,7 +75,7 @@ pub fn rest(table: &GraphTable, caller: Caller) -> Caller
 }
 
 /// So many rounds.
-pub fn run(table: &GraphTable, caller: Caller, key: u32, rounds: u32) -> Caller
+pub fn run(table: &GraphTable, caller: Worker, key: u32, rounds: u32) -> Worker
     requires table { IsOf table.now caller.token }
     requires between { IsBetweenRounds caller }
     requires left { caller.rounds + rounds < 2 ^ 32 }
@@ -94,7 +94,7 @@ pub fn run(table: &GraphTable, caller: Caller, key: u32, rounds: u32) -> Caller
 
 /// Rounds until the caller has taken so many nodes more, and given back so many more, or has made all the rounds of a
 /// limit.
-pub fn run_until(table: &GraphTable, caller: Caller, key: u32, goal: u32, limit: u32) -> Caller
+pub fn run_until(table: &GraphTable, caller: Worker, key: u32, goal: u32, limit: u32) -> Worker
     requires table { IsOf table.now caller.token }
     requires between { IsBetweenRounds caller }
     requires left { caller.rounds + limit < 2 ^ 32 }
@@ -119,11 +119,11 @@ pub fn run_until(table: &GraphTable, caller: Caller, key: u32, goal: u32, limit:
 pub fn run_both<R: Threads + Sync>(
     rt: &R,
     table: &GraphTable,
-    one: Caller,
-    two: Caller,
+    one: Worker,
+    two: Worker,
     goal: u32,
     limit: u32,
-) -> (Caller, Caller)
+) -> (Worker, Worker)
     requires table { IsOf table.now one.token }
     requires between { IsBetweenRounds one }
     requires left { one.rounds + limit < 2 ^ 32 }

@@ -16,7 +16,7 @@ use Rattle.core_stretches.proofs.MakesTell.{makes_counts, makes_later}
 use Rattle.graph_table.specs.Tokens.{TableValue, TokenValue}
 use Rattle.vertex_list.specs.Positions.{PositionValue}
 use Rattle.vertex_list.proofs.PositionsGoOn.{gap_makes}
-use Rattle.graph_updates.specs.Adding.{IsAdded, IsFullAt, IsNodePlaced, IsSameBut, MatchAddTried, MatchPlacedAt}
+use Rattle.graph_updates.specs.Adding.{IsAdded, IsFullAt, IsNodePlaced, IsSameBut, MatchAddTried, MatchPlacingAt}
 use Rattle.graph_updates.specs.Hands.{HandValue, HasItsNodes, IsHandOf}
 use Rattle.graph_updates.specs.Locating.{WasGone}
 use Rattle.graph_updates.specs.Parts.{CarriesOutBy, Fell, GoesOnBy, HasHelped, LeavesGraph, may_take}
@@ -162,7 +162,7 @@ placed_added g key h new p m of n key_is same bare k = record {
 -- what placing came to, told from before the walk that found the gap
 pub tried_since : (g : TableValue) (r : AddTried) (key : ℕ) (old h new : HandValue) (p : PositionValue) → IsHandOf g h
     → IsHandOf g new → HasItsNodes old → HasItsNodes new → HasHelped old h → WasGone key old.token.view h.token.view p
-    → MatchPlacedAt r p h new → MatchAddTried r key old new
+    → MatchPlacingAt r p h new → MatchAddTried r key old new
 tried_since g (tried.Linked m) key old h new p of now n nodes helped gone k =
     let a = placed_added g key h new p m.value now nodes gone.key_is k.0 k.1.0 k.1.1 in
     let same = ap may_take helped.spare in

@@ -26,9 +26,9 @@ use Rattle.graph_table.specs.Tokens.{TokenValue}
 use Rattle.vertex_list.specs.Changes.{IsLinked, IsLost}
 use Rattle.vertex_list.specs.Positions.{IsGap, PositionValue}
 use Rattle.vertex_list.proofs.PositionsGoOn.{gap_makes, place_apart, position_leads}
-use Rattle.graph_updates.specs.Adding.{IsNodeFor, IsNodePlaced, IsPlaceLost, MatchNode, MatchPlaced, Readies}
-use Rattle.graph_updates.specs.declared.adding.Placed.{Placed}
-use Rattle.graph_updates.specs.declared.adding.Placed.TheVariants as placed
+use Rattle.graph_updates.specs.Adding.{IsNodeFor, IsNodePlaced, IsPlaceLost, MatchNode, MatchPlacing, Readies}
+use Rattle.graph_updates.specs.declared.adding.Placing.{Placing}
+use Rattle.graph_updates.specs.declared.adding.Placing.TheVariants as placed
 use Rattle.graph_updates.specs.Hands.{HoldsNoOther, HoldsSpare}
 use Rattle.graph_updates.specs.Parts.{IsReadying, may_take}
 use Rattle.graph_updates.proofs.BurialLists.{every_both, every_map}
@@ -159,8 +159,8 @@ node_gap spare v w x p z n gap = gap_makes v w n.readied.own p z
         (position_leads false v p z gap.position)
 
 -- what placing a node came to, told from before the node was taken
-pub placed_since : (r : Placed) (spare : Option Life) (v u w : View) (x : Life) (p : PositionValue)
-    → IsNodeFor spare v u x → MatchPlaced r (Some x) p u w → MatchPlaced r spare p v w
+pub placed_since : (r : Placing) (spare : Option Life) (v u w : View) (x : Life) (p : PositionValue)
+    → IsNodeFor spare v u x → MatchPlacing r (Some x) p u w → MatchPlacing r spare p v w
 placed_since (placed.Linked m) spare v u w x p n h = record {
   before = h.before;
   event = h.event;

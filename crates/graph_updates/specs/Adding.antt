@@ -25,8 +25,8 @@ use Rattle.graph_updates.specs.declared.adding.AddTried.{AddTried}
 use Rattle.graph_updates.specs.declared.adding.AddTried.TheVariants as tried
 use Rattle.graph_updates.specs.declared.adding.Adding.{Adding}
 use Rattle.graph_updates.specs.declared.adding.Adding.TheVariants as adding
-use Rattle.graph_updates.specs.declared.adding.Placed.{Placed}
-use Rattle.graph_updates.specs.declared.adding.Placed.TheVariants as placed
+use Rattle.graph_updates.specs.declared.adding.Placing.{Placing}
+use Rattle.graph_updates.specs.declared.adding.Placing.TheVariants as placed
 
 -- from a view to a later one the token took at most so many nodes and filled fresh ones, and made no other events
 pub record Readies (taken : ℕ) (v w : View) : Type 0 where
@@ -68,10 +68,10 @@ pub record IsPlaceLost (since : List Event) (spare : Option Life) (v w : View) (
   pub fell : Fell 1 w.number since w.front
 
 -- what placing a node at a position came to
-abbrev pub MatchPlaced : Placed → Option Life → PositionValue → View → View → Type 0
-MatchPlaced (placed.Linked m) spare p v w = IsNodePlaced p.key spare v w m.value
-MatchPlaced (placed.Full q) spare p v w = (q ≡ p) × ((spare ≡ None) × FoundEmpty v w)
-MatchPlaced (placed.Lost new) spare p v w = IsPlaceLost p.moment spare v w new
+abbrev pub MatchPlacing : Placing → Option Life → PositionValue → View → View → Type 0
+MatchPlacing (placed.Linked m) spare p v w = IsNodePlaced p.key spare v w m.value
+MatchPlacing (placed.Full q) spare p v w = (q ≡ p) × ((spare ≡ None) × FoundEmpty v w)
+MatchPlacing (placed.Lost new) spare p v w = IsPlaceLost p.moment spare v w new
 
 -- what a hand keeps while it places a node
 pub record IsSameBut (old new : HandValue) : Type 0 where
@@ -80,14 +80,14 @@ pub record IsSameBut (old new : HandValue) : Type 0 where
   pub retired : new.retired ≡ old.retired
 
 -- the same of a hand; its key isn't looked for
-abbrev pub MatchPlacedAt : AddTried → PositionValue → HandValue → HandValue → Type 0
-MatchPlacedAt (tried.Linked m) p old new =
+abbrev pub MatchPlacingAt : AddTried → PositionValue → HandValue → HandValue → Type 0
+MatchPlacingAt (tried.Linked m) p old new =
     IsSameBut old new × ((new.spare ≡ None) × IsNodePlaced p.key old.spare old.token.view new.token.view m.value)
-MatchPlacedAt (tried.There s) p old new = ⊥
-MatchPlacedAt (tried.Full q) p old new =
+MatchPlacingAt (tried.There s) p old new = ⊥
+MatchPlacingAt (tried.Full q) p old new =
     IsSameBut old new × ((q ≡ p) × ((old.spare ≡ None) × ((new.spare ≡ None)
     × FoundEmpty old.token.view new.token.view)))
-MatchPlacedAt tried.Lost p old new =
+MatchPlacingAt tried.Lost p old new =
     IsSameBut old new × IsPlaceLost p.moment old.spare old.token.view new.token.view new.spare
 
 -- a vertex of the key was linked, and at most one node was taken for it

@@ -6,7 +6,7 @@ ghost use Rattle.core_kept.specs.Counts.{made, most_pops};
 ghost use Rattle.core_rule.specs.Stretches.{HasPass};
 ghost use Rattle.core_stretches.specs.Holdings.{IsHeldFresh};
 ghost use Rattle.graph_table.specs.Tokens.{IsOf};
-ghost use Rattle.graph_updates.specs.Adding.{MatchAddTried, MatchAdding, MatchNode, MatchPlaced, MatchPlacedAt};
+ghost use Rattle.graph_updates.specs.Adding.{MatchAddTried, MatchAdding, MatchNode, MatchPlacing, MatchPlacingAt};
 ghost use Rattle.graph_updates.specs.Hands.{HoldsNoOther, HoldsSpare, IsHandOf, HasItsNodes};
 ghost use Rattle.graph_updates.specs.Parts.{may_take};
 ghost use Rattle.vertex_list.specs.Positions.{IsGap};
@@ -21,7 +21,7 @@ use vertex_list::{Linked, Position, Sighting, link};
 /// What became of placing a node: it's linked, and the token's moment right after that; no node was free; or another
 /// caller changed the free list or the word before the gap, and the node is handed back, if there's one.
 #[derive(Drop)]
-pub enum Placed {
+pub enum Placing {
     Linked(Snapshot<Token>),
     Full(Position),
     Lost(Option<Fresh>),
@@ -62,19 +62,19 @@ fn node_for(table: &GraphTable, token: &mut Token, spare: Option<Fresh>) -> Take
 }
 
 /// Fills a node and links it where the key is missing.
-fn link_in(table: &GraphTable, token: &mut Token, key: u32, gap: Position, fresh: Fresh) -> Placed
+fn link_in(table: &GraphTable, token: &mut Token, key: u32, gap: Position, fresh: Fresh) -> Placing
     requires table { IsOf table.now token.old }
     requires number { token.old.view.numbered ≡ true }
     requires fresh { IsHeldFresh token.old.view fresh }
     requires key { gap.key ≡ key }
     requires gap { IsGap token.old.view gap }
     ensures table { IsOf table.now token.new }
-    ensures placed { MatchPlaced result (Some fresh) gap token.old.view token.new.view }
+    ensures placed { MatchPlacing result (Some fresh) gap token.old.view token.new.view }
 {
     fill_vertex(table, token, &fresh, key, gap.word());
     match link(table, token, gap, fresh) {
-        Linked::Done(_) => Placed::Linked(Snapshot::of(&*token)),
-        Linked::Lost(fresh) => Placed::Lost(Some(fresh)),
+        Linked::Done(_) => Placing::Linked(Snapshot::of(&*token)),
+        Linked::Lost(fresh) => Placing::Lost(Some(fresh)),
     }
 }
 
@@ -85,7 +85,7 @@ pub fn place(
     spare: Option<Fresh>,
     key: u32,
     gap: Position,
-) -> Placed
+) -> Placing
     requires table { IsOf table.now token.old }
     requires number { token.old.view.numbered ≡ true }
     requires spare { HoldsSpare spare token.old.view }
@@ -94,12 +94,12 @@ pub fn place(
     requires key { gap.key ≡ key }
     requires gap { IsGap token.old.view gap }
     ensures table { IsOf table.now token.new }
-    ensures placed { MatchPlaced result spare gap token.old.view token.new.view }
+    ensures placed { MatchPlacing result spare gap token.old.view token.new.view }
 {
     match node_for(table, token, spare) {
         Taken::Node(fresh) => link_in(table, token, key, gap, fresh),
-        Taken::Empty => Placed::Full(gap),
-        Taken::Lost => Placed::Lost(None),
+        Taken::Empty => Placing::Full(gap),
+        Taken::Lost => Placing::Lost(None),
     }
 }
 
@@ -115,13 +115,13 @@ fn place_at(table: &GraphTable, hand: &mut Hand, key: u32, gap: Position) -> Add
     ensures hand { IsHandOf table.now hand.new }
     ensures pass { HasPass hand.new.token.view }
     ensures nodes { HasItsNodes hand.new }
-    ensures placed { MatchPlacedAt result gap hand.old hand.new }
+    ensures placed { MatchPlacingAt result gap hand.old hand.new }
 {
     let spare = hand.spare.take();
     match place(table, &mut hand.token, spare, key, gap) {
-        Placed::Linked(moment) => AddTried::Linked(moment),
-        Placed::Full(gap) => AddTried::Full(gap),
-        Placed::Lost(spare) => {
+        Placing::Linked(moment) => AddTried::Linked(moment),
+        Placing::Full(gap) => AddTried::Full(gap),
+        Placing::Lost(spare) => {
             hand.spare = spare;
             AddTried::Lost
         }

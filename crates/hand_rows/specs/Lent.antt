@@ -12,7 +12,7 @@ use Rattle.vertex_list.specs.declared.walks.Found.{Found}
 use Rattle.vertex_list.specs.declared.walks.Found.TheVariants.{Here, Gone, Dead}
 
 -- the token is of the table, has a number, and its pass is open
-pub record IsInPass (g : TableValue) (t : TokenValue) : Type 0 where
+pub record IsLentOpen (g : TableValue) (t : TokenValue) : Type 0 where
   pub of : IsOf g t
   pub numbered : t.view.numbered ≡ true
   pub pass : HasPass t.view

@@ -9,7 +9,7 @@ ghost use Rattle.core_rule.specs.Stretches.{HasNoFresh};
 ghost use Rattle.core_stretches.specs.Holdings.{HasNoPass};
 ghost use Rattle.graph_table.specs.Tokens.{IsOf};
 ghost use Rattle.graph_updates.specs.Hands.{IsHandOf, IsInOrder};
-ghost use Rattle.hand_rows.specs.Lent.{IsInPass, IsFilledFor, MatchLooked};
+ghost use Rattle.hand_rows.specs.Lent.{IsLentOpen, IsFilledFor, MatchLooked};
 
 use graph_kinds::{Call, Class, Outcome};
 use graph_table::{Fresh, GraphTable, Token};
@@ -26,7 +26,7 @@ pub fn enter(table: &GraphTable, hand: &mut Hand) -> Option<()>
     requires closed { HasNoPass hand.old.token.view }
     requires order { IsInOrder hand.old }
     requires bare { hand.old.spare ≡ None }
-    ensures work { IfSome result (λ _. IsInPass table.now hand.new.token) }
+    ensures work { IfSome result (λ _. IsLentOpen table.now hand.new.token) }
     ensures none { IfSome result (λ _. HasNoFresh hand.new.token.view) }
     ensures limit { IfSome result
         (λ _. made pops hand.new.token.view.number hand.new.token.view.front < most_pops) }
@@ -41,10 +41,10 @@ pub fn enter(table: &GraphTable, hand: &mut Hand) -> Option<()>
 /// Walks to a key, takes a node and fills it for the position at which the key is missing. `None` comes where the key
 /// isn't missing, or no node was taken.
 pub fn prepare(table: &GraphTable, token: &mut Token, key: u32) -> Option<(Position, Fresh)>
-    requires work { IsInPass table.now token.old }
+    requires work { IsLentOpen table.now token.old }
     requires none { HasNoFresh token.old.view }
     requires limit { made pops token.old.view.number token.old.view.front < most_pops }
-    ensures work { IsInPass table.now token.new }
+    ensures work { IsLentOpen table.now token.new }
     ensures prepared { IfSome result (λ both. IsFilledFor key token.new.view both.0 both.1) }
 {
     let first = start(table, token, key);
@@ -66,9 +66,9 @@ pub fn link_prepared(
     gap: Position,
     fresh: Fresh,
 ) -> Linked
-    requires work { IsInPass table.now token.old }
+    requires work { IsLentOpen table.now token.old }
     requires prepared { IsFilledFor key token.old.view gap fresh }
-    ensures work { IsInPass table.now token.new }
+    ensures work { IsLentOpen table.now token.new }
 {
     table.layout();
     let _key = key;
@@ -77,8 +77,8 @@ pub fn link_prepared(
 
 /// Walks to a key: a vertex that's found was met.
 pub fn look(table: &GraphTable, token: &mut Token, key: u32) -> Found
-    requires work { IsInPass table.now token.old }
-    ensures work { IsInPass table.now token.new }
+    requires work { IsLentOpen table.now token.old }
+    ensures work { IsLentOpen table.now token.new }
     ensures looked { MatchLooked result token.new.view }
 {
     let first = start(table, token, key);
@@ -88,10 +88,10 @@ pub fn look(table: &GraphTable, token: &mut Token, key: u32) -> Found
 /// Marks a vertex that was met, and tells whether the mark was there before; if it was, the removal is answered Absent,
 /// right behind the first mark.
 pub fn mark_or_answer(table: &GraphTable, token: &mut Token, key: u32, life: Life) -> bool
-    requires work { IsInPass table.now token.old }
+    requires work { IsLentOpen table.now token.old }
     requires vertex { MetVertex token.old.view life }
     ensures table { IsOf table.now token.new }
-    ensures work { result ≡ false → IsInPass table.now token.new }
+    ensures work { result ≡ false → IsLentOpen table.now token.new }
     ensures vertex { result ≡ false → MetVertex token.new.view life }
 {
     let begun = Snapshot::of(&*token);

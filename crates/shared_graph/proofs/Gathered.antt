@@ -16,7 +16,7 @@ use Rattle.core_rule.specs.declared.view.View.{View}
 use Rattle.graph_table.specs.Tokens.{TableValue, TokenValue}
 use Rattle.shared_graph.specs.Callers.{CallerValue, HasCaller, HoldsEach, IsBetweenCalls, IsCallerOf, LooksOn}
 use Rattle.shared_graph.specs.Callers.{book_in, front_of}
-use Rattle.shared_graph.specs.Gathering.{AreBetweenCalls, AreCallersOf, HasMet, LookOnEach}
+use Rattle.shared_graph.specs.Gathering.{AreBetweenCalls, AreCallersOf, FirstHasMet, LookOnEach}
 use Rattle.shared_graph.specs.Joining.{AreClosedBy, HasThisAccount, IsJoined}
 use Rattle.shared_graph.specs.Closing.{IsClosedAs, IsReadBetween}
 use Rattle.shared_graph.proofs.Closed.{ended, no_longer, whole_front}
@@ -73,8 +73,8 @@ between_more xs ys n old same new i d low = ⊎_elim
 
 -- one more caller was met
 pub met_more : (xs ys zs : List CallerValue) (n : ℕ) → 0 < length xs → LookOnEach xs ys → LookOnEach ys zs
-    → n < length xs → ((i : ℕ) → i < n → HasMet xs ys i) → HasMet ys zs n
-    → (i : ℕ) → i < n + 1 → HasMet xs zs i
+    → n < length xs → ((i : ℕ) → i < n → FirstHasMet xs ys i) → FirstHasMet ys zs n
+    → (i : ℕ) → i < n + 1 → FirstHasMet xs zs i
 met_more xs ys zs n some first second room old new i low d e = ⊎_elim
     (λ (l : i < n). prefix_trans (front_of (get_or xs i d)) (front_of (get_or ys 0 e)) (front_of (get_or zs 0 e))
     (old i l d e) (second.each 0 e (let count = first.count in omega (arith, some, count))).grows)
@@ -176,7 +176,7 @@ gathered_whole g xs t front h between z met begins =
 
 -- the first caller, which had met all others, read a graph
 pub read_between : (xs ys : List CallerValue) (a b : CallerValue) (g : Graph) → 0 < length xs → LookOnEach xs ys
-    → ((i : ℕ) → i < length xs → HasMet xs ys i) → ((d : CallerValue) → get_or ys 0 d ≡ b) → LooksOn b a
+    → ((i : ℕ) → i < length xs → FirstHasMet xs ys i) → ((d : CallerValue) → get_or ys 0 d ≡ b) → LooksOn b a
     → (front_of a ≡ front_of b → g ≡ graph_of (front_of b)) → IsReadBetween xs (set ys 0 a) g
 read_between xs ys a b g some looks met at later graph =
     let room : 0 < length ys = let n = looks.count in omega (arith, some, n) in

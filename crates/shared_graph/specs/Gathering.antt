@@ -18,6 +18,6 @@ pub record LookOnEach (old new : List CallerValue) : Type 0 where
   pub each : (i : ℕ) (d : CallerValue) → i < length old → LooksOn (slice_index_or old i d) (slice_index_or new i d)
 
 -- what a caller saw before, the first one has seen now
-abbrev pub HasMet : List CallerValue → List CallerValue → ℕ → Type 0
-HasMet old new i =
+abbrev pub FirstHasMet : List CallerValue → List CallerValue → ℕ → Type 0
+FirstHasMet old new i =
     (d e : CallerValue) → IsPrefix (front_of (slice_index_or old i d)) (front_of (slice_index_or new 0 e))

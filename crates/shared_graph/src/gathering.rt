@@ -4,7 +4,7 @@ ghost use Rattle.std.specs.Prelude.{◌≡◌, ◌≢◌, ◌<◌, ℕ, IfOk, le
 ghost use Rattle.core_journal.specs.GraphOf.{graph_of};
 ghost use Rattle.shared_graph.specs.Callers.{CallerValue, IsBetweenCalls, IsCallerOf, LooksOn, front_of};
 ghost use Rattle.shared_graph.specs.Closing.{IsReadBetween};
-ghost use Rattle.shared_graph.specs.Gathering.{AreBetweenCalls, AreCallersOf, HasMet, LookOnEach};
+ghost use Rattle.shared_graph.specs.Gathering.{AreBetweenCalls, AreCallersOf, FirstHasMet, LookOnEach};
 
 use crate::caller::Caller;
 use crate::graph::SharedGraph;
@@ -21,7 +21,7 @@ impl SharedGraph {
         ensures callers { AreCallersOf self.now callers.new }
         ensures between { AreBetweenCalls callers.old }
         ensures looks { LookOnEach callers.old callers.new }
-        ensures met { (i : ℕ) → i < length callers.old → HasMet callers.old callers.new i }
+        ensures met { (i : ℕ) → i < length callers.old → FirstHasMet callers.old callers.new i }
     {
         for number in 0..callers.len() {
             self.gather_one(callers, number);
@@ -35,7 +35,7 @@ impl SharedGraph {
         ensures callers { AreCallersOf self.now callers.new }
         ensures between { (d : CallerValue) → IsBetweenCalls (slice_index_or callers.old number d).hand }
         ensures looks { LookOnEach callers.old callers.new }
-        ensures met { HasMet callers.old callers.new number }
+        ensures met { FirstHasMet callers.old callers.new number }
         ensures others { (i : ℕ) (d : CallerValue) → 0 < i → i ≢ number
             → slice_index_or callers.new i d ≡ slice_index_or callers.old i d }
     {

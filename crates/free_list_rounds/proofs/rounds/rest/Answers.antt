@@ -1,5 +1,5 @@
 use Rattle.std.proofs.Common.{ap, arith, subst, sym}
-use Rattle.free_list_rounds.specs.Rounds.{CallerValue, IsBetweenRounds}
+use Rattle.free_list_rounds.specs.Rounds.{WorkerValue, IsBetweenRounds}
 use Rattle.free_list_rounds.proofs.rounds.rest.Goals as goal
 
 pub returns-clause-between : goal.returns-clause-between
@@ -32,5 +32,5 @@ settle-gave-requires-clause-limit c =
     let between = subst IsBetweenRounds (sym c.caller.view_is) c.requires.between in
     let k = between.made.moved in
     let left = c.requires.left in
-    let same = ap (λ (k : CallerValue). k.rounds) c.caller.view_is in
+    let same = ap (λ (k : WorkerValue). k.rounds) c.caller.view_is in
     omega (arith, k, left, same)

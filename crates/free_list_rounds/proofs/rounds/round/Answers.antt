@@ -1,20 +1,20 @@
 use Rattle.std.proofs.Common.{ap, arith, subst, sym}
 use Rattle.graph_table.specs.Tokens.{IsOf}
-use Rattle.free_list_rounds.specs.Rounds.{CallerValue, IsBetweenRounds}
+use Rattle.free_list_rounds.specs.Rounds.{WorkerValue, IsBetweenRounds}
 use Rattle.free_list_rounds.proofs.PassesTell.{closed, opened}
 use Rattle.free_list_rounds.proofs.WorkGoesOn.{counts_chain, counts_same}
 use Rattle.free_list_rounds.proofs.rounds.round.Goals as goal
 
 pub build-spare-requires-clause-spare : goal.build-spare-requires-clause-spare
 build-spare-requires-clause-spare c =
-    let of = subst (λ (k : CallerValue). IsOf c.args.table.now k.token) (sym c.caller.view_is) c.requires.table in
+    let of = subst (λ (k : WorkerValue). IsOf c.args.table.now k.token) (sym c.caller.view_is) c.requires.table in
     let between = subst IsBetweenRounds (sym c.caller.view_is) c.requires.between in
     (opened c.caller.inside.token.view c.open_pass.new.token.view
     of.layout c.open_pass.ensures.opened).spares c.caller.inside.spare between.spare
 
 pub build-spare-requires-clause-limit : goal.build-spare-requires-clause-limit
 build-spare-requires-clause-limit c =
-    let of = subst (λ (k : CallerValue). IsOf c.args.table.now k.token) (sym c.caller.view_is) c.requires.table in
+    let of = subst (λ (k : WorkerValue). IsOf c.args.table.now k.token) (sym c.caller.view_is) c.requires.table in
     let between = subst IsBetweenRounds (sym c.caller.view_is) c.requires.between in
     let o = opened c.caller.inside.token.view c.open_pass.new.token.view of.layout
     c.open_pass.ensures.opened in
@@ -22,12 +22,12 @@ build-spare-requires-clause-limit c =
     let made = between.made.taken in
     let few = between.few_taken in
     let left = c.requires.left in
-    let same = ap (λ (k : CallerValue). k.rounds) c.caller.view_is in
+    let same = ap (λ (k : WorkerValue). k.rounds) c.caller.view_is in
     omega (arith, k, made, few, left, same)
 
 pub clear-requires-clause-work : goal.clear-requires-clause-work
 clear-requires-clause-work c =
-    let of = subst (λ (k : CallerValue). IsOf c.args.table.now k.token) (sym c.caller.view_is) c.requires.table in
+    let of = subst (λ (k : WorkerValue). IsOf c.args.table.now k.token) (sym c.caller.view_is) c.requires.table in
     let between = subst IsBetweenRounds (sym c.caller.view_is) c.requires.between in
     let o = opened c.caller.inside.token.view c.open_pass.new.token.view of.layout
     c.open_pass.ensures.opened in
@@ -39,7 +39,7 @@ settle-gave-requires-clause-work c = (closed c.clear.new.token.view c.close_pass
 
 pub settle-gave-requires-clause-limit : goal.settle-gave-requires-clause-limit
 settle-gave-requires-clause-limit c =
-    let of = subst (λ (k : CallerValue). IsOf c.args.table.now k.token) (sym c.caller.view_is) c.requires.table in
+    let of = subst (λ (k : WorkerValue). IsOf c.args.table.now k.token) (sym c.caller.view_is) c.requires.table in
     let between = subst IsBetweenRounds (sym c.caller.view_is) c.requires.between in
     let o = opened c.caller.inside.token.view c.open_pass.new.token.view of.layout
     c.open_pass.ensures.opened in
@@ -51,12 +51,12 @@ settle-gave-requires-clause-limit c =
     let last = s.counts.moved in
     let k = between.made.moved in
     let left = c.requires.left in
-    let same = ap (λ (k : CallerValue). k.rounds) c.caller.view_is in
+    let same = ap (λ (k : WorkerValue). k.rounds) c.caller.view_is in
     omega (arith, first, built, cleared, last, k, left, same)
 
 pub returns-clause-between : goal.returns-clause-between
 returns-clause-between c =
-    let of = subst (λ (k : CallerValue). IsOf c.args.table.now k.token) (sym c.caller.view_is) c.requires.table in
+    let of = subst (λ (k : WorkerValue). IsOf c.args.table.now k.token) (sym c.caller.view_is) c.requires.table in
     let between = subst IsBetweenRounds (sym c.caller.view_is) c.requires.between in
     let o = opened c.caller.inside.token.view c.open_pass.new.token.view of.layout
     c.open_pass.ensures.opened in

@@ -1,11 +1,11 @@
 use Rattle.std.proofs.Common.{ap, arith, refl}
-use Rattle.free_list_rounds.specs.Rounds.{CallerValue}
+use Rattle.free_list_rounds.specs.Rounds.{WorkerValue}
 use Rattle.free_list_rounds.proofs.rounds.run_until.Goals as goal
 
 pub returns-then-has_turned_over-clause-turned_over : goal.returns-then-has_turned_over-clause-turned_over
 returns-then-has_turned_over-clause-turned_over c =
-    let taken = ap (λ (k : CallerValue). k.taken) c.caller.view_is in
-    let given = ap (λ (k : CallerValue). k.given) c.caller.view_is in
+    let taken = ap (λ (k : WorkerValue). k.taken) c.caller.view_is in
+    let given = ap (λ (k : WorkerValue). k.given) c.caller.view_is in
     let reached = c.if-has_turned_over.ensures.reached.0 refl in
     let rounds = c.loop.invariant.rounds in
     let test = c.loop-test.true in

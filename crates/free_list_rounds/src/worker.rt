@@ -1,4 +1,4 @@
-//! A caller between two of its rounds.
+//! A caller at work, between two of its rounds.
 
 ghost use Rattle.std.specs.Prelude.{◌≡◌, ◌+◌, ◌<◌, ◌≤◌, ◌^◌, ◌↔◌, [], true, false, IsTrue};
 ghost use Rattle.free_list_rounds.specs.Rounds.{IsBetweenRounds};
@@ -8,10 +8,10 @@ use epoch_limbo::Limbo;
 use graph_table::{Fresh, GraphTable, Token};
 use std::marker::Model;
 
-/// A caller: its token, the nodes that it spent, the node that it took and didn't link yet, how many rounds it has
-/// made, and how many nodes it has taken from the free list and given back.
+/// A caller at work: its token, the nodes that it spent, the node that it took and didn't link yet, how many rounds it
+/// has made, and how many nodes it has taken from the free list and given back.
 #[derive(Drop)]
-pub struct Caller {
+pub struct Worker {
     pub(crate) token: Token,
     pub(crate) limbo: Limbo,
     pub(crate) spare: Option<Fresh>,
@@ -20,10 +20,10 @@ pub struct Caller {
     pub(crate) given: u64,
 }
 
-impl Model for Caller {
-    ghost use Rattle.free_list_rounds.specs.Rounds.{CallerValue};
+impl Model for Worker {
+    ghost use Rattle.free_list_rounds.specs.Rounds.{WorkerValue};
 
-    ghost Value = { CallerValue };
+    ghost Value = { WorkerValue };
 
     ghost view = { λ c. record {
       token = c.token;
@@ -35,7 +35,7 @@ impl Model for Caller {
     } };
 }
 
-impl Caller {
+impl Worker {
     /// How many nodes it holds: those in limbo and the spare one, in O(1).
     pub fn held(&self) -> u64
         ensures limit { result ≤ 2 ^ 32 }
@@ -71,7 +71,7 @@ impl Caller {
 
 /// A token draws its number and becomes a caller that has made no round; another token is split off it, with the right
 /// to draw the next number. The limbo is empty and has room for all nodes.
-pub fn enter(table: &GraphTable, token: Token, limbo: Limbo) -> (Caller, Token)
+pub fn enter(table: &GraphTable, token: Token, limbo: Limbo) -> (Worker, Token)
     requires table { IsOf table.now token }
     requires right { token.view.draws ≡ true }
     requires none { token.view.numbered ≡ false }
@@ -91,7 +91,7 @@ pub fn enter(table: &GraphTable, token: Token, limbo: Limbo) -> (Caller, Token)
     let mut token = token;
     table.draw_number(&mut token);
     let other = table.split_token(&mut token);
-    let caller = Caller {
+    let caller = Worker {
         token,
         limbo,
         spare: None,

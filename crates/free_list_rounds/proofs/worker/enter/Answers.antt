@@ -1,7 +1,7 @@
 use Rattle.std.proofs.Common.{◌≤◌, subst, sym}
 use Rattle.packed_link.specs.Layout.{Sizes}
 use Rattle.free_list_rounds.proofs.FirstRound.{entered}
-use Rattle.free_list_rounds.proofs.caller.enter.Goals as goal
+use Rattle.free_list_rounds.proofs.worker.enter.Goals as goal
 
 pub returns-clause-between : goal.returns-clause-between
 returns-clause-between c = entered c.args.token.view c.draw_number.new.token.view c.draw_number.result
