@@ -7,9 +7,6 @@ use epoch_limbo::Limbo;
 use graph_table::{GraphTable, Token};
 use packed_link::{Layout, Link};
 
-// The index that leads to no node.
-const NOWHERE: u32 = 16_777_215;
-
 // How many nodes each of two callers takes and gives back on its thread.
 const GOAL: u32 = 1000;
 
@@ -58,7 +55,7 @@ fn one_caller_takes_and_gives_back(rt: HostRuntime) {
     assert_eq!(rt; (caller.taken(), caller.given()), (1000, 1000));
     assert_eq!(rt; changes(&table, &mut watcher), 2000);
     assert_eq!(rt; caller.held(), 0);
-    assert_eq!(rt; free_nodes(&table, &mut watcher), (255, NOWHERE));
+    assert_eq!(rt; free_nodes(&table, &mut watcher), (255, Link::NONE.index()));
 }
 
 #[test]
@@ -100,5 +97,5 @@ fn two_callers_on_threads_take_and_give_back(rt: HostRuntime) {
     let one = rest(&table, one);
     let two = rest(&table, two);
     assert_eq!(rt; [one.held(), two.held()], [0, 0]);
-    assert_eq!(rt; free_nodes(&table, &mut watcher), (255, NOWHERE));
+    assert_eq!(rt; free_nodes(&table, &mut watcher), (255, Link::NONE.index()));
 }
