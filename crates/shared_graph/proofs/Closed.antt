@@ -11,7 +11,7 @@ use Rattle.core_journal.specs.History.{HasBook}
 use Rattle.core_journal.specs.Prefix.{IsPrefix}
 use Rattle.core_journal.specs.Right.{IsBookOf}
 use Rattle.core_journal.proofs.Laws.{history_legal}
-use Rattle.core_journal.proofs.Lists.{prefix_trans, prefix_refl, every_append, get_here}
+use Rattle.core_journal.proofs.Lists.{prefix_length, prefix_trans, prefix_refl, every_append, get_here}
 use Rattle.core_journal.proofs.Onward.{book_more}
 use Rattle.core_kept.specs.Kept.{IsKept, IsQuiet}
 use Rattle.core_kept.proofs.Callers.{called}
@@ -21,7 +21,7 @@ use Rattle.core_rule.specs.Plays.{Met, both_fronts}
 use Rattle.core_rule.specs.Rule.{AnswersForCallers, HasAccount, accounts, own_account}
 use Rattle.core_rule.specs.declared.view.View.{View}
 use Rattle.graph_table.specs.Tokens.{TableValue, TokenValue, IsOf}
-use Rattle.shared_graph.specs.Callers.{CallerValue, HasCaller, HoldsEach, IsBetweenCalls, IsCallerOf, IsEnded}
+use Rattle.shared_graph.specs.Callers.{CallerValue, HasAllOf, HasCaller, HoldsEach, IsBetweenCalls, IsCallerOf, IsEnded}
 use Rattle.shared_graph.specs.Callers.{IsFrontOfOne, book_in, front_of}
 use Rattle.shared_graph.specs.Joining.{AreClosedBy, HasThisAccount, IsJoined}
 
@@ -189,6 +189,15 @@ module _ (g : TableValue) (cs : List CallerValue) (t : TokenValue) (h : HoldsEac
   fronts_seen [] all = tt
   fronts_seen (d ∷ ds) all = (all.0.seen, fronts_seen ds all.1)
 
+  has_all : (ds : List CallerValue) → Every (IsJoined v) ds → Every (HasAllOf v.front) ds
+  has_all [] all = tt
+  has_all (d ∷ ds) all =
+      let old = all.0.between.hand.of.sound.old all.0.between.hand.numbered in
+      let n = prefix_length (front_of d) v.front all.0.seen in (
+        record { last = omega (arith, old, n); quiet = quiet_of d all.0 },
+        has_all ds all.1,
+      )
+
   has_book : (number : ℕ) (ds : List CallerValue) → HasCaller ds number → HasBook number (map book_in ds)
   has_book number [] l = absurd l
   has_book number (d ∷ ds) l = ⊎_elim (λ (e : d.hand.token.view.number ≡ number). inl e)
@@ -263,6 +272,7 @@ module _ (g : TableValue) (cs : List CallerValue) (t : TokenValue) (h : HoldsEac
       record {
         longest = longest;
         seen = fronts_seen cs z.joined;
+        whole = has_all cs z.joined;
         regular = regular g.sizes layout v.front kept;
         books = books;
         closed = record { has = λ p e at turns. has_book e.caller cs (has_caller p e at) };

@@ -1,5 +1,5 @@
 -- What contracts see of a shared graph and of its callers.
-use Rattle.std.specs.Prelude.{◌≡◌, ◌⊎◌, ℕ, ◌-◌, ◌^◌, ◌<◌, List, [], ◌∷◌, length, map}
+use Rattle.std.specs.Prelude.{◌≡◌, ◌⊎◌, ℕ, ◌-◌, ◌^◌, ◌<◌, ◌≤◌, List, [], ◌∷◌, length, map}
 use Rattle.graph_kinds.specs.History.{Every, IsLegal}
 use Rattle.graph_kinds.specs.declared.answer.Answer.{Answer}
 use Rattle.graph_kinds.specs.declared.outcome.Outcome.{Outcome}
@@ -9,6 +9,7 @@ use Rattle.core_journal.specs.GraphOf.{graph_of, IsRegular}
 use Rattle.core_journal.specs.History.{history, IsClosed}
 use Rattle.core_journal.specs.Prefix.{IsPrefix}
 use Rattle.core_journal.specs.Right.{CallersApart, IsBookOf}
+use Rattle.core_kept.specs.Kept.{IsQuiet}
 use Rattle.core_stretches.specs.Holdings.{HasNoPass}
 use Rattle.graph_table.specs.Tokens.{TableValue}
 use Rattle.graph_updates.specs.Hands.{HandValue, IsHandOf, IsInOrder, book_of}
@@ -88,12 +89,19 @@ abbrev pub IsFrontOfOne : List CallerValue → List Event → Type 0
 IsFrontOfOne [] journal = ⊥
 IsFrontOfOne (c ∷ cs) journal = (front_of c ≡ journal) ⊎ IsFrontOfOne cs journal
 
--- what is known when all callers have ended: the journal is the longest of their fronts, and regular; their books are
--- true of it, so that each entry is right and framed and each event that changes the graph has just one own entry; no
--- other caller's event stands in it; and the history of it and all books is legal and ends in its graph
+-- a journal has all that a caller did: its last event, as its token knows it, and no event of it behind that
+pub record HasAllOf (journal : List Event) (c : CallerValue) : Type 0 where
+  pub last : c.hand.token.view.last ≤ length journal
+  pub quiet : IsQuiet journal c.hand.token.view.number c.hand.token.view.last
+
+-- what is known when all callers have ended: the journal is the longest of their fronts, has all that each did, and is
+-- regular; their books are true of it, so that each entry is right and framed and each event that changes the graph has
+-- just one own entry; no other caller's event stands in it; and the history of it and all books is legal and ends in
+-- its graph
 pub record IsEnded (g : TableValue) (cs : List CallerValue) (journal : List Event) : Type 0 where
   pub longest : IsFrontOfOne cs journal
   pub seen : Every (λ (c : CallerValue). IsPrefix (front_of c) journal) cs
+  pub whole : Every (HasAllOf journal) cs
   pub regular : IsRegular journal
   pub books : Every (IsBookOf g.sizes journal) (map book_in cs)
   pub closed : IsClosed journal (map book_in cs)
