@@ -1,3 +1,6 @@
+pub mod Along
+pub mod Shares
+pub mod Shown
 pub mod Lines
 pub mod Inputs
 pub mod Runs

@@ -1,7 +1,7 @@
 -- What is written for rows is what their command asks.
 use Rattle.std.proofs.Common.{◌≡◌, ℕ, ◌<◌, List, [], ◌∷◌, length, take, get_or, refl, sym, subst, arith}
 use Rattle.std.proofs.Math.Seq.{take-length}
-use Rattle.std.specs.Prelude.{Option, Some, None, IfSome, Ok, zero, suc}
+use Rattle.std.specs.Prelude.{Option, Some, None, IfSome, IfOk, Ok, Err, Result, zero, suc}
 use Rattle.std.specs.Prelude.{All}
 use Rattle.graph_kinds.specs.declared.call.Call.{Call}
 use Rattle.graph_kinds.specs.declared.call.Row.{Row}
@@ -21,7 +21,7 @@ use Rattle.op_text.proofs.TextPieces.{first-part}
 use Rattle.graph_tool.specs.Status.{IfWriteFault}
 use Rattle.graph_tool.specs.Command.{command_of}
 use Rattle.graph_tool.specs.Input.{TakesAtMost, most_bytes}
-use Rattle.graph_tool.specs.Run.{Asks, Writes, replayed, callers}
+use Rattle.graph_tool.specs.Run.{Asks, RunsAlone, Writes, replayed, callers}
 use Rattle.graph_tool.specs.declared.status.Status.{Status}
 use Rattle.graph_tool.specs.declared.status.Status.TheVariants.{Done, Usage, BadRow, ReadFault, WriteFault, Memory}
 use Rattle.graph_tool.specs.declared.status.UsageCause.TheVariants.{InputTooLong}
@@ -53,19 +53,30 @@ writes Run asked = record {
 }
 writes Replay asked = refl
 
--- the text of replies and a graph that the rows in input order give
-pub asks : (words : List (String Global)) (bytes : List ℕ) (command : Command) (asked : List Row)
-    (replies : List Answer) (graph : Graph)
-    → command_of words ≡ Ok command → rows callers bytes ≡ Ok asked → replies ≡ answers empty_graph (calls_of asked)
-    → graph ≡ after_all empty_graph (calls_of asked)
-    → Asks words bytes (text replies graph)
-asks words bytes command asked replies graph accepted read replies_are graph_is = record {
+-- the text of the rows in input order is what was written for either command
+pub replays : (command : Command) (asked : List Row) (replies : List Answer) (graph : Graph)
+    → replies ≡ answers empty_graph (calls_of asked) → graph ≡ after_all empty_graph (calls_of asked)
+    → Writes command asked (text replies graph)
+replays command asked replies graph replies_are graph_is =
+    subst (λ (t : List ℕ). Writes command asked t) (sym (λ i. text (replies_are i) (graph_is i)))
+    (writes command asked)
+
+-- what follows from two facts of a result, where it has one
+pub if_both : {A E : Type 0} (P Q R : A → Type 0) (r : Result A E) → IfOk r P → IfOk r Q → ((a : A) → P a → Q a → R a)
+    → IfOk r R
+if_both P Q R (Ok a) p q f = f a p q
+if_both P Q R (Err e) p q f = tt
+
+-- what is written for the rows of the bytes is what the words ask
+pub asks : (words : List (String Global)) (bytes written : List ℕ) (command : Command) (asked : List Row)
+    → command_of words ≡ Ok command → rows callers bytes ≡ Ok asked → Writes command asked written
+    → Asks words bytes written
+asks words bytes written command asked accepted read written_is = record {
   command = command;
   accepted = accepted;
   asked = asked;
   read = read;
-  text_is = subst (λ (t : List ℕ). Writes command asked t) (sym (λ i. text (replies_are i) (graph_is i)))
-      (writes command asked);
+  text_is = written_is;
 }
 
 -- where at most the limit was taken, not more was
@@ -91,12 +102,22 @@ puts_all old mid new bytes put same = (
       (subst (Puts old mid) (sym (take-length bytes)) put),
 )
 
--- what was put for the answers of the rows in input order
-pub puts_replayed : (old new : Option (List ℕ)) (asked : List Row) (replies : List Answer) (graph : Graph)
-    → replies ≡ answers empty_graph (calls_of asked) → graph ≡ after_all empty_graph (calls_of asked)
-    → Puts old new (text replies graph) → Puts old new (replayed asked)
-puts_replayed old new asked replies graph replies_are graph_is = subst (Puts old new)
-    (λ i. text (replies_are i) (graph_is i))
+-- what two results are that are one
+ok-same : {A E : Type 0} (a b : A) → (r : Result A E) → r ≡ Ok a → r ≡ Ok b → a ≡ b
+ok-same a b r is was = cc
+
+-- what was put for rows that are answered in input order
+pub puts_alone : (words : List (String Global)) (bytes : List ℕ) (old new : Option (List ℕ)) (command : Command)
+    (asked : List Row) (written : List ℕ) → command_of words ≡ Ok command → rows callers bytes ≡ Ok asked
+    → (RunsAlone command asked → written ≡ replayed asked) → Puts old new written
+    → (command' : Command) (asked' : List Row) → command_of words ≡ Ok command' → rows callers bytes ≡ Ok asked'
+    → RunsAlone command' asked' → Puts old new (replayed asked')
+puts_alone words bytes old new command asked written accepted read alone put command' asked' accepted' read' alone' =
+    let one : command' ≡ command = ok-same command' command (command_of words) accepted' accepted in
+    let same : asked' ≡ asked = ok-same asked' asked (rows callers bytes) read' read in
+    subst (λ (xs : List Row). Puts old new (replayed xs)) (sym same)
+    (subst (Puts old new) (alone (subst (λ (k : Command). RunsAlone k asked) one
+    (subst (λ (xs : List Row). RunsAlone command' xs) same alone'))) put)
 
 -- where a longer input can't end Done, it can't end otherwise behind it
 pub never_done : (old : Option (List ℕ)) (P : Type 0) (s : Status) (n : ℕ) → IfSome old

@@ -1,5 +1,5 @@
 -- What a command writes for the rows of its input.
-use Rattle.std.specs.Prelude.{◌≡◌, ℕ, List, Option, Ok, Err, IsOk, IfSome, true, false, ◌+◌, ◌≤◌, length, Bool}
+use Rattle.std.specs.Prelude.{◌≡◌, ℕ, All, List, Option, Ok, Err, IsOk, IfSome, true, false, ◌+◌, ◌≤◌, length, Bool}
 use Rattle.std.specs.declared.string.String.{String}
 use Rattle.std.proofs.Common.{Global}
 use Rattle.graph_kinds.specs.declared.call.Row.{Row}
@@ -10,6 +10,7 @@ use Rattle.graph_kinds.specs.History.{Item, IsInterleaving, IsLegal, calls_of}
 use Rattle.op_text.specs.Rows.{rows}
 use Rattle.op_text.specs.Text.{text}
 use Rattle.graph_kinds.specs.Stream.{Rose, TakesMany}
+use Rattle.shared_graph.specs.Performing.{IsVertexCall}
 use Rattle.graph_tool.specs.Command.{command_of}
 use Rattle.graph_tool.specs.Input.{TakesAtMost, most_bytes}
 use Rattle.graph_tool.specs.declared.status.Status.{Status}
@@ -39,6 +40,16 @@ replayed asked = text (answers empty_graph (calls_of asked)) (after_all empty_gr
 abbrev pub Writes : Command → List Row → List ℕ → Type 0
 Writes Run asked written = IsRun asked written
 Writes Replay asked written = written ≡ replayed asked
+
+-- all rows are of vertices
+abbrev pub AreOfVertices : List Row → Type 0
+AreOfVertices asked = All (λ (r : Row). IsVertexCall r.call) asked
+
+-- rows that are answered in input order on the graph of one caller: all rows of replay, and those of run unless all
+-- are of vertices
+abbrev pub RunsAlone : Command → List Row → Type 0
+RunsAlone Replay asked = Unit {0}
+RunsAlone Run asked = AreOfVertices asked → ⊥
 
 -- the words are a command
 abbrev pub IsAccepted : List (String Global) → Type 0

@@ -8,11 +8,13 @@ ghost use Rattle.op_text.specs.Rows.{rows};
 ghost use Rattle.op_text.specs.declared.rows.RowCause.{RowCause};
 ghost use Rattle.graph_tool.specs.Command.{command_of};
 ghost use Rattle.graph_tool.specs.Input.{most_bytes};
-ghost use Rattle.graph_tool.specs.Run.{Asks, IsAccepted, callers, replayed};
+ghost use Rattle.graph_tool.specs.Run.{Asks, IsAccepted, RunsAlone, callers, replayed};
 ghost use Rattle.graph_tool.specs.Status.{IfDone, IfUsage, IfBadRow, IfReadFault, IfWriteFault, UnlessMemory};
 ghost use Rattle.graph_tool.specs.Status.{UnlessWriting};
+ghost use Rattle.graph_tool.specs.declared.command.Command.{Command};
 ghost use Rattle.graph_tool.specs.declared.status.UsageCause.{UsageCause};
 
+use crate::gate::Gate;
 use crate::graph_main::graph_main;
 use crate::status::{Status, UsageCause};
 use graph_kinds::{Sink, Source};
@@ -27,18 +29,19 @@ use std::thread::Threads;
 /// # Errors
 /// Those of `graph_main`, exactly where they come there; and `WriteFault` where the last piece can't be handed
 /// on, only where the count of faults of the sink behind rose.
-pub fn graph_main_in_pieces<R: Threads + Sync, S: Source, K: Sink>(
+pub fn graph_main_in_pieces<R: Threads + Sync, S: Source, K: Sink, G: Gate>(
     rt: &R,
     alloc: Global,
     words: &[String],
     source: &mut S,
     sink: &mut Pieces<K>,
+    gate: &G,
 ) -> Status
     ensures done { IfDone result (IfSome (S.rest source.old) (λ bytes. (written : List ℕ)
         × Asks words.now bytes written × Puts (given K.taken sink.old) (K.taken (inner sink.new)) written)) }
-    ensures in_order { IfDone result (IfSome (S.rest source.old) (λ bytes. (asked : List Row)
-        × (rows callers bytes ≡ Ok asked)
-        × Puts (given K.taken sink.old) (K.taken (inner sink.new)) (replayed asked))) }
+    ensures in_order { IfDone result (IfSome (S.rest source.old) (λ bytes. (command : Command) (asked : List Row)
+        → command_of words.now ≡ Ok command → rows callers bytes ≡ Ok asked → RunsAlone command asked
+        → Puts (given K.taken sink.old) (K.taken (inner sink.new)) (replayed asked))) }
     ensures end { IfDone result (S.ended source.new ≡ true) }
     ensures usage { IfUsage result (λ cause. (cause ≡ UsageCause.InputTooLong) ⊎ (command_of words.now ≡ Err cause)) }
     ensures refused { (cause : UsageCause) → command_of words.now ≡ Err cause → result ≡ Status.Usage cause }
@@ -73,7 +76,7 @@ pub fn graph_main_in_pieces<R: Threads + Sync, S: Source, K: Sink>(
         → (Rose (K.faults (inner sink.old)) (K.faults (inner sink.new)) → ⊥)
         → UnlessMemory result (result ≡ Status.Done)) }
 {
-    match graph_main(rt, alloc, words, source, sink) {
+    match graph_main(rt, alloc, words, source, sink, gate) {
         Status::Done => match sink.flush() {
             Ok(()) => Status::Done,
             Err(_) => Status::WriteFault,

@@ -3,13 +3,17 @@
 #![tactic(auto)]
 
 mod command;
+mod gate;
+mod gated;
 mod graph_main;
 mod in_pieces;
 mod input;
+mod on_callers;
 mod output;
 mod status;
 mod streams;
 
+use crate::gate::OpenGate;
 use crate::in_pieces::graph_main_in_pieces;
 use crate::status::Status;
 use crate::streams::{ReadSource, WriteSink};
@@ -44,8 +48,17 @@ fn run<R: Env + Input + Print + AllocGlobal + Threads + Sync>(rt: &R) -> Status 
         Ok(sink) => sink,
         Err(_) => return Status::Memory,
     };
-    graph_main_in_pieces(rt, alloc, words.as_slice(), &mut source, &mut sink)
+    graph_main_in_pieces(
+        rt,
+        alloc,
+        words.as_slice(),
+        &mut source,
+        &mut sink,
+        &OpenGate,
+    )
 }
 
+#[cfg(test)]
+mod caller_tests;
 #[cfg(test)]
 mod tests;

@@ -9,6 +9,7 @@ ghost use Rattle.graph_tool.specs.Input.{most_bytes};
 ghost use Rattle.graph_tool.specs.Run.{IsAccepted, callers};
 ghost use Rattle.graph_tool.specs.Status.{UnlessMemory};
 
+use crate::gate::{Gate, OpenGate};
 use crate::graph_main::graph_main;
 use crate::in_pieces::graph_main_in_pieces;
 use crate::status::{Status, UsageCause};
@@ -41,7 +42,7 @@ fn run_on<R: Threads + Sync + AllocGlobal>(
     let words = words_of(rt, words)?;
     let mut source = MemSource::new(input.to_vec(alloc)?, ROOM, Vec::new(alloc));
     let mut sink = MemSink::new(alloc, ROOM, ROOM, Vec::new(alloc))?;
-    let status = graph_main(rt, alloc, words.as_slice(), &mut source, &mut sink);
+    let status = graph_main(rt, alloc, words.as_slice(), &mut source, &mut sink, &OpenGate);
     Ok((status, sink))
 }
 
@@ -60,7 +61,7 @@ fn run_counted<R: Threads + Sync>(
         → rows callers (bytes_left source.old) ≡ Ok asked → result.1 ≡ true
         → UnlessMemory result.0 (result.0 ≡ Status.Done) }
 {
-    let status = graph_main(rt, alloc, words, source, sink);
+    let status = graph_main(rt, alloc, words, source, sink, &OpenGate);
     let faultless = source.faults() == 0 && sink.faults() == 0;
     (status, faultless)
 }
@@ -114,7 +115,7 @@ fn worked_rows_give_their_lines(rt: HostRuntime) -> Result<(), Fail> {
                 .as_slice(),
         ),
         (
-            b"\xEF\xBB\xBF\"0\",add-vertex,\"7\",,\r\n\r\n15,has-vertex,7,,".as_slice(),
+            b"\xEF\xBB\xBF\"15\",add-vertex,\"7\",,\r\n\r\n15,has-vertex,7,,".as_slice(),
             b"added\nyes\nvertices 7\n".as_slice(),
         ),
         (
@@ -459,14 +460,14 @@ fn failing_streams_end_the_run(rt: HostRuntime) -> Result<(), Fail> {
     for failing in 1..29u32 {
         let mut source = MemSource::new(VERTEX_ROWS.to_vec(alloc)?, 4, [failing].to_vec(alloc)?);
         let mut sink = MemSink::new(alloc, ROOM, ROOM, Vec::new(alloc))?;
-        let status = graph_main(&rt, alloc, words.as_slice(), &mut source, &mut sink);
+        let status = graph_main(&rt, alloc, words.as_slice(), &mut source, &mut sink, &OpenGate);
         assert_eq!(rt; status, Status::ReadFault, "at read {failing}");
         assert_eq!(rt; sink.bytes(), b"".as_slice());
     }
     for failing in 1..46u32 {
         let mut source = MemSource::new(VERTEX_ROWS.to_vec(alloc)?, ROOM, Vec::new(alloc));
         let mut sink = MemSink::new(alloc, ROOM, 1, [failing].to_vec(alloc)?)?;
-        let status = graph_main(&rt, alloc, words.as_slice(), &mut source, &mut sink);
+        let status = graph_main(&rt, alloc, words.as_slice(), &mut source, &mut sink, &OpenGate);
         assert_eq!(rt; status, Status::WriteFault, "at write {failing}");
         assert!(rt;
             VERTEX_ROWS_TEXT.starts_with(sink.bytes()),
@@ -489,7 +490,7 @@ fn the_last_piece_is_handed_on(rt: HostRuntime) -> Result<(), Fail> {
         let mut source = MemSource::new(VERTEX_ROWS.to_vec(alloc)?, ROOM, Vec::new(alloc));
         let behind = MemSink::new(alloc, ROOM, ROOM, [failing].to_vec(alloc)?)?;
         let mut sink = Pieces::new(alloc, behind)?;
-        let ended = graph_main_in_pieces(&rt, alloc, words.as_slice(), &mut source, &mut sink);
+        let ended = graph_main_in_pieces(&rt, alloc, words.as_slice(), &mut source, &mut sink, &OpenGate);
         assert_eq!(rt; ended, status, "where write {failing} fails");
         assert_eq!(rt; sink.into_sink().bytes(), written);
     }
@@ -502,11 +503,11 @@ fn the_third_write_and_the_second_read_fail(rt: HostRuntime) -> Result<(), Fail>
     let words = words_of(&rt, &["run"])?;
     let mut source = MemSource::new(VERTEX_ROWS.to_vec(alloc)?, ROOM, Vec::new(alloc));
     let mut sink = MemSink::new(alloc, ROOM, 1, [3].to_vec(alloc)?)?;
-    let status = graph_main(&rt, alloc, words.as_slice(), &mut source, &mut sink);
+    let status = graph_main(&rt, alloc, words.as_slice(), &mut source, &mut sink, &OpenGate);
     assert_eq!(rt; (status.number(), sink.bytes()), (5, b"ad".as_slice()));
     let mut source = MemSource::new(VERTEX_ROWS.to_vec(alloc)?, 16, [2].to_vec(alloc)?);
     let mut sink = MemSink::new(alloc, ROOM, ROOM, Vec::new(alloc))?;
-    let status = graph_main(&rt, alloc, words.as_slice(), &mut source, &mut sink);
+    let status = graph_main(&rt, alloc, words.as_slice(), &mut source, &mut sink, &OpenGate);
     assert_eq!(rt; (status.number(), sink.bytes()), (4, b"".as_slice()));
     Ok(())
 }
