@@ -1,13 +1,11 @@
 -- Callers that have answered all rows of a graph and have ended have run the rows.
-use Rattle.std.proofs.Common.{◌≡◌, ◌≢◌, ◌⊎◌, ℕ, zero, suc, ◌+◌, ◌-◌, ◌^◌, ◌<◌, ◌≤◌, ◌==◌, Bool, true, false, List, []}
+use Rattle.std.proofs.Common.{◌≡◌, ◌≢◌, ℕ, suc, ◌<◌, ◌≤◌, ◌==◌, Bool, true, false, List, []}
 use Rattle.std.proofs.Common.{◌∷◌, ◌++◌, length, map, get_or, Some, inl, inr, refl, sym, ap, ◌∙◌, subst, arith, ⊎_elim}
-use Rattle.std.proofs.Common.{eqb-true, take, take_all}
-use Rattle.std.specs.Prelude.{All, filter, not}
+use Rattle.std.proofs.Common.{eqb-true, take_all}
+use Rattle.std.specs.Prelude.{All}
 use Rattle.std.specs.List.{zip}
 use Rattle.caller_run.specs.Asked.{HasAnsweredAll, answers_to_caller, asked_in, is_worn, rows_of_caller, unworn}
 use Rattle.core_journal.specs.declared.book.Book.{Book}
-use Rattle.core_journal.specs.declared.event.Event.{Event}
-use Rattle.core_journal.specs.GraphOf.{graph_of}
 use Rattle.core_journal.specs.History.{HasBook, history, item}
 use Rattle.core_journal.proofs.Laws.{history_interleaves}
 use Rattle.graph_kinds.specs.declared.answer.Answer.{Answer}

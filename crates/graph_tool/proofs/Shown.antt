@@ -1,15 +1,15 @@
 -- What is answered in a legal history can be written.
-use Rattle.std.proofs.Common.{◌≡◌, ◌≢◌, ℕ, zero, suc, ◌+◌, ◌<◌, ◌==◌, Bool, true, false, List, [], ◌∷◌, length}
-use Rattle.std.proofs.Common.{cond, get_or, Option, Some, None, refl, sym, ap, ◌∙◌, subst, arith}
+use Rattle.std.proofs.Common.{◌≡◌, ℕ, ◌==◌, Bool, true, false, List, [], ◌∷◌, length}
+use Rattle.std.proofs.Common.{cond, Option, Some, None, refl, sym, subst, arith}
 use Rattle.std.proofs.lemmas.List.Elements.{All-cons}
-use Rattle.std.specs.Prelude.{All, filter}
+use Rattle.std.specs.Prelude.{All}
 use Rattle.graph_kinds.specs.declared.answer.Answer.{Answer}
 use Rattle.graph_kinds.specs.declared.call.Row.{Row}
 use Rattle.graph_kinds.specs.declared.outcome.Outcome.{Outcome}
 use Rattle.graph_kinds.specs.declared.outcome.Outcome.TheVariants as out
 use Rattle.graph_kinds.specs.Answer.{answer}
 use Rattle.graph_kinds.specs.Graph.{Graph, empty_graph}
-use Rattle.graph_kinds.specs.History.{Demand, Every, IsInterleaving, IsLegal, Item, LegalFrom, Meets, answered, item_by}
+use Rattle.graph_kinds.specs.History.{Demand, Every, IsInterleaving, IsLegal, Item, LegalFrom, Meets, answered}
 use Rattle.graph_kinds.specs.History.{items_of, next}
 use Rattle.op_text.specs.Text.{IsWritable}
 use Rattle.op_text.proofs.Shown.{answer-shown}

@@ -93,7 +93,10 @@ fn gate_of_the_program(rt: HostRuntime) -> Result<(), Fail> {
     };
     let (status, sink) = run_at(&rt, b"0,add-vertex,1,,\n1,add-vertex,2,,\n", &gate)?;
     for (number, flag) in [(0, &gate.zero), (1, &gate.one)] {
-        assert!(rt; flag.saw.load(Ordering::SeqCst), "{number} did not see the other");
+        assert!(rt;
+            flag.saw.load(Ordering::SeqCst),
+            "{number} did not see the other"
+        );
         assert_eq!(rt; flag.buckets.load(Ordering::SeqCst), 1024);
     }
     assert_eq!(rt; status, Status::Done);
@@ -153,19 +156,26 @@ fn four_callers_add_and_remove_one_key(rt: HostRuntime) -> Result<(), Fail> {
     let mut input = String::new(alloc);
     for _ in 0..1000 {
         for caller in 0..4 {
-            write!(input, "{caller},add-vertex,7,,\n{caller},remove-vertex,7,,\n")?;
+            write!(
+                input,
+                "{caller},add-vertex,7,,\n{caller},remove-vertex,7,,\n"
+            )?;
         }
     }
     let (status, sink) = run_at(&rt, input.as_bytes(), &OpenGate)?;
     assert_eq!(rt; status, Status::Done);
     let text = sink.bytes();
-    let [added, present, removed, absent] =
-        [b"added".as_slice(), b"present", b"removed", b"absent"].map(|line| count_of(text, line));
-    assert_eq!(rt; added + present, 4000);
-    assert_eq!(rt; removed + absent, 4000);
+    let [added, present, removed, absent] = [
+        b"added".as_slice(),
+        b"present",
+        b"removed",
+        b"absent",
+    ].map(|line| count_of(text, line));
+    assert_eq!(rt; added.checked_add(present), Some(4000));
+    assert_eq!(rt; removed.checked_add(absent), Some(4000));
     let left = count_of(text, b"vertices 7");
-    assert_eq!(rt; left + count_of(text, b"vertices"), 1);
-    assert_eq!(rt; added, removed + left);
+    assert_eq!(rt; left.checked_add(count_of(text, b"vertices")), Some(1));
+    assert_eq!(rt; removed.checked_add(left), Some(added));
     Ok(())
 }
 

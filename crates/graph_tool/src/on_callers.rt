@@ -25,6 +25,7 @@ pub(crate) const CALLERS: u32 = 16;
 
 // The nodes and the buckets of that graph.
 const NODES: u32 = 65_536;
+
 const BUCKETS: u32 = 1_024;
 
 // Whether a call is on vertices.
@@ -120,8 +121,12 @@ fn callers_of<G: Gate>(
     Ok(callers)
 }
 
-// Asks the rows of the callers, each of that of its number: the answers, and the callers in their order.
-fn ask_callers<'a, R: Threads + Sync, G: Gate>(
+/// Asks the rows of the callers, each of that of its number: the answers in the order of the rows, and the callers in
+/// their order. O(rows + callers), beside what the calls cost.
+///
+/// # Errors
+/// `Memory`.
+pub fn ask_callers<'a, R: Threads + Sync, G: Gate>(
     rt: &R,
     alloc: Global,
     graph: &'a SharedGraph,
@@ -147,9 +152,12 @@ fn ask_callers<'a, R: Threads + Sync, G: Gate>(
     Ok((answers, callers))
 }
 
-// The answers of the rows on a graph that their callers share, and the graph that they leave. Each call has so many
-// tries that it can't lose them all, if no caller makes more than 24 counted events for each row.
-pub(crate) fn run_on_callers<R: Threads + Sync, G: Gate>(
+/// The answers of the rows on a new graph that 16 callers share, and the graph that they leave. For n rows each call has
+/// 24 n + 1 tries.
+///
+/// # Errors
+/// `Memory`.
+pub fn run_on_callers<R: Threads + Sync, G: Gate>(
     rt: &R,
     alloc: Global,
     rows: &[Row],

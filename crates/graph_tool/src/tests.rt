@@ -42,7 +42,14 @@ fn run_on<R: Threads + Sync + AllocGlobal>(
     let words = words_of(rt, words)?;
     let mut source = MemSource::new(input.to_vec(alloc)?, ROOM, Vec::new(alloc));
     let mut sink = MemSink::new(alloc, ROOM, ROOM, Vec::new(alloc))?;
-    let status = graph_main(rt, alloc, words.as_slice(), &mut source, &mut sink, &OpenGate);
+    let status = graph_main(
+        rt,
+        alloc,
+        words.as_slice(),
+        &mut source,
+        &mut sink,
+        &OpenGate,
+    );
     Ok((status, sink))
 }
 
@@ -460,14 +467,28 @@ fn failing_streams_end_the_run(rt: HostRuntime) -> Result<(), Fail> {
     for failing in 1..29u32 {
         let mut source = MemSource::new(VERTEX_ROWS.to_vec(alloc)?, 4, [failing].to_vec(alloc)?);
         let mut sink = MemSink::new(alloc, ROOM, ROOM, Vec::new(alloc))?;
-        let status = graph_main(&rt, alloc, words.as_slice(), &mut source, &mut sink, &OpenGate);
+        let status = graph_main(
+            &rt,
+            alloc,
+            words.as_slice(),
+            &mut source,
+            &mut sink,
+            &OpenGate,
+        );
         assert_eq!(rt; status, Status::ReadFault, "at read {failing}");
         assert_eq!(rt; sink.bytes(), b"".as_slice());
     }
     for failing in 1..46u32 {
         let mut source = MemSource::new(VERTEX_ROWS.to_vec(alloc)?, ROOM, Vec::new(alloc));
         let mut sink = MemSink::new(alloc, ROOM, 1, [failing].to_vec(alloc)?)?;
-        let status = graph_main(&rt, alloc, words.as_slice(), &mut source, &mut sink, &OpenGate);
+        let status = graph_main(
+            &rt,
+            alloc,
+            words.as_slice(),
+            &mut source,
+            &mut sink,
+            &OpenGate,
+        );
         assert_eq!(rt; status, Status::WriteFault, "at write {failing}");
         assert!(rt;
             VERTEX_ROWS_TEXT.starts_with(sink.bytes()),
@@ -490,7 +511,14 @@ fn the_last_piece_is_handed_on(rt: HostRuntime) -> Result<(), Fail> {
         let mut source = MemSource::new(VERTEX_ROWS.to_vec(alloc)?, ROOM, Vec::new(alloc));
         let behind = MemSink::new(alloc, ROOM, ROOM, [failing].to_vec(alloc)?)?;
         let mut sink = Pieces::new(alloc, behind)?;
-        let ended = graph_main_in_pieces(&rt, alloc, words.as_slice(), &mut source, &mut sink, &OpenGate);
+        let ended = graph_main_in_pieces(
+            &rt,
+            alloc,
+            words.as_slice(),
+            &mut source,
+            &mut sink,
+            &OpenGate,
+        );
         assert_eq!(rt; ended, status, "where write {failing} fails");
         assert_eq!(rt; sink.into_sink().bytes(), written);
     }
@@ -503,11 +531,25 @@ fn the_third_write_and_the_second_read_fail(rt: HostRuntime) -> Result<(), Fail>
     let words = words_of(&rt, &["run"])?;
     let mut source = MemSource::new(VERTEX_ROWS.to_vec(alloc)?, ROOM, Vec::new(alloc));
     let mut sink = MemSink::new(alloc, ROOM, 1, [3].to_vec(alloc)?)?;
-    let status = graph_main(&rt, alloc, words.as_slice(), &mut source, &mut sink, &OpenGate);
+    let status = graph_main(
+        &rt,
+        alloc,
+        words.as_slice(),
+        &mut source,
+        &mut sink,
+        &OpenGate,
+    );
     assert_eq!(rt; (status.number(), sink.bytes()), (5, b"ad".as_slice()));
     let mut source = MemSource::new(VERTEX_ROWS.to_vec(alloc)?, 16, [2].to_vec(alloc)?);
     let mut sink = MemSink::new(alloc, ROOM, ROOM, Vec::new(alloc))?;
-    let status = graph_main(&rt, alloc, words.as_slice(), &mut source, &mut sink, &OpenGate);
+    let status = graph_main(
+        &rt,
+        alloc,
+        words.as_slice(),
+        &mut source,
+        &mut sink,
+        &OpenGate,
+    );
     assert_eq!(rt; (status.number(), sink.bytes()), (4, b"".as_slice()));
     Ok(())
 }

@@ -1,4 +1,4 @@
-use Rattle.std.proofs.Common.{rules, ◌≡◌, ◌<◌, List, vec_len, length, get_or, sym, ap, ◌∙◌, subst, drop}
+use Rattle.std.proofs.Common.{rules, ◌≡◌, ◌<◌, List, length, get_or, sym, ap, ◌∙◌, subst, drop}
 use Rattle.caller_run.specs.Asked.{HasAnsweredAll, answers_to_caller, rows_of_caller}
 use Rattle.caller_run.specs.declared.lane.Lane.{Lane}
 use Rattle.graph_kinds.specs.History.{calls_of}

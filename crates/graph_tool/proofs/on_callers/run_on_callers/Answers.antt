@@ -1,7 +1,4 @@
-use Rattle.std.proofs.Common.{rules, ◌≡◌, ◌<◌, vec_len, length, get_or, sym, ap, ◌∙◌, subst}
-use Rattle.std.specs.Prelude.{All}
-use Rattle.graph_kinds.specs.declared.call.Row.{Row}
-use Rattle.shared_graph.specs.Callers.{HoldsEach, IsHired}
+use Rattle.std.proofs.Common.{rules}
 use Rattle.shared_graph.proofs.Numbered.{holds_each}
 use Rattle.graph_tool.proofs.Shares.{run_by, run_can_be_written}
 use Rattle.graph_tool.proofs.on_callers.run_on_callers.Goals as goal
