@@ -9,3 +9,10 @@ pub mod TextPieces
 pub mod TextWrites
 pub mod Shown
 pub mod GraphLines
+pub mod Generated
+pub mod Apart
+pub mod RowLines
+pub mod RowBack
+pub mod Counted
+pub mod Conserved
+pub mod Interleaved

@@ -13,10 +13,10 @@ use Rattle.std.proofs.lemmas.Str.Parse.{IsNumeralModel, numerals_by_value, tells
 use Rattle.op_text.specs.Rows.{is_numeral, number_of}
 use Rattle.op_text.proofs.RowNumbers.{number_of_digits}
 
-model : IsNumeralModel (λ ds. all_ascii_digits ds ≡ true) (digits_value 10)
+pub model : IsNumeralModel (λ ds. all_ascii_digits ds ≡ true) (digits_value 10)
 model = numerals_by_value (λ ds. all_ascii_digits ds ≡ true) tells_all_ascii_digits
 
-all_ascii_digits_is : (ds : List ℕ) → all_ascii_digits ds ≡ list_all is_ascii_digit ds
+pub all_ascii_digits_is : (ds : List ℕ) → all_ascii_digits ds ≡ list_all is_ascii_digit ds
 all_ascii_digits_is [] = refl
 all_ascii_digits_is (d ∷ ds) = ap (λ b. is_ascii_digit d && b) (all_ascii_digits_is ds)
 
@@ -50,7 +50,7 @@ number_of_is field n e =
     (numeral_some field numeral) (numeral_first field numeral) (omega arith) in
     (sym text ∙ ap decimal value, omega arith)
 
-decimal_first : (n : ℕ) → n < 2 ^ 64 → 1 < length (decimal n) → get_or (decimal n) 0 0 ≢ 48
+pub decimal_first : (n : ℕ) → n < 2 ^ 64 → 1 < length (decimal n) → get_or (decimal n) 0 0 ≢ 48
 decimal_first n small long same =
     elim (cases_eq n 0) [
       | inl zero ↦ omega (arith, ap length (ap decimal zero ∙ decimal_digit 0 (omega arith)))
@@ -58,7 +58,7 @@ decimal_first n small long same =
     ]
 
 -- the decimal text of a number below 2^32 writes it
-number_of-decimal : (n : ℕ) → n < 2 ^ 32 → number_of (decimal n) ≡ Some n
+pub number_of-decimal : (n : ℕ) → n < 2 ^ 32 → number_of (decimal n) ≡ Some n
 number_of-decimal n small =
     let (numeral, value) = decimal_is_IsNumeral n (omega arith) in
     let digits = sym (all_ascii_digits_is (decimal n)) ∙ digits_decimal model n (omega arith) in

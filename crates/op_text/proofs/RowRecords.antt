@@ -113,12 +113,12 @@ records_turns cfg (suc n) (suc m) s xs fresh low high =
 abbrev pub records_left : Config → State → List ℕ → List (List (List ℕ))
 records_left cfg s xs = records_from cfg (length xs + 1) s xs
 
-records_left_none : (cfg : Config) (s : State) (xs : List ℕ) → next_record cfg s [] [] xs ≡ None
+pub records_left_none : (cfg : Config) (s : State) (xs : List ℕ) → next_record cfg s [] [] xs ≡ None
     → records_left cfg s xs ≡ []
 unfolding records_from
 records_left_none cfg s xs e = rw (add-one (length xs), e) refl
 
-records_left_some : (cfg : Config) (s : State) (xs : List ℕ) (p : Read) → ends_at_end s ≡ false
+pub records_left_some : (cfg : Config) (s : State) (xs : List ℕ) (p : Read) → ends_at_end s ≡ false
     → next_record cfg s [] [] xs ≡ Some p → records_left cfg s xs ≡ p.0 ∷ records_left cfg p.1 p.2
 unfolding records_from
 records_left_some cfg s xs p fresh e =

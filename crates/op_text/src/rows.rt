@@ -17,7 +17,7 @@ mod numeral;
 
 use csv::{ByteRecord, ErrorKind, ReaderBuilder};
 use graph_kinds::Row;
-use kind::CallKind;
+pub(crate) use kind::CallKind;
 pub use numeral::numbers_are_decimal;
 use numeral::{number, number_if};
 use std::alloc::Global;
