@@ -1,16 +1,15 @@
 -- What the token's own event tells where an edge is linked, and what an event on an edge does to the graph.
-use Rattle.std.proofs.Common.{◌≡◌, ◌≢◌, ℕ, ◌<◌, Bool, true, false, List, [], ◌∷◌, ◌++◌, None, Some, Option, refl, sym}
+use Rattle.std.proofs.Common.{◌≡◌, ◌≢◌, ℕ, ◌<◌, Bool, true, false, List, [], ◌∷◌, ◌++◌, Some, Option, refl, sym}
 use Rattle.std.proofs.Common.{ap, ◌∙◌, subst}
 use Rattle.std.proofs.lemmas.List.{same_from_push}
 use Rattle.graph_kinds.specs.Answer.{alters, after}
 use Rattle.graph_kinds.specs.declared.call.Call.{Call}
 use Rattle.graph_kinds.specs.declared.call.Call.TheVariants.{AddEdge}
-use Rattle.packed_link.specs.Link.{index_of}
 use Rattle.packed_link.specs.Layout.{Sizes, IsLayout}
 use Rattle.packed_link.specs.declared.link.Life.{Life}
 use Rattle.core_journal.specs.declared.event.Kind.TheVariants.{LinkEdge}
 use Rattle.core_journal.specs.declared.event.Event.{Event}
-use Rattle.core_journal.specs.GraphOf.{graph_of, present_key, both, weighed, CarriesOut, call_of}
+use Rattle.core_journal.specs.GraphOf.{graph_of, weighed, CarriesOut, call_of}
 use Rattle.core_journal.specs.Machine.{word_at}
 use Rattle.core_kept.specs.Kept.{IsKept}
 use Rattle.core_kept.specs.Nodes.{IsFreshWith}
@@ -33,7 +32,7 @@ use Rattle.core_stretches.proofs.WordsLeadOn.{goes_sizes, word_changed}
 use Rattle.graph_table.specs.Filled.{MayLinkFilledEdge, filled_edge_event}
 use Rattle.graph_table.specs.Table.{Missed}
 use Rattle.graph_table.proofs.FilledNodes.{link_filled}
-use Rattle.edge_list.specs.EdgeChanges.{CarriesBetween, IsEdgeLinked, IsEdgeTryLost}
+use Rattle.edge_list.specs.EdgeChanges.{IsEdgeLinked, IsEdgeTryLost}
 use Rattle.edge_list.specs.EdgePositions.{EdgePositionValue, IsEdgePosition, IsFilledForGap, IsGapOfEdge}
 use Rattle.edge_list.proofs.EdgePositionsGoOn.{StandsOn, as_edge_word, edge_place_words, edge_position_goes, stands_now}
 

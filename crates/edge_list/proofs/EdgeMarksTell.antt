@@ -16,49 +16,34 @@ use Rattle.core_journal.specs.Machine.{word_at}
 use Rattle.core_journal.specs.Prefix.{IsPrefix}
 use Rattle.core_journal.specs.Reuse.{pass_in}
 use Rattle.core_journal.specs.State.{Pass}
-use Rattle.core_journal.proofs.KeptLives.{link_more}
 use Rattle.core_journal.proofs.States.{count-length}
 use Rattle.core_kept.specs.Counts.{made, most_raises}
 use Rattle.core_kept.specs.Edges.{IsRaisedFor}
 use Rattle.core_kept.specs.Facts.{IsLinkOf}
-use Rattle.core_kept.specs.Kept.{IsKept}
 use Rattle.core_kept.proofs.Announcements.{announcements}
 use Rattle.core_kept.proofs.Induction.{past_kept, last_allowed}
 use Rattle.core_lists.specs.Chains.{life_in}
 use Rattle.core_lists.specs.Effects.{RemovesEdge}
-use Rattle.core_lists.specs.Replacements.{IsReplacedBy, LeadsToItsKey}
+use Rattle.core_lists.specs.Replacements.{LeadsToItsKey}
 use Rattle.core_lists.proofs.EffectOfKinds.{effect}
 use Rattle.core_lists.proofs.LinksTellReplaced.{old_leads, told}
-use Rattle.core_rule.specs.Fronts.{MayRaise, MetEdge, key_in}
+use Rattle.core_rule.specs.Fronts.{MayRaise, key_in}
 use Rattle.core_rule.specs.OwnEvents.{mark_edge_event, raise_event}
 use Rattle.core_rule.specs.Plays.{IsSound, Looked, Won}
-use Rattle.core_rule.specs.Views.{GoesOn, IsEdgeShown, Steps}
+use Rattle.core_rule.specs.Views.{GoesOn, Steps}
 use Rattle.core_rule.specs.declared.view.View.{View}
-use Rattle.core_rule.proofs.ViewShows.{dead_still, edge_dead_shown, edge_live_shown, edge_shown, edge_still, key_still}
-use Rattle.core_rule.proofs.ViewShows.{raise_is_for, raised_still, step_goes_on, vertex_still, win_steps, edge_link_shown}
+use Rattle.core_rule.proofs.ViewShows.{dead_still, edge_dead_shown, edge_live_shown, edge_shown, edge_still}
+use Rattle.core_rule.proofs.ViewShows.{raise_is_for, raised_still, step_goes_on, vertex_still, win_steps}
 use Rattle.core_stretches.specs.Makes.{Makes, StaysInPass}
 use Rattle.core_stretches.proofs.EdgeWords.{edge_link_leads}
 use Rattle.core_stretches.proofs.MakesAddUp.{makes_chain, makes_look, makes_won}
 use Rattle.core_stretches.proofs.MakesTell.{makes_goes}
 use Rattle.core_stretches.proofs.WordsLeadOn.{goes_number, goes_sizes, kept_before}
-use Rattle.edge_list.specs.EdgeChanges.{CarriesBetween}
 use Rattle.edge_list.specs.EdgeMarks.{FoundEdgeMarked, IsEdgeMarked, IsRaisedEdge, IsRaising, RaisedValue, WasEdgeMarked, WasEdgeReplaced}
-use Rattle.edge_list.specs.EdgePositions.{EdgePositionValue, IsSeenEdge, IsUnmarkedEdge}
+use Rattle.edge_list.specs.EdgePositions.{IsSeenEdge, IsUnmarkedEdge}
 use Rattle.edge_list.specs.declared.edge.Edge.{Edge}
 use Rattle.edge_list.proofs.EdgeChangesTell.{carries, grown_is, kept_behind}
-use Rattle.edge_list.proofs.EdgePositionsGoOn.{edge_position_from}
-
--- what linked an edge linked it in each later journal
-pub linked_later : (front journal : List Event) (x source target : Life) (key weight : ℕ) → IsPrefix front journal
-    → IsLinkOf front x source target key weight → IsLinkOf journal x source target key weight
-linked_later front journal x source target key weight p h = record {
-  link = h.link;
-  is = subst (λ (j : List Event). link_of j x ≡ Some h.link) p.whole (link_more front p.rest x h.link h.is);
-  from = h.from;
-  to = h.to;
-  of_key = h.of_key;
-  of_weight = h.of_weight;
-}
+use Rattle.edge_list.proofs.EdgePositionsGoOn.{edge_position_from, linked_later, same_link}
 
 -- the source of an edge that was found unmarked may be raised
 module _ (v : View) (source : Life) (edge : Edge) (moment : List Event) (z : IsLayout v.sizes)
@@ -279,12 +264,9 @@ module _ (v u : View) (r : RaisedValue) (place found : ℕ) (z : IsLayout v.size
     own_key : key_in w cut.index ≡ r.edge.key
     own_key =
         let shown = edge_shown w layout_key k.sound.kept r.source cut raised_key.met in
-        let same : shown.link ≡ raised_key.linked.link = same_event (link_of w.front cut) shown.link
+        let same : shown.link ≡ raised_key.linked.link = same_link (link_of w.front cut) shown.link
         raised_key.linked.link shown.is raised_key.linked.is in
         sym shown.key ∙ (ap (λ (e : Event). e.key) same ∙ raised_key.linked.of_key)
-      where
-        same_event : (o : Option Event) (a b : Event) → o ≡ Some a → o ≡ Some b → a ≡ b
-        same_event o a b p q = cc
 
     -- it's of the edge's key exactly where it replaced the edge
     pub was_replaced : behind ≡ r.edge.key → WasEdgeReplaced r v w
@@ -311,3 +293,19 @@ module _ (v u : View) (r : RaisedValue) (place found : ℕ) (z : IsLayout v.size
           (inr (w.number, raised_key.met.met)) by).0 in
           other (sym behind_is ∙ (ap (λ (i : ℕ). key_in w (index_of i)) (sym word_now) ∙ (d.key ∙ own_key)));
     }
+
+-- one life is one edge
+pub same_edge : (v : View) (r : RaisedValue) (source : Life) (edge : Edge) (moment : List Event) → IsRaisedEdge v r
+    → IsSeenEdge v source edge moment → edge.life ≡ r.edge.life → (source ≡ r.source) × (edge ≡ r.edge)
+same_edge v r source edge moment h s same =
+    let a = linked_later moment v.front edge.life source edge.target edge.key edge.weight
+    (subst (λ (f : List Event). IsPrefix f v.front) s.position.at s.position.goes.grows) s.unmarked.linked in
+    let b = h.linked in
+    let link : a.link ≡ b.link = same_link (link_of v.front r.edge.life) a.link b.link
+    (ap (link_of v.front) (sym same) ∙ a.is) b.is in
+    let key : edge.key ≡ r.edge.key = sym a.of_key ∙ (ap (λ (e : Event). e.key) link ∙ b.of_key) in
+    let target : edge.target ≡ r.edge.target = sym a.to ∙ (ap (λ (e : Event). e.target) link ∙ b.to) in
+    let weight : edge.weight ≡ r.edge.weight = sym a.of_weight ∙ (ap (λ (e : Event). e.weight) link ∙ b.of_weight) in (
+      sym a.from ∙ (ap (λ (e : Event). e.source) link ∙ b.from),
+      λ i. record { life = same i; key = key i; target = target i; weight = weight i },
+    )

@@ -1,21 +1,22 @@
 -- Positions on a source's list as loaded words: a walk's word stands before its key, and a step's anywhere on the list.
-use Rattle.std.proofs.Common.{◌≡◌, ◌≢◌, ℕ, ◌+◌, ◌<◌, Bool, true, false, List, [], inl, inr, sym, ap, ◌∙◌, subst}
-use Rattle.std.proofs.Common.{arith, ⊎_elim, refl}
+use Rattle.std.proofs.Common.{◌≡◌, ◌≢◌, ℕ, ◌+◌, ◌<◌, Bool, true, false, List, inl, inr, sym, ap, ◌∙◌, subst}
+use Rattle.std.proofs.Common.{arith, ⊎_elim, Option, Some}
 use Rattle.graph_kinds.specs.History.{Every}
 use Rattle.packed_link.specs.Link.{index_of, mark_of, nowhere}
 use Rattle.packed_link.specs.Layout.{Sizes, IsLayout, bucket_at, free_at, key_at, link_at, second_at, third_at}
 use Rattle.packed_link.specs.declared.link.Life.{Life}
 use Rattle.core_journal.specs.declared.event.Event.{Event}
+use Rattle.core_journal.specs.Life.{link_of}
 use Rattle.core_journal.specs.Machine.{word_at}
+use Rattle.core_journal.specs.Prefix.{IsPrefix}
 use Rattle.core_journal.specs.State.{Fresh}
-use Rattle.core_kept.specs.Facts.{HasMet}
+use Rattle.core_journal.proofs.KeptLives.{link_more}
+use Rattle.core_kept.specs.Facts.{HasMet, IsLinkOf}
 use Rattle.core_kept.specs.Kept.{IsKept}
 use Rattle.core_kept.specs.Nodes.{node_in}
-use Rattle.core_lists.specs.Chains.{life_in}
-use Rattle.core_lists.specs.Changed.{IsChangedByAnother}
-use Rattle.core_rule.specs.Fronts.{IsEdgeBelow, IsEdgeLink, IsVertexLink, LeadsToEdge, LeadsToVertex, MetEdge, MetVertex, key_in}
+use Rattle.core_rule.specs.Fronts.{IsEdgeBelow, IsEdgeLink, IsVertexLink, LeadsToEdge, LeadsToVertex, MetEdge, MetVertex}
 use Rattle.core_rule.specs.Stretches.{Own, Elsewhere, HasPass}
-use Rattle.core_rule.specs.Views.{GoesOn, IsEdgeIn}
+use Rattle.core_rule.specs.Views.{GoesOn}
 use Rattle.core_rule.specs.declared.view.View.{View}
 use Rattle.core_rule.proofs.ViewShows.{before_edge_still, dead_still, edge_above_still, edge_still, key_still}
 use Rattle.core_rule.proofs.ViewShows.{vertex_still}
@@ -24,7 +25,7 @@ use Rattle.core_stretches.specs.Makes.{Makes, StaysInPass}
 use Rattle.core_stretches.specs.LoadedWords.{IsLoadedWord}
 use Rattle.core_stretches.proofs.EdgeWords.{IsOfSource, edge_life_still, edge_link_leads, edge_words}
 use Rattle.core_stretches.proofs.MakesTell.{makes_goes, makes_later, makes_own}
-use Rattle.core_stretches.proofs.WordsLeadOn.{WordLaws, IsCountedWord, goes_sizes, word_changed, word_goes}
+use Rattle.core_stretches.proofs.WordsLeadOn.{WordLaws, IsCountedWord, goes_sizes, word_goes}
 use Rattle.edge_list.specs.EdgePositions.{EdgePositionValue, IsBehindEdge, IsEdgePosition, IsGapOfEdge, IsPlaceOn}
 use Rattle.edge_list.specs.EdgePositions.{IsSeenEdge, LeadsToDeadEdge}
 use Rattle.edge_list.specs.declared.edge.Edge.{Edge}
@@ -66,6 +67,21 @@ as_edge_position passed source key place word link moment v h =
 -- a token with a number has it still
 pub still_numbered : (v w : View) (own : List Event) → Makes v own w → v.numbered ≡ true → w.numbered ≡ true
 still_numbered v w own h has = (makes_later v w own h).numbered ∙ has
+
+-- what linked an edge linked it in each later journal
+pub linked_later : (front journal : List Event) (x source target : Life) (key weight : ℕ) → IsPrefix front journal
+    → IsLinkOf front x source target key weight → IsLinkOf journal x source target key weight
+linked_later front journal x source target key weight p h = record {
+  link = h.link;
+  is = subst (λ (j : List Event). link_of j x ≡ Some h.link) p.whole (link_more front p.rest x h.link h.is);
+  from = h.from;
+  to = h.to;
+  of_key = h.of_key;
+  of_weight = h.of_weight;
+}
+
+pub same_link : (o : Option Event) (a b : Event) → o ≡ Some a → o ≡ Some b → a ≡ b
+same_link o a b p q = cc
 
 -- the laws of both kinds of places
 behind_still : (source : Life) (key : ℕ) (v w : View) → IsLayout v.sizes → GoesOn v w → (place : ℕ)
@@ -273,3 +289,11 @@ pub seen_makes : (v w : View) (own : List Event) (source : Life) (edge : Edge) (
 seen_makes v w own source edge moment z stays apart h s = seen_goes v w source edge moment z
     (makes_goes v w own stays h)
     (makes_own (λ (e : Event). e.place ≢ link_at v.sizes edge.life.index) v w own apart h) s
+
+-- nor the second word of another vertex, so closing another list leaves it
+pub edge_place_not_head : (passed : Bool) (v : View) (p : EdgePositionValue) (x : ℕ) → IsLayout v.sizes
+    → IsEdgePosition passed v p → x ≢ p.source.index → second_at v.sizes x ≢ p.place
+edge_place_not_head passed v p x z h other same = ⊎_elim
+    (λ (b : p.place ≡ second_at v.sizes p.source.index). other (omega (arith, b, same)))
+    (λ (b : (y : Life) × IsEdgeLink v p.source p.place y). let at = b.1.place_is in absurd (omega (arith, at, same)))
+    (edge_position_leads passed v p z h)

@@ -1,5 +1,5 @@
 -- What unlinking a marked edge tells: the exchange on the word before it.
-use Rattle.std.proofs.Common.{◌≡◌, ℕ, ◌<◌, Bool, true, false, List, [], ◌∷◌, ◌++◌, Some, Option, refl, sym, ap, ap₂, ◌∙◌}
+use Rattle.std.proofs.Common.{◌≡◌, ℕ, ◌<◌, Bool, true, false, List, [], ◌∷◌, ◌++◌, Some, refl, sym, ap, ap₂, ◌∙◌}
 use Rattle.std.proofs.Common.{subst, arith}
 use Rattle.packed_link.specs.Link.{pack, index_of, mark_of, tag_of}
 use Rattle.packed_link.specs.Layout.{Sizes, IsLayout, link_at}
@@ -12,7 +12,7 @@ use Rattle.core_journal.specs.Machine.{word_at}
 use Rattle.core_journal.specs.State.{Linked, Spent, Node, state}
 use Rattle.core_kept.specs.Edges.{IsUnlinkEdge}
 use Rattle.core_kept.specs.Kept.{AllowedAs, IsKept}
-use Rattle.core_kept.specs.Nodes.{node_in, is_listed, IsFrozenToEnd, IsSpentWith}
+use Rattle.core_kept.specs.Nodes.{node_in, is_listed, IsSpentWith}
 use Rattle.core_kept.proofs.Induction.{last_allowed}
 use Rattle.core_kept.proofs.OwnSpent.{spent_stays}
 use Rattle.core_lists.proofs.EventKeepsRest.{written, event_life, edge_spent}

@@ -1,45 +1,44 @@
 -- What the start of a walk, a walk and a step tell, by the loads of the words of the edge to which their position leads.
-use Rattle.std.proofs.Common.{◌≡◌, ◌≢◌, ℕ, ◌+◌, ◌-◌, ◌<◌, ◌≤◌, ◌^◌, Bool, true, false, List, [], Some, inl, refl, sym, Option}
+use Rattle.std.proofs.Common.{◌≡◌, ◌≢◌, ℕ, ◌+◌, ◌-◌, ◌<◌, ◌≤◌, ◌^◌, Bool, true, false, List, [], Some, inl, refl, sym}
 use Rattle.std.proofs.Common.{ap, ap₂, ◌∙◌, subst, arith}
 use Rattle.packed_link.specs.Link.{index_of, mark_of, tag_of, nowhere}
 use Rattle.packed_link.specs.Layout.{Sizes, IsLayout, key_at, link_at, second_at, third_at}
 use Rattle.packed_link.specs.declared.link.Life.{Life}
 use Rattle.core_journal.specs.declared.event.Event.{Event}
-use Rattle.core_journal.specs.Life.{edge_marked, link_of}
+use Rattle.core_journal.specs.Life.{edge_marked, key_of, link_of}
 use Rattle.core_journal.specs.Machine.{word_at}
 use Rattle.core_journal.specs.Prefix.{IsPrefix}
-use Rattle.core_journal.proofs.Lists.{prefix_refl, prefix_trans}
+use Rattle.core_journal.proofs.Lists.{prefix_trans}
 use Rattle.core_kept.specs.Facts.{IsLinkOf}
 use Rattle.core_kept.specs.Kept.{IsKept}
 use Rattle.core_kept.proofs.Contents.{contents}
 use Rattle.core_kept.proofs.MetWords.{met_used}
 use Rattle.core_lists.specs.Chains.{life_in}
 use Rattle.core_lists.specs.Changed.{IsChangedByAnother}
+use Rattle.core_lists.proofs.LinkTellsPresence.{key_there}
 use Rattle.core_rule.specs.Fronts.{MetEdge, MetVertex, key_in}
 use Rattle.core_rule.specs.Plays.{IsSound, Looked}
-use Rattle.core_rule.specs.Stretches.{IsTargetShown}
-use Rattle.core_rule.specs.Views.{GoesOn, IsEdgeShown}
+use Rattle.core_rule.specs.Views.{GoesOn}
 use Rattle.core_rule.specs.declared.view.View.{View}
-use Rattle.core_rule.proofs.OwnStretch.{goes_opened, goes_self}
 use Rattle.core_rule.proofs.ShownTargets.{edge_words_still, head_marked, target_shown}
-use Rattle.core_rule.proofs.ViewShows.{edge_dead_shown, edge_live_shown, edge_shown, life_shown, vertex_still}
+use Rattle.core_rule.proofs.ViewShows.{edge_live_shown, edge_shown, life_shown, vertex_still}
 use Rattle.core_stretches.specs.LoadedWords.{IsLoadedNode}
 use Rattle.core_stretches.specs.Makes.{Makes}
 use Rattle.core_stretches.specs.Moments.{LacksEdge, HoldsBetween}
-use Rattle.core_stretches.proofs.MakesAddUp.{makes_chain, makes_look}
+use Rattle.core_stretches.proofs.MakesAddUp.{makes_look}
 use Rattle.core_stretches.proofs.MakesTell.{makes_goes, makes_later}
-use Rattle.core_stretches.proofs.EdgeWords.{IsBeforeOf, IsOfSource, edge_link_leads, edge_walks, edge_words}
+use Rattle.core_stretches.proofs.EdgeWords.{IsBeforeOf, IsOfSource, edge_link_leads, edge_walks}
 use Rattle.core_stretches.proofs.WordsLeadOn.{goes_sizes, kept_before, key_then, loads_make, low_at, low_passed}
 use Rattle.core_stretches.proofs.WordsLeadOn.{node_loaded, node_passed, word_changed, word_here, word_leads, word_looks}
 use Rattle.core_stretches.proofs.WordsLeadOn.{word_opened, word_passes, word_rises, word_until}
 use Rattle.graph_table.specs.Tokens.{TableValue, TokenValue, IsOf}
 use Rattle.edge_list.specs.EdgePositions.{EdgePositionValue, IsEdgePosition, IsGapOfEdge, IsSeenEdge, IsUnmarkedEdge}
 use Rattle.edge_list.specs.EdgePositions.{LeadsToDeadEdge}
-use Rattle.edge_list.specs.EdgeWalks.{FoundFrozen, IsEdgeAt, IsEdgeDead, IsEdgeDeadStep, IsEdgeGone, IsEdgeHere, IsStarted}
+use Rattle.edge_list.specs.EdgeWalks.{FoundFrozen, HasTarget, IsEdgeAt, IsEdgeDead, IsEdgeDeadStep, IsEdgeGone, IsEdgeHere, IsStarted}
 use Rattle.edge_list.specs.declared.edge.Edge.{Edge}
 use Rattle.edge_list.specs.declared.walks.EdgeSighting.{EdgeSighting}
 use Rattle.edge_list.proofs.EdgePositionsGoOn.{StandsOn, as_edge_position, as_edge_word, edge_place_words}
-use Rattle.edge_list.proofs.EdgePositionsGoOn.{edge_position_makes, edge_position_with, seen_makes}
+use Rattle.edge_list.proofs.EdgePositionsGoOn.{edge_position_makes, edge_position_with, linked_later, same_link, seen_makes}
 
 -- the second word of the source is loaded
 module _ (v w : View) (source : Life) (key at found : ℕ) (z : IsLayout w.sizes) (has : v.numbered ≡ true)
@@ -182,7 +181,7 @@ pub edge_told : (v : View) (source x : Life) (second third key index tag weight 
     → IsKept v.sizes v.front → MetEdge v source x → second ≡ word_at v.sizes v.front (second_at v.sizes x.index)
     → third ≡ word_at v.sizes v.front (third_at v.sizes x.index) → key_in v x.index ≡ key → index ≡ index_of second
     → tag ≡ tag_of second → weight ≡ third
-    → IsLinkOf v.front x source (record { index = index; tag = tag }) key weight × (index < v.sizes.nodes)
+    → IsLinkOf v.front x source (record { index = index; tag = tag }) key weight
 edge_told v source x second third key index tag weight z kept m second_is third_is key_is index_is tag_is weight_is =
     let s = edge_shown v z kept source x m in
     let t = target_shown v z kept source x m in
@@ -190,20 +189,15 @@ edge_told v source x second third key index tag weight z kept m second_is third_
     let i : index ≡ s.link.target.index = index_is ∙ (ap index_of second_is
     ∙ (t.index ∙ ap (λ (e : Event). e.target.index) same)) in
     let g : tag ≡ s.link.target.tag = tag_is ∙ (ap tag_of second_is
-    ∙ (t.tag ∙ ap (λ (e : Event). e.target.tag) same)) in (
-      record {
-        link = s.link;
-        is = s.is;
-        from = s.from;
-        to = sym (ap₂ (λ (a b : ℕ). record { index = a; tag = b }) i g);
-        of_key = s.key ∙ key_is;
-        of_weight = s.weight ∙ (sym third_is ∙ sym weight_is);
-      },
-      subst (λ (n : ℕ). n < v.sizes.nodes) (sym (index_is ∙ ap index_of second_is)) t.there,
-    )
-  where
-    same_link : (o : Option Event) (a b : Event) → o ≡ Some a → o ≡ Some b → a ≡ b
-    same_link o a b p q = cc
+    ∙ (t.tag ∙ ap (λ (e : Event). e.target.tag) same)) in
+    record {
+      link = s.link;
+      is = s.is;
+      from = s.from;
+      to = sym (ap₂ (λ (a b : ℕ). record { index = a; tag = b }) i g);
+      of_key = s.key ∙ key_is;
+      of_weight = s.weight ∙ (sym third_is ∙ sym weight_is);
+    }
 
 pub weight_loaded_fits : (v : View) (source x : Life) (third : ℕ) → IsLayout v.sizes → IsKept v.sizes v.front
     → MetEdge v source x → third ≡ word_at v.sizes v.front (third_at v.sizes x.index) → third < 2 ^ 32
@@ -251,6 +245,20 @@ module _ (source : Life) (w : View) (x found link : ℕ) (edge : Edge) (z : IsLa
     word = link;
     position = seen_place;
   }
+
+-- the target of an edge that was met
+pub has_target : (v : View) (source : Life) (edge : Edge) (moment : List Event) → IsLayout v.sizes
+    → IsKept v.sizes v.front → IsSeenEdge v source edge moment → HasTarget v edge
+has_target v source edge moment z kept s =
+    let shown = edge_shown v z kept source edge.life s.met in
+    let linked = linked_later moment v.front edge.life source edge.target edge.key edge.weight
+    (subst (λ (f : List Event). IsPrefix f v.front) s.position.at s.position.goes.grows) s.unmarked.linked in
+    let same : shown.link ≡ linked.link = same_link (link_of v.front edge.life) shown.link linked.link shown.is
+    linked.is in
+    let key : key_of v.front edge.target ≡ Some edge.key = ap (key_of v.front) (sym linked.to
+    ∙ ap (λ (e : Event). e.target) (sym same))
+    ∙ (shown.target_key ∙ ap Some (ap (λ (e : Event). e.key) same ∙ linked.of_key)) in
+    record { there = key_there v.sizes v.front kept edge.target edge.key key; linked = key }
 
 -- an edge that was found unmarked and is marked now was changed by another caller
 pub seen_changed : (v : View) (source : Life) (edge : Edge) (moment : List Event) → IsLayout v.sizes
@@ -371,8 +379,8 @@ pub edge_here : (v u w : View) (from p : EdgePositionValue) (source : Life) (key
     → mark_of link ≡ 0 → found ≡ from.key → Makes u [] w → s.edge.life.index ≡ index_of p.word
     → s.edge.life.tag ≡ tag_of link → s.edge.key ≡ from.key
     → IsLinkOf u.front s.edge.life source s.edge.target s.edge.key s.edge.weight
-    → s.edge.target.index < u.sizes.nodes → s.moment.value.view.front ≡ u.front → IsEdgeHere from w s
-edge_here v u w from p source key found link s on z kept loaded live is makes index_is tag_is key_is linked there same =
+    → s.moment.value.view.front ≡ u.front → IsEdgeHere from w s
+edge_here v u w from p source key found link s on z kept loaded live is makes index_is tag_is key_is linked same =
     let own : IsLinkOf u.front s.edge.life p.source s.edge.target s.edge.key s.edge.weight = subst
     (λ (y : Life). IsLinkOf u.front s.edge.life y s.edge.target s.edge.key s.edge.weight)
     (on.source_same ∙ sym on.source_here) linked in
@@ -393,7 +401,7 @@ edge_here v u w from p source key found link s on z kept loaded live is makes in
             until = later.grows;
             holds = seen_u.unmarked;
           });
-      target = subst (λ (y : Sizes). s.edge.target.index < y.nodes) (sym later.sizes) there;
+      target = has_target w from.source s.edge u.front (subst IsLayout (sym later.sizes) z) later.kept seen;
     }
 
 -- the walk goes on behind a smaller key: its position is one still, and it has less to go
@@ -483,7 +491,7 @@ pub edge_stepped : (v u w : View) (p q : EdgePositionValue) (passed : Bool) (edg
     → IsLayout v.sizes → IsLayout u.sizes → IsKept u.sizes u.front → IsEdgePosition passed v p
     → index_of p.word ≢ nowhere → IsEdgeLoaded passed v u p found link → mark_of link ≡ 0 → Makes u [] w
     → edge.life.index ≡ index_of p.word → edge.life.tag ≡ tag_of link → edge.key ≡ found
-    → IsLinkOf u.front edge.life p.source edge.target edge.key edge.weight → edge.target.index < u.sizes.nodes
+    → IsLinkOf u.front edge.life p.source edge.target edge.key edge.weight
     → q ≡ record {
       source = p.source;
       key = found;
@@ -493,7 +501,7 @@ pub edge_stepped : (v u w : View) (p q : EdgePositionValue) (passed : Bool) (edg
       moment = u.front;
     }
     → IsEdgeAt p v w edge q
-edge_stepped v u w p q passed edge found link z z' kept h some s live makes index_is tag_is key_is linked there is =
+edge_stepped v u w p q passed edge found link z z' kept h some s live makes index_is tag_is key_is linked is =
     let i = index_of p.word in
     let later = makes_later u w [] makes in
     let seen_u : IsSeenEdge u p.source edge u.front =
@@ -542,7 +550,7 @@ edge_stepped v u w p q passed edge found link z z' kept h some s live makes inde
         until = later.grows;
         holds = seen_u.unmarked;
       };
-      target = subst (λ (y : Sizes). edge.target.index < y.nodes) (sym later.sizes) there;
+      target = has_target w p.source edge u.front (subst IsLayout (sym later.sizes) z') later.kept seen;
       rises = λ a. rise a;
     } in
     subst (λ (r : EdgePositionValue). IsEdgeAt p v w edge r) (sym is) made

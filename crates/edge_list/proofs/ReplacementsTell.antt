@@ -1,5 +1,5 @@
 -- What replacing an edge tells: a load of its link, four stores to the new node, and the exchange.
-use Rattle.std.proofs.Common.{◌≡◌, ◌≢◌, ℕ, ◌<◌, ◌^◌, Bool, true, List, [], ◌∷◌, ◌++◌, Some, Option, refl, sym, ap, ap₂}
+use Rattle.std.proofs.Common.{◌≡◌, ◌≢◌, ℕ, ◌<◌, ◌^◌, true, List, [], ◌∷◌, ◌++◌, Option, refl, sym, ap, ap₂}
 use Rattle.std.proofs.Common.{◌∙◌, subst, arith}
 use Rattle.graph_kinds.specs.History.{Every}
 use Rattle.graph_kinds.specs.declared.call.Call.TheVariants.{AddEdge}
@@ -20,9 +20,7 @@ use Rattle.core_lists.specs.Changed.{IsChangedByAnother}
 use Rattle.core_lists.proofs.EffectOfKinds.{effect}
 use Rattle.core_lists.proofs.EventKeepsRest.{edge_replaced}
 use Rattle.core_rule.specs.Fronts.{MayReplaceEdge, key_in}
-use Rattle.core_rule.specs.OwnEvents.{replace_event}
 use Rattle.core_rule.specs.Plays.{IsSound, Looked, Won}
-use Rattle.core_rule.specs.Views.{GoesOn}
 use Rattle.core_rule.specs.declared.view.View.{View}
 use Rattle.core_rule.proofs.ShownTargets.{target_shown}
 use Rattle.core_rule.proofs.ViewShows.{win_steps}
@@ -30,7 +28,7 @@ use Rattle.core_stretches.specs.Holdings.{IsFilledAsEdge, IsHeldFresh}
 use Rattle.core_stretches.specs.Makes.{Makes, StaysInPass}
 use Rattle.core_stretches.proofs.HoldingsStay.{makes_fresh_by_kind}
 use Rattle.core_stretches.proofs.MakesAddUp.{makes_chain, makes_look, makes_won}
-use Rattle.core_stretches.proofs.MakesTell.{makes_goes, makes_later}
+use Rattle.core_stretches.proofs.MakesTell.{makes_later}
 use Rattle.core_stretches.proofs.WordsLeadOn.{word_here}
 use Rattle.graph_table.specs.Filled.{MayReplaceByFilled, replaced_event}
 use Rattle.graph_table.specs.Table.{Missed}
@@ -42,22 +40,19 @@ use Rattle.edge_list.specs.EdgeMarks.{replacing_stores}
 use Rattle.edge_list.specs.EdgePositions.{EdgePositionValue, IsEdgePosition, IsUnmarkedEdge}
 use Rattle.edge_list.proofs.EdgeChangesTell.{carries, edge_lost, grown_is, kept_behind, none_fresh}
 use Rattle.edge_list.proofs.EdgeMarksTell.{pair_told, raised_makes, unmarked_before}
-use Rattle.edge_list.proofs.EdgePositionsGoOn.{StandsOn, as_edge_position, edge_place_apart, edge_position_makes}
+use Rattle.edge_list.proofs.EdgePositionsGoOn.{StandsOn, as_edge_position, edge_place_apart, edge_position_makes, same_link}
 
 -- the target of an edge that was met is a node of the table, and its tag fits
 pub target_fits : (v : View) (r : RaisedValue) → IsLayout v.sizes → IsKept v.sizes v.front → IsRaisedEdge v r
     → (r.edge.target.index < v.sizes.nodes) × (r.edge.target.tag < 2 ^ 39)
 target_fits v r z kept h =
     let t = target_shown v z kept r.source r.edge.life h.met in
-    let same : t.link ≡ h.linked.link = same_event (link_of v.front r.edge.life) t.link h.linked.link t.is h.linked.is
+    let same : t.link ≡ h.linked.link = same_link (link_of v.front r.edge.life) t.link h.linked.link t.is h.linked.is
     in
     let target : t.link.target ≡ r.edge.target = ap (λ (e : Event). e.target) same ∙ h.linked.to in (
       subst (λ (n : ℕ). n < v.sizes.nodes) (t.index ∙ ap (λ (y : Life). y.index) target) t.there,
       subst (λ (n : ℕ). n < 2 ^ 39) (t.tag ∙ ap (λ (y : Life). y.tag) target) t.low,
     )
-  where
-    same_event : (o : Option Event) (a b : Event) → o ≡ Some a → o ≡ Some b → a ≡ b
-    same_event o a b p q = cc
 
 -- the stores leave the pass open
 pub stores_stay : (v : View) (x : Life) (key next : ℕ) (target : Life) (weight : ℕ)

@@ -1,9 +1,9 @@
 -- What the start of a walk of a source's list tells, the walk, and a step through the list.
-use Rattle.std.specs.Prelude.{◌≡◌, ◌<◌, ℕ, Bool, true, false}
+use Rattle.std.specs.Prelude.{◌≡◌, ◌<◌, ℕ, Bool, true, false, Some}
 use Rattle.packed_link.specs.Layout.{link_at, second_at}
 use Rattle.packed_link.specs.Link.{index_of, mark_of, nowhere}
 use Rattle.packed_link.specs.declared.link.Life.{Life}
-use Rattle.core_journal.specs.Life.{vertex_marked}
+use Rattle.core_journal.specs.Life.{key_of, vertex_marked}
 use Rattle.core_journal.specs.Machine.{word_at}
 use Rattle.core_journal.specs.Prefix.{IsPrefix}
 use Rattle.core_rule.specs.declared.view.View.{View}
@@ -36,12 +36,17 @@ abbrev pub MatchStarted : Started → (source : Life) → (key : ℕ) → View �
 MatchStarted (StartAt p) source key w = IsStarted source key w p
 MatchStarted StartFrozen source key w = FoundFrozen source w
 
+-- the target of an edge was linked as a vertex of the edge's key, and its node is one of the table
+pub record HasTarget (w : View) (edge : Edge) : Type 0 where
+  pub there : edge.target.index < w.sizes.nodes
+  pub linked : key_of w.front edge.target ≡ Some edge.key
+
 -- the edge of the position's key was found: at a moment since the position's load it was linked and unmarked
 pub record IsEdgeHere (p : EdgePositionValue) (w : View) (s : EdgeSighting) : Type 0 where
   pub key : s.edge.key ≡ p.key
   pub seen : IsSeenEdge w p.source s.edge s.moment.value.view.front
   pub there : HoldsBetween p.moment w.front (IsUnmarkedEdge p.source s.edge) s.moment.value.view.front
-  pub target : s.edge.target.index < w.sizes.nodes
+  pub target : HasTarget w s.edge
 
 -- the key is missing: at the moment of the new position's load no edge of the source with it was unmarked
 pub record IsEdgeGone (p : EdgePositionValue) (w : View) (q : EdgePositionValue) : Type 0 where
@@ -73,7 +78,7 @@ pub record IsEdgeAt (p : EdgePositionValue) (v w : View) (edge : Edge) (q : Edge
   pub position : IsEdgePosition true w q
   pub seen : IsSeenEdge w p.source edge q.moment
   pub there : HoldsBetween p.moment w.front (IsUnmarkedEdge p.source edge) q.moment
-  pub target : edge.target.index < w.sizes.nodes
+  pub target : HasTarget w edge
   pub rises : IsEdgePosition true v p → p.key < edge.key
 
 -- the position leads to a marked edge, and is a position still: it stands where it did, with the same word

@@ -1,23 +1,30 @@
-//! The laws of a list under freezing.
+//! The laws of positions and of edges that were found, and those of a list under freezing.
 
-ghost use Rattle.std.specs.Prelude.{◌≡◌, ◌≢◌, ℕ, true, Contains, List};
+ghost use Rattle.std.specs.Prelude.{◌≡◌, ◌≢◌, ◌+◌, ◌<◌, ℕ, Bool, true, Contains, List};
 ghost use Rattle.graph_kinds.specs.History.{Every};
-ghost use Rattle.packed_link.specs.Layout.{IsLayout, Sizes};
+ghost use Rattle.packed_link.specs.Layout.{IsLayout, Sizes, free_at, key_at, link_at, second_at, third_at};
 ghost use Rattle.packed_link.specs.Link.{index_of, nowhere};
-ghost use Rattle.core_chain.specs.Chain.{Head};
 ghost use Rattle.packed_link.specs.declared.link.Life.{Life};
+ghost use Rattle.core_chain.specs.Chain.{Head};
 ghost use Rattle.core_journal.specs.declared.event.Event.{Event};
+ghost use Rattle.core_journal.specs.Life.{edge_marked};
 ghost use Rattle.core_journal.specs.Machine.{word_at};
 ghost use Rattle.core_journal.specs.State.{state};
 ghost use Rattle.core_kept.specs.Kept.{IsKept};
 ghost use Rattle.core_kept.specs.Nodes.{is_frozen, is_listed};
 ghost use Rattle.core_lists.specs.Chains.{KeepsList};
+ghost use Rattle.core_lists.specs.Changed.{IsChangedByAnother};
 ghost use Rattle.core_lists.specs.FrozenPaths.{FrozenPath};
-ghost use Rattle.core_rule.specs.declared.view.View.{View};
-ghost use Rattle.core_stretches.specs.Holdings.{IsUnlinkedVertex};
+ghost use Rattle.core_rule.specs.Fronts.{LeadsToEdge, LeadsToVertex, MetEdge, MetVertex};
 ghost use Rattle.core_rule.specs.Stretches.{GivesNone};
-ghost use Rattle.core_stretches.specs.Makes.{Makes};
+ghost use Rattle.core_rule.specs.declared.view.View.{View};
+ghost use Rattle.core_stretches.specs.Holdings.{IsHeldFresh, IsUnlinkedVertex};
+ghost use Rattle.core_stretches.specs.Makes.{Makes, StaysInPass};
+ghost use Rattle.edge_list.specs.EdgeMarks.{IsRaisedEdge, RaisedValue};
+ghost use Rattle.edge_list.specs.EdgePositions.{EdgePositionValue, IsEdgePosition, IsGapOfEdge, IsSeenEdge};
+ghost use Rattle.edge_list.specs.EdgePositions.{LeadsToDeadEdge};
 ghost use Rattle.edge_list.specs.Freezing.{KeepsFrozen};
+ghost use Rattle.edge_list.specs.declared.edge.Edge.{Edge};
 
 /// A vertex that the token unlinked keeps its list, and the frozen words of the list stay as they are, where the token
 /// stores no link for the free list and gives no node back. So a path along frozen words grows edge by edge, while the
@@ -42,4 +49,57 @@ pub fn edges_are_handed_over_once()
         → KeepsList sizes journal x → (ys : List ℕ) (place : ℕ) → FrozenPath sizes journal x Head ys place
         → index_of (word_at sizes journal place) ≡ nowhere → (y : ℕ) → is_frozen (state sizes journal) x y ≡ true
         → Contains ys y }
+{}
+
+/// A position on a source's list stays one where each event that its token made since then stays in the pass and stands
+/// at another place. The key is missing behind it still where it was, and the edge to which it leads is marked still
+/// where it was. The source of a position was met, and its place is a word that leads to edges of it.
+pub fn edge_positions_go_on()
+    ensures position { (passed : Bool) (v w : View) (own : List Event) (p : EdgePositionValue) → Every StaysInPass own
+        → Every (λ e. e.place ≢ p.place) own → Makes v own w → IsEdgePosition passed v p → IsEdgePosition passed w p }
+    ensures gap { (v w : View) (own : List Event) (p : EdgePositionValue) → IsLayout v.sizes → Every StaysInPass own
+        → Every (λ e. e.place ≢ p.place) own → Makes v own w → IsGapOfEdge v p → IsGapOfEdge w p }
+    ensures dead { (v w : View) (own : List Event) (p : EdgePositionValue) → IsLayout v.sizes → Every StaysInPass own
+        → Makes v own w → LeadsToDeadEdge v p → LeadsToDeadEdge w p }
+    ensures source { (passed : Bool) (v : View) (p : EdgePositionValue) → IsLayout v.sizes → IsEdgePosition passed v p
+        → MetVertex v p.source }
+    ensures leads { (passed : Bool) (v : View) (p : EdgePositionValue) → IsLayout v.sizes → IsEdgePosition passed v p
+        → LeadsToEdge v p.source p.place }
+{}
+
+/// The place of a position on a source's list is no word of a fresh node, so filling one leaves the position; nor that
+/// of the free list, so taking a node does; nor a third word, so raising a counter does; nor one that leads to vertices,
+/// so changing a bucket's list does; nor the second word of another vertex or the link of an edge of another source, so
+/// changing or freezing another list does.
+pub fn edge_positions_stand_apart()
+    ensures fresh { (passed : Bool) (v : View) (p : EdgePositionValue) (x : Life) (field : ℕ) → IsLayout v.sizes
+        → field < 4 → IsHeldFresh v x → IsEdgePosition passed v p → key_at v.sizes x.index + field ≢ p.place }
+    ensures free { (passed : Bool) (v : View) (p : EdgePositionValue) → IsLayout v.sizes → IsEdgePosition passed v p
+        → free_at v.sizes ≢ p.place }
+    ensures third { (passed : Bool) (v : View) (p : EdgePositionValue) (x : ℕ) → IsLayout v.sizes
+        → IsEdgePosition passed v p → third_at v.sizes x ≢ p.place }
+    ensures vertex { (passed : Bool) (v : View) (p : EdgePositionValue) (place : ℕ) → IsLayout v.sizes
+        → IsEdgePosition passed v p → LeadsToVertex v place → place ≢ p.place }
+    ensures head { (passed : Bool) (v : View) (p : EdgePositionValue) (x : ℕ) → IsLayout v.sizes
+        → IsEdgePosition passed v p → x ≢ p.source.index → second_at v.sizes x ≢ p.place }
+    ensures edge { (passed : Bool) (v : View) (p : EdgePositionValue) (source x : Life) → IsLayout v.sizes
+        → IsEdgePosition passed v p → MetEdge v source x → source ≢ p.source → link_at v.sizes x.index ≢ p.place }
+{}
+
+/// An edge that was found unmarked was so in each later view of the pass, where the token made no event at its link
+/// since. If it's marked by then, another caller marked or replaced it after it was found. An edge for which the counter
+/// of its source was raised is one in each later view of the pass, whatever its token made: so it's marked or replaced
+/// by later tries with no further raise. One life is one edge.
+pub fn found_edges_go_on()
+    ensures seen { (v w : View) (own : List Event) (source : Life) (edge : Edge) (moment : List Event)
+        → IsLayout v.sizes → Every StaysInPass own → Every (λ e. e.place ≢ link_at v.sizes edge.life.index) own
+        → Makes v own w → IsSeenEdge v source edge moment → IsSeenEdge w source edge moment }
+    ensures changed { (v : View) (source : Life) (edge : Edge) (moment : List Event) → IsLayout v.sizes
+        → IsKept v.sizes v.front → IsSeenEdge v source edge moment → edge_marked v.front edge.life ≡ true
+        → IsChangedByAnother moment v.front v.number (link_at v.sizes edge.life.index) }
+    ensures raised { (v w : View) (own : List Event) (r : RaisedValue) → IsLayout v.sizes → Every StaysInPass own
+        → Makes v own w → IsRaisedEdge v r → IsRaisedEdge w r }
+    ensures same { (v : View) (r : RaisedValue) (source : Life) (edge : Edge) (moment : List Event)
+        → IsRaisedEdge v r → IsSeenEdge v source edge moment → edge.life ≡ r.edge.life
+        → (source ≡ r.source) × (edge ≡ r.edge) }
 {}

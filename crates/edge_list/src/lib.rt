@@ -19,7 +19,10 @@ mod walks;
 pub use changes::{EdgeLinked, EdgeUnlinked, link, unlink};
 pub use edge::Edge;
 pub use freezing::{Frozen, freeze_head, freeze_next};
-pub use laws::{edges_are_handed_over_once, frozen_words_stay_over_stretches};
+pub use laws::{
+    edge_positions_go_on, edge_positions_stand_apart, edges_are_handed_over_once,
+    found_edges_go_on, frozen_words_stay_over_stretches,
+};
 pub use marking::{EdgeMarked, Raised, mark, raise};
 pub use position::EdgePosition;
 pub use replacing::{EdgeReplaced, replace};

@@ -3,7 +3,7 @@
 //! Two neighbours may have one key, but only if the first is marked and was replaced by the second. A walk takes no
 //! marked edge, so keys rise along the words that it goes by.
 
-ghost use Rattle.std.specs.Prelude.{◌≡◌, ◌<◌, [], true, false};
+ghost use Rattle.std.specs.Prelude.{◌≡◌, [], true, false};
 ghost use Rattle.core_kept.specs.Facts.{IsLinkOf};
 ghost use Rattle.core_rule.specs.Fronts.{MetEdge, MetVertex, key_in};
 ghost use Rattle.core_stretches.specs.Makes.{Makes};
@@ -205,7 +205,6 @@ fn edge_at(table: &GraphTable, token: &mut Token, source: Life, life: Life, key:
     ensures life { result.life ≡ life }
     ensures key { result.key ≡ key }
     ensures linked { IsLinkOf token.old.view.front result.life source result.target result.key result.weight }
-    ensures target { result.target.index < token.old.view.sizes.nodes }
 {
     let _ = source;
     let layout = table.layout();

@@ -1,4 +1,4 @@
-use Rattle.std.proofs.Common.{rules, arith, ap, ap₂, sym, subst, ◌≡◌, ◌≢◌, ◌<◌, ◌∙◌, ℕ}
+use Rattle.std.proofs.Common.{rules, arith, ap, ap₂, sym, subst, ◌≡◌, ◌≢◌, ◌∙◌}
 use Rattle.packed_link.specs.Link.{index_of, mark_of, nowhere}
 use Rattle.packed_link.specs.Layout.{Sizes, key_at, link_at}
 use Rattle.edge_list.specs.EdgeMarks.{IsEdgeMarked, IsRaisedEdge, RaisedValue, WasEdgeMarked, WasEdgeReplaced}

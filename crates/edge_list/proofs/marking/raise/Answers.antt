@@ -1,4 +1,3 @@
-use Rattle.std.proofs.Common.{ap, sym, subst, ◌≡◌, ◌∙◌}
 use Rattle.edge_list.proofs.EdgeMarksTell.{may_raise_seen, raising}
 use Rattle.edge_list.proofs.marking.raise.Goals as goal
 

@@ -1,4 +1,4 @@
-use Rattle.std.proofs.Common.{rules, ap, inl, inr, refl, sym, subst, ◌≡◌, ◌≢◌, ◌<◌, ◌∙◌, [], ℕ}
+use Rattle.std.proofs.Common.{rules, ap, inl, inr, refl, sym, subst, ◌≡◌, ◌≢◌, ◌<◌, ◌∙◌, []}
 use Rattle.packed_link.specs.Link.{mark_of}
 use Rattle.packed_link.specs.Layout.{Sizes, link_at}
 use Rattle.core_stretches.proofs.HoldingsStay.{makes_fresh_by_kind}

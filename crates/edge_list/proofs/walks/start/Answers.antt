@@ -1,4 +1,4 @@
-use Rattle.std.proofs.Common.{rules, ap, sym, subst, ◌≡◌, ◌∙◌, ℕ, List}
+use Rattle.std.proofs.Common.{rules, ap, sym, subst, ◌≡◌, ◌∙◌, List}
 use Rattle.packed_link.specs.Link.{mark_of}
 use Rattle.packed_link.specs.Layout.{Sizes, second_at}
 use Rattle.core_journal.specs.declared.event.Event.{Event}

@@ -1,8 +1,7 @@
-use Rattle.std.proofs.Common.{rules, arith, ap, ap₂, subst, sym, ◌∙◌, ◌≡◌, ◌≢◌, ◌<◌, ◌^◌, [], ℕ, List}
+use Rattle.std.proofs.Common.{rules, arith, ap, ap₂, subst, sym, ◌∙◌, ◌≡◌, ◌≢◌, ◌<◌, ◌^◌, [], ℕ}
 use Rattle.packed_link.specs.Link.{index_of, mark_of, nowhere}
 use Rattle.packed_link.specs.Layout.{Sizes, key_at, link_at}
 use Rattle.packed_link.specs.declared.link.Life.{Life}
-use Rattle.core_journal.specs.declared.event.Event.{Event}
 use Rattle.core_kept.specs.Facts.{IsLinkOf}
 use Rattle.core_rule.specs.Fronts.{MetEdge, key_in}
 use Rattle.core_stretches.proofs.MakesAddUp.{makes_chain}
@@ -180,4 +179,4 @@ returns-clause-stepped c =
     edge_stepped v u w p q c.requires.position.0 e c.load-key.result c.load.result c.requires.table.layout
     c.load.ensures.table.layout c.load.ensures.table.sound.kept h some s live c.edge_at-edge.ensures.makes
     (ap (λ (y : Life). y.index) life ∙ index) (ap (λ (y : Life). y.tag) life ∙ c.tag.ensures.tag)
-    c.edge_at-edge.ensures.key linked c.edge_at-edge.ensures.target is
+    c.edge_at-edge.ensures.key linked is

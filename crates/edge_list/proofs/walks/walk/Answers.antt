@@ -351,7 +351,7 @@ returns-then-found-from-2-clause-found c =
     c.load-link.ensures.table.layout c.load-link.ensures.table.sound.kept s live is c.edge_at-edge.ensures.makes
     (ap (λ (y : Life). y.index) life ∙ c.index-next.ensures.index)
     (ap (λ (y : Life). y.tag) life ∙ c.tag.ensures.tag)
-    (c.edge_at-edge.ensures.key ∙ on.key_same) c.edge_at-edge.ensures.linked c.edge_at-edge.ensures.target
+    (c.edge_at-edge.ensures.key ∙ on.key_same) c.edge_at-edge.ensures.linked
     (ap (λ (t : TokenValue). t.view.front) c.of-here.ensures)
 
 pub loop-layout-smaller : goal.loop-layout-smaller
