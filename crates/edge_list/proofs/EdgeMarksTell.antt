@@ -39,7 +39,8 @@ use Rattle.core_stretches.proofs.EdgeWords.{edge_link_leads}
 use Rattle.core_stretches.proofs.MakesAddUp.{makes_chain, makes_look, makes_won}
 use Rattle.core_stretches.proofs.MakesTell.{makes_goes}
 use Rattle.core_stretches.proofs.WordsLeadOn.{goes_number, goes_sizes, kept_before}
-use Rattle.edge_list.specs.EdgeMarks.{FoundEdgeMarked, IsEdgeMarked, IsRaisedEdge, IsRaising, RaisedValue, WasEdgeMarked, WasEdgeReplaced}
+use Rattle.edge_list.specs.EdgeMarks.{FoundEdgeMarked, IsEdgeMarked, IsRaisedEdge, IsRaising, RaisedValue}
+use Rattle.edge_list.specs.EdgeMarks.{WasEdgeMarked, WasEdgeReplaced}
 use Rattle.edge_list.specs.EdgePositions.{IsSeenEdge, IsUnmarkedEdge}
 use Rattle.edge_list.specs.declared.edge.Edge.{Edge}
 use Rattle.edge_list.proofs.EdgeChangesTell.{carries, grown_is, kept_behind}

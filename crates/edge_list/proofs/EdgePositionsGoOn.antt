@@ -14,7 +14,8 @@ use Rattle.core_journal.proofs.KeptLives.{link_more}
 use Rattle.core_kept.specs.Facts.{HasMet, IsLinkOf}
 use Rattle.core_kept.specs.Kept.{IsKept}
 use Rattle.core_kept.specs.Nodes.{node_in}
-use Rattle.core_rule.specs.Fronts.{IsEdgeBelow, IsEdgeLink, IsVertexLink, LeadsToEdge, LeadsToVertex, MetEdge, MetVertex}
+use Rattle.core_rule.specs.Fronts.{IsEdgeBelow, IsEdgeLink, IsVertexLink, LeadsToEdge, LeadsToVertex, MetEdge}
+use Rattle.core_rule.specs.Fronts.{MetVertex}
 use Rattle.core_rule.specs.Stretches.{Own, Elsewhere, HasPass}
 use Rattle.core_rule.specs.Views.{GoesOn}
 use Rattle.core_rule.specs.declared.view.View.{View}

@@ -1,4 +1,5 @@
--- What the start of a walk, a walk and a step tell, by the loads of the words of the edge to which their position leads.
+-- What the start of a walk, a walk and a step tell, by the loads of the words of the edge to which their position
+-- leads.
 use Rattle.std.proofs.Common.{◌≡◌, ◌≢◌, ℕ, ◌+◌, ◌-◌, ◌<◌, ◌≤◌, ◌^◌, Bool, true, false, List, [], Some, inl, refl, sym}
 use Rattle.std.proofs.Common.{ap, ap₂, ◌∙◌, subst, arith}
 use Rattle.packed_link.specs.Link.{index_of, mark_of, tag_of, nowhere}
@@ -34,11 +35,13 @@ use Rattle.core_stretches.proofs.WordsLeadOn.{word_opened, word_passes, word_ris
 use Rattle.graph_table.specs.Tokens.{TableValue, TokenValue, IsOf}
 use Rattle.edge_list.specs.EdgePositions.{EdgePositionValue, IsEdgePosition, IsGapOfEdge, IsSeenEdge, IsUnmarkedEdge}
 use Rattle.edge_list.specs.EdgePositions.{LeadsToDeadEdge}
-use Rattle.edge_list.specs.EdgeWalks.{FoundFrozen, HasTarget, IsEdgeAt, IsEdgeDead, IsEdgeDeadStep, IsEdgeGone, IsEdgeHere, IsStarted}
+use Rattle.edge_list.specs.EdgeWalks.{FoundFrozen, HasTarget, IsEdgeAt, IsEdgeDead, IsEdgeDeadStep, IsEdgeGone}
+use Rattle.edge_list.specs.EdgeWalks.{IsEdgeHere, IsStarted}
 use Rattle.edge_list.specs.declared.edge.Edge.{Edge}
 use Rattle.edge_list.specs.declared.walks.EdgeSighting.{EdgeSighting}
 use Rattle.edge_list.proofs.EdgePositionsGoOn.{StandsOn, as_edge_position, as_edge_word, edge_place_words}
-use Rattle.edge_list.proofs.EdgePositionsGoOn.{edge_position_makes, edge_position_with, linked_later, same_link, seen_makes}
+use Rattle.edge_list.proofs.EdgePositionsGoOn.{edge_position_makes, edge_position_with, linked_later, same_link}
+use Rattle.edge_list.proofs.EdgePositionsGoOn.{seen_makes}
 
 -- the second word of the source is loaded
 module _ (v w : View) (source : Life) (key at found : ℕ) (z : IsLayout w.sizes) (has : v.numbered ≡ true)
@@ -206,7 +209,8 @@ weight_loaded_fits v source x third z kept m is =
     subst (λ (n : ℕ). n < 2 ^ 32) (s.weight ∙ sym is) s.weight_fits
 
 -- an edge whose link is loaded unmarked is seen
-module _ (source : Life) (w : View) (x found link : ℕ) (edge : Edge) (z : IsLayout w.sizes) (kept : IsKept w.sizes w.front)
+module _ (source : Life) (w : View) (x found link : ℕ) (edge : Edge) (z : IsLayout w.sizes)
+    (kept : IsKept w.sizes w.front)
     (n : IsLoadedNode (IsOfSource source) x found link w) (live : mark_of link ≡ 0) (index_is : edge.life.index ≡ x)
     (tag_is : edge.life.tag ≡ tag_of link) (key_is : edge.key ≡ found) where
   seen_met : MetEdge w source edge.life
@@ -268,7 +272,8 @@ seen_changed v source edge moment z kept s dead =
     let place = link_at v.sizes edge.life.index in
     let p : EdgePositionValue = record
     { source = source; key = edge.key; place = place; word = s.word; link = 0; moment = moment } in
-    word_changed (IsOfSource source) (StandsOn true source edge.key) (edge_place_words true source edge.key) place s.word
+    word_changed (IsOfSource source) (StandsOn true source edge.key) (edge_place_words true source edge.key) place
+    s.word
     moment v z (as_edge_word true v p s.position)
     (λ same. differ (edge_marked v.front edge.life) dead
     (edge_live_shown v z kept source edge.life s.met (ap mark_of same ∙ s.position.unmarked)).1)
@@ -300,50 +305,38 @@ until : (passed : Bool) (w : View) (p : EdgePositionValue) → IsEdgePosition pa
 until passed w p h =
     word_until (StandsOn passed p.source p.key) p.place p.word p.moment w (as_edge_word passed w p h)
 
--- the same position with another source and key that are its own, and another link
-abbrev pub told_as : EdgePositionValue → Life → ℕ → ℕ → EdgePositionValue
-told_as p source key link = record p { source = source; key = key; link = link }
-
 -- how the position of a walk stands to the one that it began with
-pub record IsOnWalk (from p : EdgePositionValue) (source : Life) (key : ℕ) : Type 0 where
-  pub source_here : p.source ≡ from.source
-  pub key_here : p.key ≡ from.key
-  pub source_same : source ≡ from.source
-  pub key_same : key ≡ from.key
+pub record IsOnWalk (from p : EdgePositionValue) : Type 0 where
+  pub source_is : p.source ≡ from.source
+  pub key_is : p.key ≡ from.key
   pub since : IsPrefix from.moment p.moment
 
-gone : (w : View) (from p : EdgePositionValue) (source : Life) (key : ℕ) → IsOnWalk from p source key → IsLayout w.sizes
-    → IsGapOfEdge w p → LacksEdge p.source p.key p.moment → IsEdgeGone from w (told_as p source key p.link)
-gone w from p source key on z g none =
-    let k : p.key ≡ key = on.key_here ∙ sym on.key_same in
-    let s : p.source ≡ source = on.source_here ∙ sym on.source_same in
-    record {
-      source = on.source_same;
-      key = on.key_same;
-      gap = subst (λ (n : ℕ). IsGapOfEdge w (told_as p source n p.link)) k
-          (subst (λ (y : Life). IsGapOfEdge w (told_as p y p.key p.link)) s g);
-      there = record {
-        since = on.since;
-        until = until false w p g.position;
-        holds = subst (λ (n : ℕ). LacksEdge from.source n p.moment) on.key_here
-            (subst (λ (y : Life). LacksEdge y p.key p.moment) on.source_here none);
-      };
-    }
+gone : (w : View) (from p : EdgePositionValue) → IsOnWalk from p → IsGapOfEdge w p → LacksEdge p.source p.key p.moment
+    → IsEdgeGone from w p
+gone w from p on g none = record {
+  source = on.source_is;
+  key = on.key_is;
+  gap = g;
+  there = record {
+    since = on.since;
+    until = until false w p g.position;
+    holds = subst (λ (n : ℕ). LacksEdge from.source n p.moment) on.key_is
+        (subst (λ (y : Life). LacksEdge y p.key p.moment) on.source_is none);
+  };
+}
 
 -- the answers of a walk: the word leads to none
-pub edge_gone_at_end : (w : View) (from p : EdgePositionValue) (source : Life) (key : ℕ) → IsOnWalk from p source key
-    → IsLayout w.sizes → IsEdgePosition false w p → index_of p.word ≡ nowhere
-    → IsEdgeGone from w (told_as p source key p.link)
-edge_gone_at_end w from p source key on z h none = gone w from p source key on z
+pub edge_gone_at_end : (w : View) (from p : EdgePositionValue) → IsOnWalk from p → IsLayout w.sizes
+    → IsEdgePosition false w p → index_of p.word ≡ nowhere → IsEdgeGone from w p
+edge_gone_at_end w from p on z h none = gone w from p on
     (record { position = h; behind = λ some. absurd (some none) }) (lacks_edge w p z h (λ some. absurd (some none)))
 
 -- or to a greater key
-pub edge_gone_before : (v w : View) (from p : EdgePositionValue) (source : Life) (key found link : ℕ)
-    → IsOnWalk from p source key → IsLayout w.sizes → IsEdgeLoaded false v w p found link → p.key < found
-    → IsEdgeGone from w (told_as p source key p.link)
-edge_gone_before v w from p source key found link on z s above =
+pub edge_gone_before : (v w : View) (from p : EdgePositionValue) (found link : ℕ) → IsOnWalk from p → IsLayout w.sizes
+    → IsEdgeLoaded false v w p found link → p.key < found → IsEdgeGone from w p
+edge_gone_before v w from p found link on z s above =
     let a : p.key < key_in w (index_of p.word) = subst (λ (k : ℕ). p.key < k) (sym s.node.key_is) above in
-    gone w from p source key on z (record {
+    gone w from p on (record {
       position = s.position;
       behind = λ some. record {
         life = life_in w.sizes w.front (index_of p.word);
@@ -355,44 +348,32 @@ edge_gone_before v w from p source key found link on z s above =
     (lacks_edge w p z s.position (λ some. a))
 
 -- or to a marked edge
-pub edge_dead_end : (v w : View) (from p : EdgePositionValue) (source : Life) (key found link : ℕ)
-    → IsOnWalk from p source key → IsEdgeLoaded false v w p found link → mark_of link ≡ 1
-    → IsEdgeDead from w (told_as p source key link)
-edge_dead_end v w from p source key found link on s dead =
-    let k : p.key ≡ key = on.key_here ∙ sym on.key_same in
-    let is : p.source ≡ source = on.source_here ∙ sym on.source_same in
-    record {
-      source = on.source_same;
-      key = on.key_same;
-      since = on.since;
-      position = subst (λ (n : ℕ). IsEdgePosition false w (told_as p source n link)) k
-          (subst (λ (y : Life). IsEdgePosition false w (told_as p y p.key link)) is
-          (edge_position_with false w p link s.position));
-      dead = subst (λ (n : ℕ). LeadsToDeadEdge w (told_as p source n link)) k
-          (subst (λ (y : Life). LeadsToDeadEdge w (told_as p y p.key link)) is
-          (loaded_dead w p found link s.node dead));
-    }
+pub edge_dead_end : (v w : View) (from p : EdgePositionValue) (found link : ℕ) → IsOnWalk from p
+    → IsEdgeLoaded false v w p found link → mark_of link ≡ 1 → IsEdgeDead from w (record p { link = link })
+edge_dead_end v w from p found link on s dead = record {
+  source = on.source_is;
+  key = on.key_is;
+  since = on.since;
+  position = edge_position_with false w p link s.position;
+  dead = loaded_dead w p found link s.node dead;
+}
 
 -- or to the edge of the key, whose target and weight are loaded then
-pub edge_here : (v u w : View) (from p : EdgePositionValue) (source : Life) (key found link : ℕ) (s : EdgeSighting)
-    → IsOnWalk from p source key → IsLayout u.sizes → IsKept u.sizes u.front → IsEdgeLoaded false v u p found link
-    → mark_of link ≡ 0 → found ≡ from.key → Makes u [] w → s.edge.life.index ≡ index_of p.word
-    → s.edge.life.tag ≡ tag_of link → s.edge.key ≡ from.key
-    → IsLinkOf u.front s.edge.life source s.edge.target s.edge.key s.edge.weight
+pub edge_here : (v u w : View) (from p : EdgePositionValue) (found link : ℕ) (s : EdgeSighting) → IsOnWalk from p
+    → IsLayout u.sizes → IsKept u.sizes u.front → IsEdgeLoaded false v u p found link → mark_of link ≡ 0
+    → found ≡ p.key → Makes u [] w → s.edge.life.index ≡ index_of p.word → s.edge.life.tag ≡ tag_of link
+    → s.edge.key ≡ p.key → IsLinkOf u.front s.edge.life p.source s.edge.target s.edge.key s.edge.weight
     → s.moment.value.view.front ≡ u.front → IsEdgeHere from w s
-edge_here v u w from p source key found link s on z kept loaded live is makes index_is tag_is key_is linked same =
-    let own : IsLinkOf u.front s.edge.life p.source s.edge.target s.edge.key s.edge.weight = subst
-    (λ (y : Life). IsLinkOf u.front s.edge.life y s.edge.target s.edge.key s.edge.weight)
-    (on.source_same ∙ sym on.source_here) linked in
+edge_here v u w from p found link s on z kept loaded live is makes index_is tag_is key_is linked same =
     let seen_p : IsSeenEdge u p.source s.edge u.front = loaded_seen p.source u (index_of p.word) found link s.edge z
-    kept loaded.node live index_is tag_is (key_is ∙ sym is) own in
+    kept loaded.node live index_is tag_is (key_is ∙ sym is) linked in
     let seen_u : IsSeenEdge u from.source s.edge u.front = subst
-    (λ (y : Life). IsSeenEdge u y s.edge u.front) on.source_here seen_p in
+    (λ (y : Life). IsSeenEdge u y s.edge u.front) on.source_is seen_p in
     let seen : IsSeenEdge w from.source s.edge u.front = seen_makes u w [] from.source s.edge u.front z tt tt makes
     seen_u in
     let later = makes_later u w [] makes in
     record {
-      key = key_is;
+      key = key_is ∙ on.key_is;
       seen = subst (λ (f : List Event). IsSeenEdge w from.source s.edge f) (sym same) seen;
       there = subst (λ (f : List Event). HoldsBetween from.moment w.front (IsUnmarkedEdge from.source s.edge) f)
           (sym same)

@@ -40,7 +40,8 @@ use Rattle.edge_list.specs.EdgeMarks.{replacing_stores}
 use Rattle.edge_list.specs.EdgePositions.{EdgePositionValue, IsEdgePosition, IsUnmarkedEdge}
 use Rattle.edge_list.proofs.EdgeChangesTell.{carries, edge_lost, grown_is, kept_behind, none_fresh}
 use Rattle.edge_list.proofs.EdgeMarksTell.{pair_told, raised_makes, unmarked_before}
-use Rattle.edge_list.proofs.EdgePositionsGoOn.{StandsOn, as_edge_position, edge_place_apart, edge_position_makes, same_link}
+use Rattle.edge_list.proofs.EdgePositionsGoOn.{StandsOn, as_edge_position, edge_place_apart, edge_position_makes}
+use Rattle.edge_list.proofs.EdgePositionsGoOn.{same_link}
 
 -- the target of an edge that was met is a node of the table, and its tag fits
 pub target_fits : (v : View) (r : RaisedValue) → IsLayout v.sizes → IsKept v.sizes v.front → IsRaisedEdge v r
@@ -148,7 +149,8 @@ module _ (v u m : View) (r : RaisedValue) (weight seen : ℕ) (x : Life) (at : �
   loaded_is = ap (word_at v.sizes u.front) (sym at_is) ∙ sym l.word
 
   -- the exchange was made
-  module _ (other : r.edge.weight ≢ weight) (w : View) (place : ℕ) (place_is : place ≡ link_at m.sizes r.edge.life.index)
+  module _ (other : r.edge.weight ≢ weight) (w : View) (place : ℕ)
+      (place_is : place ≡ link_at m.sizes r.edge.life.index)
       (won_by_words : Won m place seen (replaced_event m seen r.edge.life x) w) where
     made_event : Won m place seen (replacing m r weight seen x) w
     made_event = subst (λ (y : Event). Won m place seen y w)

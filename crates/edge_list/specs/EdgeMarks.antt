@@ -23,7 +23,8 @@ use Rattle.edge_list.specs.EdgeChanges.{CarriesBetween}
 use Rattle.edge_list.specs.EdgePositions.{IsUnmarkedEdge}
 use Rattle.edge_list.specs.declared.edge.Edge.{Edge}
 use Rattle.edge_list.specs.declared.marking.EdgeMarked.{EdgeMarked}
-use Rattle.edge_list.specs.declared.marking.EdgeMarked.TheVariants.{Won as MarkWon, Was as MarkWas, Replaced as MarkReplaced}
+use Rattle.edge_list.specs.declared.marking.EdgeMarked.TheVariants.{Won as MarkWon, Was as MarkWas}
+use Rattle.edge_list.specs.declared.marking.EdgeMarked.TheVariants.{Replaced as MarkReplaced}
 use Rattle.edge_list.specs.declared.replacing.EdgeReplaced.{EdgeReplaced}
 use Rattle.edge_list.specs.declared.replacing.EdgeReplaced.TheVariants.{Done as ReplaceDone, Lost as ReplaceLost}
 

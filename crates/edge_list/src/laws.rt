@@ -68,9 +68,9 @@ pub fn edge_positions_go_on()
 {}
 
 /// The place of a position on a source's list is no word of a fresh node, so filling one leaves the position; nor that
-/// of the free list, so taking a node does; nor a third word, so raising a counter does; nor one that leads to vertices,
-/// so changing a bucket's list does; nor the second word of another vertex or the link of an edge of another source, so
-/// changing or freezing another list does.
+/// of the free list, so taking a node does; nor a third word, so raising a counter does; nor one that leads to
+/// vertices, so changing a bucket's list does; nor the second word of another vertex or the link of an edge of another
+/// source, so changing or freezing another list does.
 pub fn edge_positions_stand_apart()
     ensures fresh { (passed : Bool) (v : View) (p : EdgePositionValue) (x : Life) (field : ℕ) → IsLayout v.sizes
         → field < 4 → IsHeldFresh v x → IsEdgePosition passed v p → key_at v.sizes x.index + field ≢ p.place }
@@ -87,9 +87,9 @@ pub fn edge_positions_stand_apart()
 {}
 
 /// An edge that was found unmarked was so in each later view of the pass, where the token made no event at its link
-/// since. If it's marked by then, another caller marked or replaced it after it was found. An edge for which the counter
-/// of its source was raised is one in each later view of the pass, whatever its token made: so it's marked or replaced
-/// by later tries with no further raise. One life is one edge.
+/// since. If it's marked by then, another caller marked or replaced it after it was found. An edge for which the
+/// counter of its source was raised is one in each later view of the pass, whatever its token made: so it's marked or
+/// replaced by later tries with no further raise. One life is one edge.
 pub fn found_edges_go_on()
     ensures seen { (v w : View) (own : List Event) (source : Life) (edge : Edge) (moment : List Event)
         → IsLayout v.sizes → Every StaysInPass own → Every (λ e. e.place ≢ link_at v.sizes edge.life.index) own

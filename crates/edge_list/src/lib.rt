@@ -1,10 +1,10 @@
 //! The lists of edges: one sorted chain for each vertex, behind its second word.
 //!
-//! A walk goes from unmarked word to unmarked word, a marked edge is unlinked by whoever comes by, and an edge is linked
-//! by one exchange on the unmarked word before it (Harris 2001, Michael 2002). Before an edge is marked or replaced, the
-//! counter of its source is raised. The caller that unlinked a vertex marks its second word, so that no edge is linked
-//! there any more, and then the link of each edge in turn, also of those that were marked before; each is handed over to
-//! it. Behind a frozen word nothing is linked, so the list has an end.
+//! A walk goes from unmarked word to unmarked word, a marked edge is unlinked by whoever comes by, and an edge is
+//! linked by one exchange on the unmarked word before it (Harris 2001, Michael 2002). Before an edge is marked or
+//! replaced, the counter of its source is raised. The caller that unlinked a vertex marks its second word, so that no
+//! edge is linked there any more, and then the link of each edge in turn, also of those that were marked before; each
+//! is handed over to it. Behind a frozen word nothing is linked, so the list has an end.
 #![tactic(auto)]
 
 mod changes;

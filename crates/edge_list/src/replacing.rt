@@ -21,10 +21,10 @@ pub enum EdgeReplaced {
     Lost(Fresh),
 }
 
-/// Replaces an edge by one of another weight, after this pass raised the counter of its source for it, in O(1): it loads
-/// the edge's link, fills the node with four stores, and makes one exchange, which marks the edge and links the new one
-/// behind it. The weight is at least 1. `Lost` comes only where the link that this call loaded is marked, or another
-/// caller changed it after that.
+/// Replaces an edge by one of another weight, after this pass raised the counter of its source for it, in O(1): it
+/// loads the edge's link, fills the node with four stores, and makes one exchange, which marks the edge and links the
+/// new one behind it. The weight is at least 1. `Lost` comes only where the link that this call loaded is marked, or
+/// another caller changed it after that.
 pub fn replace(
     table: &GraphTable,
     token: &mut Token,

@@ -79,9 +79,9 @@ pub fn start(table: &GraphTable, token: &mut Token, from: Life, key: u32) -> Sta
 
 /// Goes from a position to its key, with two loads for each edge that it comes to, and two more at the edge that it
 /// finds. `Here`: when the edge's link was loaded, it was linked with this key and unmarked. `Gone`: when the word of
-/// the position that is handed back was loaded, no edge of the source with this key was linked and unmarked. `Dead`: the
-/// word of that position was loaded unmarked and leads to an edge whose link, loaded after it, is marked. It ends, since
-/// keys rise along the unmarked links.
+/// the position that is handed back was loaded, no edge of the source with this key was linked and unmarked. `Dead`:
+/// the word of that position was loaded unmarked and leads to an edge whose link, loaded after it, is marked. It ends,
+/// since keys rise along the unmarked links.
 pub fn walk(table: &GraphTable, token: &mut Token, position: EdgePosition) -> EdgeFound
     requires table { IsOf table.now token.old }
     requires number { token.old.view.numbered ≡ true }
@@ -91,60 +91,38 @@ pub fn walk(table: &GraphTable, token: &mut Token, position: EdgePosition) -> Ed
     ensures found { MatchEdgeFound result position token.new.view }
 {
     let layout = table.layout();
-    let EdgePosition {
-        source,
-        key,
-        mut place,
-        mut word,
-        link: _,
-        mut moment,
-    } = position;
+    let mut position = position;
     loop {
-        let next = Link(word).index();
+        let next = position.word().index();
         if next == 16_777_215 {
-            return EdgeFound::Gone(EdgePosition {
-                source,
-                key,
-                place,
-                word,
-                link: 0,
-                moment,
-            });
+            return EdgeFound::Gone(position);
         }
         let found = table.load(token, layout.key_at(next));
         let link = table.load(token, layout.link_at(next));
         if Link(link).marked() {
-            return EdgeFound::Dead(EdgePosition {
-                source,
-                key,
-                place,
-                word,
-                link,
-                moment,
-            });
+            let position = EdgePosition { link, ..position };
+            return EdgeFound::Dead(position);
         }
+        let key = position.key;
         if found > u64::from(key) {
-            return EdgeFound::Gone(EdgePosition {
-                source,
-                key,
-                place,
-                word,
-                link: 0,
-                moment,
-            });
+            return EdgeFound::Gone(position);
         }
-        let here = Snapshot::of(&*token);
+        let moment = Snapshot::of(&*token);
         if found == u64::from(key) {
             let life = Life {
                 index: next,
                 tag: Link(link).tag(),
             };
-            let edge = edge_at(table, token, source, life, key);
-            return EdgeFound::Here(EdgeSighting { edge, moment: here });
+            let edge = edge_at(table, token, position.source, life, key);
+            return EdgeFound::Here(EdgeSighting { edge, moment });
         }
-        place = layout.link_at(next);
-        word = link;
-        moment = here;
+        let place = layout.link_at(next);
+        position = EdgePosition {
+            place,
+            word: link,
+            moment,
+            ..position
+        };
     }
 }
 

@@ -44,7 +44,8 @@ key_at-requires c =
     let l = c.mark_edge.ensures.marked.was dead in
     let some : index_of c.mark_edge.result ≢ nowhere = λ e. omega
     (arith, c.index-next.ensures.index, c.if-next-eq16777215.false, e) in
-    let there = next_is_there v u r _ c.mark_edge.result c.requires.table.layout c.requires.number c.requires.table.sound h at l dead
+    let there = next_is_there v u r _ c.mark_edge.result c.requires.table.layout c.requires.number
+    c.requires.table.sound h at l dead
     some in
     omega (
       arith,
@@ -70,7 +71,8 @@ returns-then-behind-from-clause-marked c =
     let key : c.key_at.result ≡ key_at u.sizes (index_of c.mark_edge.result) = c.key_at.ensures.place ∙ ap₂ key_at
     (c.layout-layout.ensures.sizes ∙ sym c.mark_edge.ensures.table.sizes) c.index-next.ensures.index in
     subst (λ (q : RaisedValue). WasEdgeReplaced q v w) c.raised.view_is
-    (was_replaced v u r _ c.mark_edge.result c.requires.table.layout c.requires.number c.requires.table.sound h at l dead
+    (was_replaced v u r _ c.mark_edge.result c.requires.table.layout c.requires.number
+    c.requires.table.sound h at l dead
     w _ c.load-behind.result some key c.load-behind.ensures.looked (c.if-behind-from.true ∙ c.from.ensures))
 
 pub returns-else-behind-from-clause-marked : goal.returns-else-behind-from-clause-marked

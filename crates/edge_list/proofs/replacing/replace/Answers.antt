@@ -21,7 +21,8 @@ returns-then-marked-clause-replaced c =
     let dead : mark_of c.load.result ≡ 1 = search rules in (
       refl,
       inl (subst (λ (q : RaisedValue). FoundEdgeMarked q v u) c.raised.view_is
-          (found_marked v u r _ c.load.result c.requires.table.layout c.requires.number c.requires.table.sound h at l dead)),
+          (found_marked v u r _ c.load.result c.requires.table.layout c.requires.number
+          c.requires.table.sound h at l dead)),
     )
 
 pub fill_edge-requires-clause-fresh : goal.fill_edge-requires-clause-fresh
@@ -69,7 +70,8 @@ replace_edge-requires-clause-may c =
     let other : r.edge.weight ≢ c.args.weight = λ same. c.requires.other
     (ap (λ (q : RaisedValue). q.edge.weight) (sym c.raised.view_is) ∙ same) in
     may_replace m r c.args.weight c.load.result x c.fill_edge.ensures.table.layout c.fill_edge.ensures.table.sound
-    (raised_m v u m r c.args.weight c.load.result x _ c.requires.table.layout c.requires.number c.requires.table.sound h at
+    (raised_m v u m r c.args.weight c.load.result x _ c.requires.table.layout c.requires.number
+    c.requires.table.sound h at
     l live c.fill_edge.ensures.table.sound c.fill_edge.ensures.makes c.fill_edge.ensures.filled)
     c.fill_edge.ensures.filled live other
 
@@ -92,7 +94,8 @@ returns-in-Won-clause-replaced c =
     let w = c.replace_edge.new.token.view in (
       c.in-Won.ensures.tried.0,
       subst (λ (q : RaisedValue). IsEdgeReplaced q c.args.weight x v w) c.raised.view_is
-          (replaced v u m r c.args.weight c.load.result x _ c.requires.table.layout c.requires.number c.requires.table.sound h at
+          (replaced v u m r c.args.weight c.load.result x _ c.requires.table.layout c.requires.number
+          c.requires.table.sound h at
           l live c.fill_edge.ensures.table.sound c.fill_edge.ensures.makes c.fill_edge.ensures.filled
           other w _ place c.in-Won.ensures.tried.1),
     )
@@ -119,7 +122,8 @@ returns-in-Lost-clause-replaced c =
       c.in-Lost.ensures.tried.0,
       inr (subst (λ (q : RaisedValue). IsReplaceLost q c.args.weight x v w)
           c.raised.view_is
-          (replace_lost v u m r c.args.weight c.load.result x _ c.requires.table.layout c.requires.number c.requires.table.sound h at
+          (replace_lost v u m r c.args.weight c.load.result x _ c.requires.table.layout c.requires.number
+          c.requires.table.sound h at
           l live c.fill_edge.ensures.table.sound c.fill_edge.ensures.makes c.fill_edge.ensures.filled
           w _ _ c.replace_edge.ensures.table.layout fresh place c.in-Lost.ensures.tried.1)),
     )

@@ -1,4 +1,4 @@
-use Rattle.std.proofs.Common.{◌+◌, ◌-◌, false, []}
+use Rattle.std.proofs.Common.{◌≡◌, ◌+◌, ◌-◌, false, []}
 use Rattle.core_journal.specs.Prefix.{IsPrefix}
 use Rattle.core_stretches.specs.Makes.{Makes}
 use Rattle.core_stretches.proofs.WordsLeadOn.{low_at}
@@ -10,17 +10,11 @@ abbrev pub invariant-loop-layout : goal.invariant-loop-layout
 invariant-loop-layout l = record {
   of : IsOf l.fn.table l.token;
   makes : Makes l.fn.token.view [] l.token.view;
-  since : IsPrefix l.fn.position.moment l.moment.value.view.front;
-  at : IsEdgePosition false l.token.view (record {
-    source = l.fn.position.source;
-    key = l.fn.position.key;
-    place = l.place;
-    word = l.word;
-    link = 0;
-    moment =
-        l.moment.value.view.front;
-  });
+  source : l.position.source ≡ l.fn.position.source;
+  key : l.position.key ≡ l.fn.position.key;
+  since : IsPrefix l.fn.position.moment l.position.moment;
+  at : IsEdgePosition false l.token.view l.position;
 }
 
 abbrev pub decreases-loop-layout : goal.decreases-loop-layout
-decreases-loop-layout l = l.fn.position.key + 1 - low_at l.fn.table.sizes l.moment.value.view.front l.place
+decreases-loop-layout l = l.fn.position.key + 1 - low_at l.fn.table.sizes l.position.moment l.position.place
