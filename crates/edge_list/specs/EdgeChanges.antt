@@ -22,8 +22,8 @@ use Rattle.edge_list.specs.declared.changes.EdgeUnlinked.TheVariants.{Done as Un
 use Rattle.edge_list.specs.declared.changes.EdgeLinked.{EdgeLinked}
 use Rattle.edge_list.specs.declared.changes.EdgeLinked.TheVariants.{Done as LinkDone, Lost as LinkLost}
 
--- the token's own event, the last of the front, is about an edge from one life to another: where both are present right
--- before it, it carries out the call on their keys, and where one isn't, it leaves the graph as it is
+-- the token's own event, the last of the front, is about an edge from one life to another: if both are present right
+-- before it, it carries out the call on their keys, and if one isn't, it leaves the graph as it is
 pub record CarriesBetween (source target : Life) (call : ℕ → ℕ → Call) (e : Event) (w : View) : Type 0 where
   pub past : List Event
   pub front : w.front ≡ past ++ e ∷ []
@@ -58,7 +58,7 @@ abbrev pub MatchEdgeUnlinked : EdgeUnlinked → EdgePositionValue → View → V
 MatchEdgeUnlinked (UnlinkDone x q) p v w = IsEdgeUnlinked p v w x q
 MatchEdgeUnlinked UnlinkLost p v w = IsEdgeTryLost p v w
 
--- the edge is linked by the last event of the front, which adds its pair to the graph where both ends are present; it
+-- the edge is linked by the last event of the front, which adds its pair to the graph if both ends are present; it
 -- was the only fresh node of the token, which holds none now
 pub record IsEdgeLinked (p : EdgePositionValue) (target : Life) (weight : ℕ) (x : Life) (v w : View) : Type 0 where
   pub makes : Makes v (link_edge_event v p.place p.word p.key p.source target weight x ∷ []) w

@@ -50,7 +50,7 @@ pub record IsRaising (source : Life) (edge : Edge) (v w : View) (r : RaisedValue
   pub raised : IsRaisedEdge w r
 
 -- the edge, which was unmarked right before, is marked by the last event of the front, which takes its pair from the
--- graph where both ends are present
+-- graph if both ends are present
 pub record IsEdgeMarked (r : RaisedValue) (v w : View) : Type 0 where
   pub found : ℕ
   pub makes : Makes v (mark_edge_event v r.edge.life found ∷ []) w
@@ -87,7 +87,7 @@ replacing v r weight seen x = replace_event v seen r.edge.key r.source r.edge.ta
 abbrev pub replacing_stores : View → RaisedValue → (weight seen : ℕ) → Life → List Event
 replacing_stores v r weight seen x = edge_stores v x r.edge.key (index_of seen) r.edge.target weight
 
--- the edge, which was unmarked right before, is replaced by the last event of the front: where both ends are present,
+-- the edge, which was unmarked right before, is replaced by the last event of the front: if both ends are present,
 -- the graph has its pair with the new weight from then on. The node was filled, with where a link of the edge leads
 -- that this call loaded; it was the only fresh node of the token, which holds none now
 pub record IsEdgeReplaced (r : RaisedValue) (weight : ℕ) (x : Life) (v w : View) : Type 0 where

@@ -29,7 +29,7 @@ pub enum EdgeLinked {
 
 /// Unlinks the marked edge to which a position leads, in O(1): one exchange on the word before it, and no load, for the
 /// position keeps the edge's link. After `Done` the position has the word that the exchange wrote, and its moment is
-/// that of the exchange; the edge stands on no list, so it may be retired. `Lost` comes only where another caller
+/// that of the exchange; the edge stands on no list, so it may be retired. `Lost` comes only if another caller
 /// changed the word since the position's load.
 pub fn unlink(table: &GraphTable, token: &mut Token, position: EdgePosition) -> EdgeUnlinked
     requires table { IsOf table.now token.old }
@@ -76,7 +76,7 @@ pub fn unlink(table: &GraphTable, token: &mut Token, position: EdgePosition) -> 
 }
 
 /// Links an edge that was filled for a position at which its key is missing, in O(1): one exchange. Its target was met
-/// in this pass and has the position's key. `Lost` comes only where another caller changed the word since the
+/// in this pass and has the position's key. `Lost` comes only if another caller changed the word since the
 /// position's load.
 pub fn link(
     table: &GraphTable,

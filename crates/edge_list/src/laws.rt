@@ -51,9 +51,9 @@ pub fn edges_are_handed_over_once()
         → Contains ys y }
 {}
 
-/// A position on a source's list stays one where each event that its token made since then stays in the pass and stands
-/// at another place. The key is missing behind it still where it was, and the edge to which it leads is marked still
-/// where it was. The source of a position was met, and its place is a word that leads to edges of it.
+/// A position on a source's list stays one if each event that its token made since then stays in the pass and stands
+/// at another place. If the key was missing behind it, it's missing there still, and if it led to a marked edge, it
+/// does so still. The source of a position was met, and its place is a word that leads to edges of it.
 pub fn edge_positions_go_on()
     ensures position { (passed : Bool) (v w : View) (own : List Event) (p : EdgePositionValue) → Every StaysInPass own
         → Every (λ e. e.place ≢ p.place) own → Makes v own w → IsEdgePosition passed v p → IsEdgePosition passed w p }
@@ -86,10 +86,10 @@ pub fn edge_positions_stand_apart()
         → IsEdgePosition passed v p → MetEdge v source x → source ≢ p.source → link_at v.sizes x.index ≢ p.place }
 {}
 
-/// An edge that was found unmarked was so in each later view of the pass, where the token made no event at its link
+/// An edge that was found is one that was found in each later view of the pass, if the token made no event at its link
 /// since. If it's marked by then, another caller marked or replaced it after it was found. An edge for which the
-/// counter of its source was raised is one in each later view of the pass, whatever its token made: so it's marked or
-/// replaced by later tries with no further raise. One life is one edge.
+/// counter of its source was raised is one in each later view of the pass, whatever its token made: so later tries mark
+/// or replace it with no further raise. One life is one edge.
 pub fn found_edges_go_on()
     ensures seen { (v w : View) (own : List Event) (source : Life) (edge : Edge) (moment : List Event)
         → IsLayout v.sizes → Every StaysInPass own → Every (λ e. e.place ≢ link_at v.sizes edge.life.index) own

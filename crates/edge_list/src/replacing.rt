@@ -23,7 +23,7 @@ pub enum EdgeReplaced {
 
 /// Replaces an edge by one of another weight, after this pass raised the counter of its source for it, in O(1): it
 /// loads the edge's link, fills the node with four stores, and makes one exchange, which marks the edge and links the
-/// new one behind it. The weight is at least 1. `Lost` comes only where the link that this call loaded is marked, or
+/// new one behind it. The weight is at least 1. `Lost` comes only if the link that this call loaded is marked, or
 /// another caller changed it after that.
 pub fn replace(
     table: &GraphTable,

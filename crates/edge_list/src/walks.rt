@@ -51,7 +51,7 @@ pub enum EdgeStepped {
 }
 
 /// The position for a key at the second word of a vertex that this pass met, in O(1): one load. `Frozen` comes exactly
-/// where that word is marked; then the vertex is marked.
+/// if that word is marked; then the vertex is marked.
 pub fn start(table: &GraphTable, token: &mut Token, from: Life, key: u32) -> Started
     requires table { IsOf table.now token.old }
     requires number { token.old.view.numbered ≡ true }
@@ -128,7 +128,7 @@ pub fn walk(table: &GraphTable, token: &mut Token, position: EdgePosition) -> Ed
 
 /// Goes on by one edge, in O(1): four loads. `At`: when the link of the edge to which the position's word leads was
 /// loaded, the edge was linked and unmarked; the position that is handed back stands behind it and has its key. From a
-/// position that a step handed back, the key is greater. `End` comes exactly where the word leads to no edge. `Dead`:
+/// position that a step handed back, the key is greater. `End` comes exactly if the word leads to no edge. `Dead`:
 /// the link of the edge is marked, and the position is handed back, which stands where it did and keeps that link.
 pub fn step(table: &GraphTable, token: &mut Token, position: EdgePosition) -> EdgeStepped
     requires table { IsOf table.now token.old }
