@@ -3,6 +3,7 @@ pub mod EdgeMarksTell
 pub mod EdgePositionsGoOn
 pub mod EdgeUnlinksTell
 pub mod EdgeWalksTell
+pub mod EdgesTellPairs
 pub mod FrozenWords
 pub mod HandedEdges
 pub mod ListUnderFreezing

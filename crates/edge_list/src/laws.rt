@@ -1,28 +1,34 @@
-//! The laws of positions and of edges that were found, and those of a list under freezing.
+//! The laws of positions, of edges that were found and what they tell of the graph, and of a list under freezing.
 
-ghost use Rattle.std.specs.Prelude.{◌≡◌, ◌≢◌, ◌+◌, ◌<◌, ℕ, Bool, true, Contains, List};
+ghost use Rattle.std.specs.Prelude.{◌≡◌, ◌≢◌, ◌+◌, ◌<◌, ℕ, Bool, true, Contains, List, None, Some};
+ghost use Rattle.graph_kinds.specs.Graph.{weight_of};
 ghost use Rattle.graph_kinds.specs.History.{Every};
 ghost use Rattle.packed_link.specs.Layout.{IsLayout, Sizes, free_at, key_at, link_at, second_at, third_at};
 ghost use Rattle.packed_link.specs.Link.{index_of, nowhere};
 ghost use Rattle.packed_link.specs.declared.link.Life.{Life};
 ghost use Rattle.core_chain.specs.Chain.{Head};
 ghost use Rattle.core_journal.specs.declared.event.Event.{Event};
+ghost use Rattle.core_journal.specs.GraphOf.{graph_of, present_key};
 ghost use Rattle.core_journal.specs.Life.{edge_marked};
 ghost use Rattle.core_journal.specs.Machine.{word_at};
+ghost use Rattle.core_journal.specs.Prefix.{IsPrefix};
 ghost use Rattle.core_journal.specs.State.{state};
 ghost use Rattle.core_kept.specs.Kept.{IsKept};
 ghost use Rattle.core_kept.specs.Nodes.{is_frozen, is_listed};
 ghost use Rattle.core_lists.specs.Chains.{KeepsList};
 ghost use Rattle.core_lists.specs.Changed.{IsChangedByAnother};
 ghost use Rattle.core_lists.specs.FrozenPaths.{FrozenPath};
+ghost use Rattle.core_lists.specs.Replacements.{IsReplacedBy};
 ghost use Rattle.core_rule.specs.Fronts.{LeadsToEdge, LeadsToVertex, MetEdge, MetVertex};
 ghost use Rattle.core_rule.specs.Stretches.{GivesNone};
 ghost use Rattle.core_rule.specs.declared.view.View.{View};
 ghost use Rattle.core_stretches.specs.Holdings.{IsHeldFresh, IsUnlinkedVertex};
 ghost use Rattle.core_stretches.specs.Makes.{Makes, StaysInPass};
+ghost use Rattle.core_stretches.specs.Moments.{LacksEdge};
 ghost use Rattle.edge_list.specs.EdgeMarks.{IsRaisedEdge, RaisedValue};
+ghost use Rattle.edge_list.specs.EdgePairs.{IsPairGone};
 ghost use Rattle.edge_list.specs.EdgePositions.{EdgePositionValue, IsEdgePosition, IsGapOfEdge, IsSeenEdge};
-ghost use Rattle.edge_list.specs.EdgePositions.{LeadsToDeadEdge};
+ghost use Rattle.edge_list.specs.EdgePositions.{IsUnmarkedEdge, LeadsToDeadEdge};
 ghost use Rattle.edge_list.specs.Freezing.{KeepsFrozen};
 ghost use Rattle.edge_list.specs.declared.edge.Edge.{Edge};
 
@@ -102,4 +108,27 @@ pub fn found_edges_go_on()
     ensures same { (v : View) (r : RaisedValue) (source : Life) (edge : Edge) (moment : List Event)
         → IsRaisedEdge v r → IsSeenEdge v source edge moment → edge.life ≡ r.edge.life
         → (source ≡ r.source) × (edge ≡ r.edge) }
+{}
+
+/// What edges tell of the graph at a moment, between two lives of which the source is present there. The pair of an
+/// unmarked edge has its weight, if the target is present too (`has`). There's no such pair if no edge of the source
+/// with the key is unmarked (`lacks`), nor if the one that is leads to another life of the key than the present one
+/// (`stale`); nor right after the mark of an edge that no event replaced (`gone`). So has-edge, add-edge and remove-edge
+/// read their answers off what walks and marks tell.
+pub fn edges_tell_pairs()
+    ensures has { (sizes : Sizes) → IsLayout sizes → (journal : List Event) → IsKept sizes journal
+        → (source : Life) (edge : Edge) (a b : ℕ) → IsUnmarkedEdge source edge journal
+        → present_key journal source ≡ Some a → present_key journal edge.target ≡ Some b
+        → weight_of (graph_of journal) a b ≡ Some edge.weight }
+    ensures lacks { (sizes : Sizes) → IsLayout sizes → (journal : List Event) → IsKept sizes journal
+        → (source : Life) (a key : ℕ) → LacksEdge source key journal → present_key journal source ≡ Some a
+        → weight_of (graph_of journal) a key ≡ None }
+    ensures stale { (sizes : Sizes) → IsLayout sizes → (journal : List Event) → IsKept sizes journal
+        → (source target : Life) (edge : Edge) (a : ℕ) → IsUnmarkedEdge source edge journal
+        → present_key journal source ≡ Some a → present_key journal target ≡ Some edge.key → edge.target ≢ target
+        → weight_of (graph_of journal) a edge.key ≡ None }
+    ensures gone { (sizes : Sizes) → IsLayout sizes → (journal : List Event) → IsKept sizes journal
+        → (moment : List Event) (source : Life) (edge : Edge) → IsPrefix moment journal
+        → IsUnmarkedEdge source edge moment → edge_marked journal edge.life ≡ true
+        → ((new : Life) → IsReplacedBy journal edge.life new → ⊥) → IsPairGone source edge moment journal }
 {}

@@ -20,7 +20,7 @@ pub use changes::{EdgeLinked, EdgeUnlinked, link, unlink};
 pub use edge::Edge;
 pub use freezing::{Frozen, freeze_head, freeze_next};
 pub use laws::{
-    edge_positions_go_on, edge_positions_stand_apart, edges_are_handed_over_once,
+    edge_positions_go_on, edge_positions_stand_apart, edges_are_handed_over_once, edges_tell_pairs,
     found_edges_go_on, frozen_words_stay_over_stretches,
 };
 pub use marking::{EdgeMarked, Raised, mark, raise};
