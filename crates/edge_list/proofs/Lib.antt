@@ -1,3 +1,10 @@
+pub mod EdgeChangesTell
+pub mod EdgeMarksTell
+pub mod EdgePositionsGoOn
+pub mod EdgeUnlinksTell
+pub mod EdgeWalksTell
+pub mod EdgesTellPairs
 pub mod FrozenWords
-pub mod ListUnderFreezing
 pub mod HandedEdges
+pub mod ListUnderFreezing
+pub mod ReplacementsTell
