@@ -1,0 +1,12 @@
+pub mod LinkNumbers
+pub mod Fronts
+pub mod Gaps
+pub mod Counts
+pub mod Meetings
+pub mod Rows
+pub mod Weights
+pub mod Parts
+pub mod Scans
+pub mod Collects
+pub mod Verifies
+pub mod Differs
