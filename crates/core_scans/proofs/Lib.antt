@@ -10,3 +10,10 @@ pub mod Scans
 pub mod Collects
 pub mod Verifies
 pub mod Differs
+pub mod CollectSteps
+pub mod EdgeSteps
+pub mod Targets
+pub mod Pushes
+pub mod Rooms
+pub mod Alive
+pub mod AnsweredOn

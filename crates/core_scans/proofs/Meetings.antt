@@ -10,6 +10,7 @@ use Rattle.scan_record.specs.declared.rows.EdgeRow.{EdgeRow}
 use Rattle.scan_record.specs.Scan.{ScanValue, edges_of}
 use Rattle.core_journal.specs.declared.event.Event.{Event}
 use Rattle.core_scans.specs.Seen.{Meeting, Recorded, PassedOver, index_met, recorded, IsEdgeSeen}
+use Rattle.core_scans.specs.Walking.{IsRowOpen}
 use Rattle.core_scans.specs.Seen.{IsSeenReplaced, IsMeetingSeen, IsRowSeen}
 
 -- each of them is seen
@@ -28,6 +29,12 @@ pub row_edges : (sizes : Sizes) (caller : ℕ) (s : ScanValue) (start end : List
     → Every (IsEdgeSeen sizes caller s seen.begin end row.life) (edges_of s row)
 row_edges sizes caller s start end row seen = subst (Every (IsEdgeSeen sizes caller s seen.begin end row.life))
     (sym seen.edges) (recorded_seen sizes caller s seen.begin end row.life seen.walked seen.meetings)
+
+pub open_edges : (sizes : Sizes) (caller : ℕ) (s : ScanValue) (start end : List Event) (row : VertexRow) (at : ℕ)
+    (o : IsRowOpen sizes caller s start end row at)
+    → Every (IsEdgeSeen sizes caller s o.begin end row.life) (edges_of s row)
+open_edges sizes caller s start end row at o = subst (Every (IsEdgeSeen sizes caller s o.begin end row.life))
+    (sym o.edges) (recorded_seen sizes caller s o.begin end row.life o.walked o.meetings)
 
 -- what is recorded of a longer walk
 pub recorded_more : (ms ns : List Meeting) → recorded (ms ++ ns) ≡ recorded ms ++ recorded ns

@@ -44,7 +44,7 @@ use Rattle.core_scans.proofs.Meetings.{row_edges}
 use Rattle.core_scans.proofs.Counts.{here_at, counter_on, none_passed}
 
 -- a mark is set or not
-by_mark : {P : Type 0} (word : ℕ) → (mark_of word ≡ 0 → P) → (mark_of word ≡ 1 → P) → P
+pub by_mark : {P : Type 0} (word : ℕ) → (mark_of word ≡ 0 → P) → (mark_of word ≡ 1 → P) → P
 by_mark word zero_ one = dite (ℕ_discrete (mark_of word) 0) zero_ (λ ne. one (omega (arith, mark_of-bound word, ne)))
 
 module _ (sizes : Sizes) (z : IsLayout sizes) (caller : ℕ) (start end now : List Event) (s : ScanValue) (kept : IsKept sizes now) (seen_all : IsPrefix end now) (quiet : IsQuiet now caller (length start)) (open_ : (pass_in sizes start caller).is_open ≡ true) where
