@@ -1,5 +1,6 @@
 -- The step of collect that records an edge.
-use Rattle.std.proofs.Common.{◌≡◌, ◌≢◌, ℕ, ◌+◌, ◌-◌, ◌<◌, ◌≤◌, true, false, List, [], ◌∷◌, ◌++◌, length, take, drop, Some, inl, inr, ⊎_elim, refl, sym, ap, ◌∙◌, subst, arith, append-nil}
+use Rattle.std.proofs.Common.{◌≡◌, ◌≢◌, ℕ, ◌+◌, ◌-◌, ◌<◌, ◌≤◌, List, [], ◌∷◌, ◌++◌, length, take, drop}
+use Rattle.std.proofs.Common.{Some, inl, inr, ⊎_elim, refl, sym, ap, ◌∙◌, subst, arith, append-nil}
 use mathlib.Core.Logic.{dite}
 use native.Mathlib.Decide.{ℕ_discrete}
 use Rattle.graph_kinds.specs.History.{Every}
@@ -35,14 +36,15 @@ use Rattle.core_scans.specs.Seen.{Meeting, Recorded, PassedOver, recorded, IsTar
 use Rattle.core_scans.specs.Seen.{IsSeenReplaced}
 use Rattle.core_scans.specs.Seen.{IsMeetingSeen, IsRowSeen}
 use Rattle.core_scans.specs.Walking.{IsFoundReplaced}
-use Rattle.core_scans.proofs.Meetings.{recorded_more}
-use Rattle.core_scans.proofs.Rows.{by_mark}
-use Rattle.core_scans.specs.Walking.{IsRowMet, AreRowsMet, LeadsUpTo, IsRowOpen, IsEdgeLoaded, IsNextEdge, last_row, IsWithin, IsLonger}
-use Rattle.core_scans.proofs.Scans.{more_edge, edge_other, edge_same, edges_other, edges_same}
+use Rattle.core_scans.proofs.RecordedOfWalk.{recorded_more}
+use Rattle.core_scans.proofs.RowIsHeld.{by_mark}
+use Rattle.core_scans.specs.Walking.{IsRowMet, AreRowsMet, LeadsUpTo, IsRowOpen, IsEdgeLoaded, IsNextEdge, last_row}
+use Rattle.core_scans.specs.Walking.{IsWithin, IsLonger}
+use Rattle.core_scans.proofs.PushesKeepLives.{more_edge, edge_other, edge_same, edges_other, edges_same}
 use Rattle.core_scans.specs.Walking.{IsMore}
-use Rattle.core_scans.proofs.Collects.{was_on, edge_on, meetings_on, row_on, leads_more}
-use Rattle.core_scans.proofs.Scans.{more_same}
-use Rattle.core_scans.proofs.CollectSteps.{met_later, next_later, row_like}
+use Rattle.core_scans.proofs.CollectGoesOn.{was_on, edge_on, meetings_on, row_on, leads_more}
+use Rattle.core_scans.proofs.PushesKeepLives.{more_same}
+use Rattle.core_scans.proofs.RowSteps.{met_later, next_later, row_like}
 
 -- the edge to which a word leads, loaded
 module _ (v : View) (z : IsLayout v.sizes) (kept : IsKept v.sizes v.front) (start : List Event) (s : ScanValue)
@@ -76,153 +78,189 @@ module _ (v w : View) (z : IsLayout v.sizes) (start : List Event) (s t : ScanVal
   met_edge : MetEdge v (last_row s).life e.life
   met_edge = edge_met v z kept start s at e h some loaded
 
-  module _ (seen_target : (link : Event) → link_of v.front e.life ≡ Some link → IsTargetSeen t w.front e link.target) where
-    abbrev pub r : ScanValue
-    r = with_edge t e
+  module _ (seen_target : (link : Event) → link_of v.front e.life ≡ Some link → IsTargetSeen t w.front e link.target)
+    where
+      abbrev pub r : ScanValue
+      r = with_edge t e
 
-    abbrev u : View
-    u = moved_on v w.front w.last
+      abbrev u : View
+      u = moved_on v w.front w.last
 
-    begun : 0 < t.next
-    begun = omega (arith, h.begun, longer.next)
+      begun : 0 < t.next
+      begun = omega (arith, h.begun, longer.next)
 
-    old : last_row t ≡ last_row s
-    old = ap (λ (n : ℕ). row_at t (n - 1)) longer.next ∙ longer.same (s.next - 1) (omega (arith, h.begun, h.some))
+      old : last_row t ≡ last_row s
+      old = ap (λ (n : ℕ). row_at t (n - 1)) longer.next ∙ longer.same (s.next - 1) (omega (arith, h.begun, h.some))
 
-    old_edges : edges_of t (last_row t) ≡ edges_of s (last_row s)
-    old_edges = ap (edges_of t) old ∙ ap (λ (l : List EdgeRow). take (last_row s).count (drop (last_row s).first l)) longer.edges
+      old_edges : edges_of t (last_row t) ≡ edges_of s (last_row s)
+      old_edges = ap (edges_of t) old ∙ ap (λ (l : List EdgeRow). take (last_row s).count (drop (last_row s).first l))
+          longer.edges
 
-    more_st : IsMore s t
-    more_st = record { rows = longer.rows; lives = λ k low. ap (λ (x : VertexRow). x.life) (longer.same k low) }
+      more_st : IsMore s t
+      more_st = record { rows = longer.rows; lives = λ k low. ap (λ (x : VertexRow). x.life) (longer.same k low) }
 
-    more_sr : IsMore s r
-    more_sr =
-        let m = more_edge t is e in
-        record { rows = omega (arith, longer.rows, m.rows); lives = λ k low. m.lives k (omega (arith, low, longer.rows)) ∙ more_st.lives k low }
+      more_sr : IsMore s r
+      more_sr =
+          let m = more_edge t is e in
+          record {
+            rows = omega (arith, longer.rows, m.rows);
+            lives = λ k low. m.lives k (omega (arith, low, longer.rows))
+                ∙ more_st.lives k low;
+          }
 
-    shown : IsEdgeShown v (last_row s).life e.life
-    shown = edge_shown v z kept (last_row s).life e.life met_edge
+      shown : IsEdgeShown v (last_row s).life e.life
+      shown = edge_shown v z kept (last_row s).life e.life met_edge
 
-    here : (begin : List Event) → IsPrefix begin v.front → IsEdgeSeen v.sizes v.number r begin w.front (last_row s).life e
-    here begin p = edge_on v.sizes v.number t r (more_edge t is e) w.front w.front (prefix_refl w.front) begin (last_row s).life e record {
-      moment = v.front;
-      after = p;
-      before = g.grows;
-      word_is = sym loaded.link;
-      met = met_edge.met;
-      life = met_edge.life.tag;
-      edge = met_edge.edge;
-      link = shown.link;
-      is = shown.is;
-      from = shown.from;
-      key = shown.key ∙ sym loaded.key;
-      weight = shown.weight ∙ sym loaded.weight;
-      target = seen_target shown.link shown.is;
-    }
+      here : (begin : List Event) → IsPrefix begin v.front → IsEdgeSeen v.sizes v.number r begin w.front
+          (last_row s).life
+          e
+      here begin p = edge_on v.sizes v.number t r (more_edge t is e) w.front w.front (prefix_refl w.front) begin
+          (last_row s).life e record {
+            moment = v.front;
+            after = p;
+            before = g.grows;
+            word_is = sym loaded.link;
+            met = met_edge.met;
+            life = met_edge.life.tag;
+            edge = met_edge.edge;
+            link = shown.link;
+            is = shown.is;
+            from = shown.from;
+            key = shown.key ∙ sym loaded.key;
+            weight = shown.weight ∙ sym loaded.weight;
+            target = seen_target shown.link shown.is;
+          }
 
-    new_edges : edges_of r (last_row r) ≡ edges_of s (last_row s) ++ e ∷ []
-    new_edges = edges_same t is e begun ∙ ap (λ (l : List EdgeRow). l ++ e ∷ []) old_edges
+      new_edges : edges_of r (last_row r) ≡ edges_of s (last_row s) ++ e ∷ []
+      new_edges = edges_same t is e begun ∙ ap (λ (l : List EdgeRow). l ++ e ∷ []) old_edges
 
-    -- the row with one more edge is that row but for the number of its edges
-    new_row_is : last_row r ≡ longer_row t
-    new_row_is = edge_same t is e begun
+      -- the row with one more edge is that row but for the number of its edges
+      new_row_is : last_row r ≡ longer_row t
+      new_row_is = edge_same t is e begun
 
-    open_row : IsRowOpen v.sizes v.number r start w.front (last_row r) e.link
-    open_row =
-        let o = h.row in
-        let life : (last_row r).life ≡ (last_row s).life = ap (λ (x : VertexRow). x.life) new_row_is ∙ ap (λ (x : VertexRow). x.life) old in
-        let key : (last_row r).key ≡ (last_row s).key = ap (λ (x : VertexRow). x.key) new_row_is ∙ ap (λ (x : VertexRow). x.key) old in
-        let counter : (last_row r).counter ≡ (last_row s).counter = ap (λ (x : VertexRow). x.counter) new_row_is ∙ ap (λ (x : VertexRow). x.counter) old in
-        let head : (last_row r).head ≡ (last_row s).head = ap (λ (x : VertexRow). x.head) new_row_is ∙ ap (λ (x : VertexRow). x.head) old in
-        let there : e.life.index ≢ nowhere = λ f. some (sym loaded.index ∙ f) in
-        record {
-          found = o.found;
-          after = o.after;
-          present = (λ i. present_key o.found (life i)) ∙ (o.present ∙ ap Some (sym key));
-          begin = o.begin;
-          then = o.then;
-          before = prefix_trans o.begin v.front w.front o.before g.grows;
-          counter = ap (λ (x : Life). word_at v.sizes o.begin (third_at v.sizes x.index)) life ∙ (o.counter ∙ sym counter);
-          head =
-              let hw = was_on v.sizes o.begin v.front w.front (second_at v.sizes (last_row s).life.index) (last_row s).head g.grows o.head in
-              record { moment = hw.moment; after = hw.after; before = hw.before; word_is = ap (λ (x : Life). word_at v.sizes hw.moment (second_at v.sizes x.index)) life ∙ (hw.word_is ∙ sym head) };
-          walked = o.walked ++ Recorded e ∷ [];
-          leads = subst (λ (x : ℕ). LeadsUpTo x (o.walked ++ Recorded e ∷ []) e.link) (sym head)
-              (leads_more (last_row s).head o.walked at (Recorded e) o.leads (sym loaded.index) there);
-          meetings = subst
-              (λ (x : Life). Every (IsMeetingSeen v.sizes v.number r o.begin w.front x) (o.walked ++ Recorded e ∷ []))
-              (sym life) (every_append (IsMeetingSeen v.sizes v.number r o.begin w.front (last_row s).life) o.walked
-              (Recorded e ∷ []) (meetings_on v.sizes v.number s r more_sr v.front w.front g.grows o.begin
-              (last_row s).life o.walked o.meetings) (here o.begin o.before, tt));
-          edges = new_edges ∙ (ap (λ (l : List EdgeRow). l ++ e ∷ []) o.edges ∙
-              sym (recorded_more o.walked (Recorded e ∷ [])));
-        }
+      open_row : IsRowOpen v.sizes v.number r start w.front (last_row r) e.link
+      open_row =
+          let o = h.row in
+          let life : (last_row r).life ≡ (last_row s).life = ap (λ (x : VertexRow). x.life) new_row_is
+          ∙ ap (λ (x : VertexRow). x.life) old in
+          let key : (last_row r).key ≡ (last_row s).key = ap (λ (x : VertexRow). x.key) new_row_is
+          ∙ ap (λ (x : VertexRow). x.key) old in
+          let counter : (last_row r).counter ≡ (last_row s).counter = ap (λ (x : VertexRow). x.counter) new_row_is
+          ∙ ap (λ (x : VertexRow). x.counter) old in
+          let head : (last_row r).head ≡ (last_row s).head = ap (λ (x : VertexRow). x.head) new_row_is
+          ∙ ap (λ (x : VertexRow). x.head) old in
+          let there : e.life.index ≢ nowhere = λ f. some (sym loaded.index ∙ f) in
+          record {
+            found = o.found;
+            after = o.after;
+            present = (λ i. present_key o.found (life i)) ∙ (o.present ∙ ap Some (sym key));
+            begin = o.begin;
+            then = o.then;
+            before = prefix_trans o.begin v.front w.front o.before g.grows;
+            counter = ap (λ (x : Life). word_at v.sizes o.begin (third_at v.sizes x.index)) life
+                ∙ (o.counter ∙ sym counter);
+            head =
+                let hw = was_on v.sizes o.begin v.front w.front (second_at v.sizes (last_row s).life.index)
+                (last_row s).head g.grows o.head in
+                record {
+                  moment = hw.moment;
+                  after = hw.after;
+                  before = hw.before;
+                  word_is = ap
+                      (λ (x : Life). word_at v.sizes hw.moment (second_at v.sizes x.index)) life
+                      ∙ (hw.word_is ∙ sym head);
+                };
+            walked = o.walked ++ Recorded e ∷ [];
+            leads = subst (λ (x : ℕ). LeadsUpTo x (o.walked ++ Recorded e ∷ []) e.link) (sym head)
+                (leads_more (last_row s).head o.walked at (Recorded e) o.leads (sym loaded.index) there);
+            meetings = subst
+                (λ (x : Life). Every (IsMeetingSeen v.sizes v.number r o.begin w.front x) (o.walked ++ Recorded e ∷ []))
+                (sym life) (every_append (IsMeetingSeen v.sizes v.number r o.begin w.front (last_row s).life) o.walked
+                (Recorded e ∷ []) (meetings_on v.sizes v.number s r more_sr v.front w.front g.grows o.begin
+                (last_row s).life o.walked o.meetings) (here o.begin o.before, tt));
+            edges = new_edges ∙ (ap (λ (l : List EdgeRow). l ++ e ∷ []) o.edges ∙
+                sym (recorded_more o.walked (Recorded e ∷ [])));
+          }
 
-    -- where it wasn't found replaced, it leads to a greater key
-    rises_by : (y : ℕ) → index_of e.link ≡ y → IsEdgeBehind v (last_row s).life e.life y → e.key < key_in v y
-    rises_by y is d = by_mark e.link
-        (λ live. omega (arith, loaded.key, d.strictly (ap mark_of (sym loaded.link) ∙ live)))
-        (λ dead.
-        let ne : key_in v y ≢ e.key = λ same. other record {
-          marked = dead;
-          some = λ none. omega (arith, none, is, d.met.life.there, z.few_nodes);
-          key = ap (key_in w) is ∙ (key_still v w z g y d.met.life.there d.met.met ∙ same);
-        } in
-        omega (arith, loaded.key, d.rising, ne))
+      -- where it wasn't found replaced, it leads to a greater key
+      rises_by : (y : ℕ) → index_of e.link ≡ y → IsEdgeBehind v (last_row s).life e.life y → e.key < key_in v y
+      rises_by y is d = by_mark e.link
+          (λ live. omega (arith, loaded.key, d.strictly (ap mark_of (sym loaded.link) ∙ live)))
+          (λ dead.
+          let ne : key_in v y ≢ e.key = λ same. other record {
+            marked = dead;
+            some = λ none. omega (arith, none, is, d.met.life.there, z.few_nodes);
+            key = ap (key_in w) is ∙ (key_still v w z g y d.met.life.there d.met.met ∙ same);
+          } in
+          omega (arith, loaded.key, d.rising, ne))
 
-    -- it leads to none or to the next edge, whose key is greater than all of the row
-    onward : LeadsTo e.link (IsNextEdge w (last_row s).life (edges_of s (last_row s) ++ e ∷ []))
-    onward =
-        let shown_link : LeadsTo e.link (IsEdgeBehind v (last_row s).life e.life) = subst
-        (λ (x : ℕ). LeadsTo x (IsEdgeBehind v (last_row s).life e.life)) (sym loaded.link)
-        (edge_link_shown v z kept (last_row s).life e.life met_edge) in
-        ⊎_elim (λ (none : index_of e.link ≡ nowhere). inl none)
-        (λ (d : IsEdgeBehind v (last_row s).life e.life (index_of e.link)).
-        let y = index_of e.link in
-        let above : e.key < key_in v y = rises_by y refl d in
-        let low : key_in v (index_of at) < key_in v y = omega
-        (arith, above, loaded.key, ap (key_in v) loaded.index) in
-        inr (next_later v w z g (last_row s).life (edges_of s (last_row s) ++ e ∷ []) y record {
-          life = life_in v.sizes v.front y;
-          is = refl;
-          met = d.met;
-          above = every_append (λ (x : EdgeRow). x.key < key_in v y) (edges_of s (last_row s)) (e ∷ [])
-              (every_map (λ (x : EdgeRow). x.key < key_in v (index_of at)) (λ (x : EdgeRow). x.key < key_in v y)
-              (λ x less. omega (arith, less, low)) (edges_of s (last_row s)) next.above) (above, tt);
-        })) shown_link
-
-    met_all : AreRowsMet w start r
-    met_all k low =
-        let same_length : length r.rows ≡ length t.rows = length-set t.rows (t.next - 1) (longer_row t) in
-        let m = met k (omega (arith, low, same_length)) in
-        dite (ℕ_discrete k (t.next - 1))
-        (λ same. row_like w start (row_at t k) (row_at r k) (ap (λ (n : ℕ). (row_at r n).life) same ∙ (ap (λ (x : VertexRow). x.life) new_row_is ∙ ap (λ (n : ℕ). (row_at t n).life) (sym same)))
-        (ap (λ (n : ℕ). (row_at r n).key) same ∙ (ap (λ (x : VertexRow). x.key) new_row_is ∙ ap (λ (n : ℕ). (row_at t n).key) (sym same))) m)
-        (λ ne. subst (IsRowMet w start) (sym (edge_other t is e k ne)) m)
-
-    seen_all : (k : ℕ) → k + 1 < t.next → IsRowSeen v.sizes v.number r start w.front (row_at r k)
-    seen_all k less =
-        let inside : k < length s.rows = omega (arith, less, longer.next, h.some) in
-        let inside_t : k < length t.rows = omega (arith, inside, longer.rows) in
-        let same : row_at r k ≡ row_at s k = edge_other t is e k (λ f. omega (arith, less, f)) ∙ longer.same k inside in
-        let edges : edges_of r (row_at s k) ≡ edges_of s (row_at s k) =
-        ap (edges_of r) (sym (longer.same k inside)) ∙ (edges_other t is e k inside_t ∙ (ap (edges_of t) (longer.same k inside) ∙ ap (λ (l : List EdgeRow). take (row_at s k).count (drop (row_at s k).first l)) longer.edges)) in
-        subst (IsRowSeen v.sizes v.number r start w.front) (sym same) (row_on v.sizes v.number s r more_sr v.front w.front g.grows start (row_at s k) edges (h.seen k (omega (arith, less, longer.next))))
-
-    pub edge_recorded : IsWithin w start r e.link
-    edge_recorded = subst (λ (x : View). IsWithin x start r e.link) (sym g.view) record {
-      begun = begun;
-      some = omega (arith, h.some, longer.next, more_sr.rows);
-      started = longer.started ∙ (h.started ∙ sym longer.next);
-      met = λ k low. subst (λ (x : View). IsRowMet x start (row_at r k)) g.view (met_all k low);
-      seen = seen_all;
-      row = open_row;
+      -- it leads to none or to the next edge, whose key is greater than all of the row
+      onward : LeadsTo e.link (IsNextEdge w (last_row s).life (edges_of s (last_row s) ++ e ∷ []))
       onward =
-          let life : (last_row r).life ≡ (last_row s).life = ap (λ (x : VertexRow). x.life) new_row_is ∙ ap (λ (x : VertexRow). x.life) old in
-          let here_u : LeadsTo e.link (IsNextEdge (moved_on v w.front w.last) (last_row s).life (edges_of s (last_row s) ++ e ∷ [])) = subst (λ (x : View). LeadsTo e.link (IsNextEdge x (last_row s).life (edges_of s (last_row s) ++ e ∷ []))) g.view onward in
-          subst (λ (x : Life). LeadsTo e.link (IsNextEdge (moved_on v w.front w.last) x (edges_of r (last_row r)))) (sym life)
-          (subst (λ (l : List EdgeRow). LeadsTo e.link (IsNextEdge (moved_on v w.front w.last) (last_row s).life l)) (sym new_edges) here_u);
-    }
+          let shown_link : LeadsTo e.link (IsEdgeBehind v (last_row s).life e.life) = subst
+          (λ (x : ℕ). LeadsTo x (IsEdgeBehind v (last_row s).life e.life)) (sym loaded.link)
+          (edge_link_shown v z kept (last_row s).life e.life met_edge) in
+          ⊎_elim (λ (none : index_of e.link ≡ nowhere). inl none)
+          (λ (d : IsEdgeBehind v (last_row s).life e.life (index_of e.link)).
+          let y = index_of e.link in
+          let above : e.key < key_in v y = rises_by y refl d in
+          let low : key_in v (index_of at) < key_in v y = omega
+          (arith, above, loaded.key, ap (key_in v) loaded.index) in
+          inr (next_later v w z g (last_row s).life (edges_of s (last_row s) ++ e ∷ []) y record {
+            life = life_in v.sizes v.front y;
+            is = refl;
+            met = d.met;
+            above = every_append (λ (x : EdgeRow). x.key < key_in v y) (edges_of s (last_row s)) (e ∷ [])
+                (every_map (λ (x : EdgeRow). x.key < key_in v (index_of at)) (λ (x : EdgeRow). x.key < key_in v y)
+                (λ x less. omega (arith, less, low)) (edges_of s (last_row s)) next.above) (above, tt);
+          })) shown_link
+
+      met_all : AreRowsMet w start r
+      met_all k low =
+          let same_length : length r.rows ≡ length t.rows = length-set t.rows (t.next - 1) (longer_row t) in
+          let m = met k (omega (arith, low, same_length)) in
+          dite (ℕ_discrete k (t.next - 1))
+          (λ same. row_like w start (row_at t k) (row_at r k) (ap (λ (n : ℕ). (row_at r n).life) same
+          ∙ (ap (λ (x : VertexRow). x.life) new_row_is ∙ ap (λ (n : ℕ). (row_at t n).life) (sym same)))
+          (ap (λ (n : ℕ). (row_at r n).key) same
+          ∙ (ap (λ (x : VertexRow). x.key) new_row_is ∙ ap (λ (n : ℕ). (row_at t n).key) (sym same))) m)
+          (λ ne. subst (IsRowMet w start) (sym (edge_other t is e k ne)) m)
+
+      seen_all : (k : ℕ) → k + 1 < t.next → IsRowSeen v.sizes v.number r start w.front (row_at r k)
+      seen_all k less =
+          let inside : k < length s.rows = omega (arith, less, longer.next, h.some) in
+          let inside_t : k < length t.rows = omega (arith, inside, longer.rows) in
+          let same : row_at r k ≡ row_at s k = edge_other t is e k (λ f. omega (arith, less, f))
+          ∙ longer.same k inside in
+          let edges : edges_of r (row_at s k) ≡ edges_of s (row_at s k) =
+          ap (edges_of r) (sym (longer.same k inside))
+          ∙ (edges_other t is e k inside_t
+          ∙ (ap (edges_of t) (longer.same k inside)
+          ∙ ap (λ (l : List EdgeRow). take (row_at s k).count (drop (row_at s k).first l)) longer.edges)) in
+          subst (IsRowSeen v.sizes v.number r start w.front) (sym same)
+          (row_on v.sizes v.number s r more_sr v.front w.front g.grows start (row_at s k) edges
+          (h.seen k (omega (arith, less, longer.next))))
+
+      pub edge_recorded : IsWithin w start r e.link
+      edge_recorded = subst (λ (x : View). IsWithin x start r e.link) (sym g.view) record {
+        begun = begun;
+        some = omega (arith, h.some, longer.next, more_sr.rows);
+        started = longer.started ∙ (h.started ∙ sym longer.next);
+        met = λ k low. subst (λ (x : View). IsRowMet x start (row_at r k)) g.view (met_all k low);
+        seen = seen_all;
+        row = open_row;
+        onward =
+            let life : (last_row r).life ≡ (last_row s).life = ap (λ (x : VertexRow). x.life) new_row_is
+            ∙ ap (λ (x : VertexRow). x.life) old in
+            let here_u : LeadsTo e.link (IsNextEdge (moved_on v w.front w.last) (last_row s).life
+            (edges_of s (last_row s) ++ e ∷ [])) = subst
+            (λ (x : View). LeadsTo e.link (IsNextEdge x (last_row s).life (edges_of s (last_row s) ++ e ∷ []))) g.view
+            onward in
+            subst (λ (x : Life). LeadsTo e.link (IsNextEdge (moved_on v w.front w.last) x (edges_of r (last_row r))))
+            (sym life)
+            (subst (λ (l : List EdgeRow). LeadsTo e.link (IsNextEdge (moved_on v w.front w.last) (last_row s).life l))
+            (sym new_edges) here_u);
+      }
 
 -- an edge that was found replaced is passed over
 module _ (v w : View) (z : IsLayout v.sizes) (start : List Event) (s : ScanValue) (at : ℕ) (e : EdgeRow)
@@ -332,6 +370,7 @@ module _ (v w : View) (z : IsLayout v.sizes) (start : List Event) (s : ScanValue
     seen = λ k low. row_on v.sizes v.number s s (more_same s) v.front w.front g.grows start (row_at s k) refl
         (h.seen k low);
     row = passed_row;
-    onward = inr (subst (λ (x : View). IsNextEdge x (last_row s).life (edges_of s (last_row s)) (index_of e.link)) g.view
+    onward = inr (subst (λ (x : View). IsNextEdge x (last_row s).life (edges_of s (last_row s)) (index_of e.link))
+        g.view
         (next_later v w z g (last_row s).life (edges_of s (last_row s)) (index_of e.link) passed_onward));
   }

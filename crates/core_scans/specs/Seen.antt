@@ -98,8 +98,8 @@ abbrev pub LeadsAlong : ℕ → List Meeting → Type 0
 LeadsAlong word [] = index_of word ≡ nowhere
 LeadsAlong word (m ∷ ms) = (index_of word ≡ index_met m) × (index_met m ≢ nowhere) × LeadsAlong (link_met m) ms
 
--- a vertex row is of a vertex that was found present with its key; after that its counter was loaded, then its head, and
--- then the links of what these words lead along, of which the row's edges are recorded
+-- a vertex row is of a vertex that was found present with its key; after that its counter was loaded, then its head,
+-- and then the links of what these words lead along, of which the row's edges are recorded
 pub record IsRowSeen (sizes : Sizes) (caller : ℕ) (s : ScanValue) (start end : List Event) (row : VertexRow)
     : Type 0 where
   pub found : List Event

@@ -78,10 +78,6 @@ pub record IsFoundReplaced (v : View) (e : EdgeRow) : Type 0 where
   pub some : index_of e.link ≢ nowhere
   pub key : key_in v (index_of e.link) ≡ e.key
 
--- the life to which a target word leads
-abbrev pub life_of_word : ℕ → Life
-life_of_word word = record { index = index_of word; tag = tag_of word }
-
 -- the node of an index is an edge of the source that was met, with a greater key than each of these edges
 pub record IsNextEdge (v : View) (source : Life) (es : List EdgeRow) (index : ℕ) : Type 0 where
   pub life : Life
@@ -116,10 +112,11 @@ abbrev pub AreRowsSame : Sizes → List Event → List Event → ScanValue → �
 AreRowsSame sizes end now s k = (i : ℕ) → i < k → IsRowSame sizes s end now (row_at s i)
 
 -- verify stands within a row: the head and the links of the first edges were found the same
-pub record IsRowAgain (sizes : Sizes) (s : ScanValue) (end now : List Event) (row : VertexRow) (found : ℕ) : Type 0 where
-  pub front : IsPrefix end now
-  pub head : WasAt sizes end now (second_at sizes row.life.index) row.head
-  pub links : Every (λ e. WasAt sizes end now (link_at sizes e.life.index) e.link) (take found (edges_of s row))
+pub record IsRowAgain (sizes : Sizes) (s : ScanValue) (end now : List Event) (row : VertexRow) (found : ℕ) : Type 0
+  where
+    pub front : IsPrefix end now
+    pub head : WasAt sizes end now (second_at sizes row.life.index) row.head
+    pub links : Every (λ e. WasAt sizes end now (link_at sizes e.life.index) e.link) (take found (edges_of s row))
 
 -- verify stands behind a row's list: its counter was found the same too
 pub record IsRowCounted (sizes : Sizes) (s : ScanValue) (end now : List Event) (row : VertexRow) : Type 0 where

@@ -3,14 +3,14 @@
 //! Between two rows it carries `IsBetween` of `specs/Walking.antt`, within a row `IsWithin` with the word at which it
 //! stands, and beside both that rows are reached (`AreRowsReached`). Each law is of one load or one push.
 
-ghost use Rattle.std.specs.Prelude.{◌≡◌, ◌≢◌, ◌⊎◌, ℕ, ◌+◌, ◌<◌, ◌≤◌, true, List, Some, None, length};
+ghost use Rattle.std.specs.Prelude.{◌≡◌, ◌≢◌, ℕ, ◌+◌, ◌<◌, ◌≤◌, true, List, Some, None, length};
 ghost use Rattle.packed_link.specs.Link.{index_of, mark_of, nowhere, tag_of};
 ghost use Rattle.packed_link.specs.Layout.{IsLayout, Sizes, link_at, second_at, third_at};
 ghost use Rattle.packed_link.specs.declared.link.Life.{Life};
 ghost use Rattle.core_journal.specs.declared.event.Event.{Event};
 ghost use Rattle.core_journal.specs.GraphOf.{present_key};
 ghost use Rattle.core_journal.specs.Prefix.{IsPrefix};
-ghost use Rattle.core_journal.specs.Life.{key_of, link_of, vertex_marked};
+ghost use Rattle.core_journal.specs.Life.{key_of, link_of};
 ghost use Rattle.core_journal.specs.Machine.{word_at};
 ghost use Rattle.core_journal.specs.Reuse.{pass_in};
 ghost use Rattle.core_rule.specs.Fronts.{MetEdge, MetVertex, key_in};
@@ -21,15 +21,15 @@ ghost use Rattle.scan_record.specs.Asked.{root_of};
 ghost use Rattle.scan_record.specs.declared.rows.EdgeRow.{EdgeRow};
 ghost use Rattle.scan_record.specs.Scan.{IsScan, ScanValue, empty_scan, row_at, with_edge, with_started, with_vertex};
 ghost use Rattle.core_scans.specs.Seen.{HasCollected, IsInside, IsTargetSeen, OnlyLooks};
-ghost use Rattle.core_scans.specs.Walking.{AreRowsMet, AreRowsReached, IsBetween, IsEdgeLoaded, IsLonger, IsMore, IsWithin};
-ghost use Rattle.core_scans.specs.Walking.{IsFoundReplaced, last_row, life_of_word};
+ghost use Rattle.core_scans.specs.Walking.{AreRowsMet, AreRowsReached, IsBetween, IsEdgeLoaded, IsFoundReplaced};
+ghost use Rattle.core_scans.specs.Walking.{IsLonger, IsMore, IsWithin, last_row};
 
 /// Collect from its start to its end. It starts with a vertex that was met as row 0 (`first`); a load leaves what it
-/// carries (`between_later`, `within_later`). A row is started with its counter, loaded first, and its head (`row`). The
-/// word of an edge is loaded, and after that the key to which it leads where it's marked, or what its target is. An edge
-/// that was found replaced is passed over (`passed`); any other is pushed, to the scan as it was or with one more row
-/// (`edge`). Where the word leads to none the row is whole (`row_done`), and where all rows were started collect is at
-/// its end (`done`).
+/// carries (`between_later`, `within_later`). A row is started with its counter, loaded first, and its head (`row`).
+/// The word of an edge is loaded, and after that the key of the node to which it leads if it's marked, or else what its
+/// target is. An edge that was found replaced is passed over (`passed`); any other is pushed, to the scan as it was or
+/// with one more row (`edge`). When a word leads to none the row is whole (`row_done`), and when all rows were started
+/// collect is at its end (`done`).
 pub fn collect_goes_on()
     ensures first { (v : View) (start : List Event) (nodes : ℕ) (root : Life) (key : ℕ) → IsPrefix start v.front
         → present_key start root ≡ Some key → MetVertex v root → key_in v root.index ≡ key
@@ -58,27 +58,18 @@ pub fn collect_goes_on()
         → HasCollected v.sizes v.number start v.front s }
 {}
 
-/// What collect may do at a word of a list: the edge to which it leads was met, its second word tells the target
-/// (`edge`, `target`). A target whose link shows its life and no mark was met (`alive`), and any other is over
-/// (`over`). Where no row has its life, none has its index (`absent`), and there is room for its row (`row_room`), as
-/// there is for the edge (`edge_room`).
+/// What collect may do at a word of a list: the edge to which it leads was met (`edge`), so core_rule's laws tell its
+/// target. A target whose link shows its life and no mark was met (`alive`). If no row has its life, none has its index
+/// (`absent`), and there is room for its row (`row_room`), as there is for the edge (`edge_room`).
 pub fn collect_may_push()
-    ensures edge { (v : View) → IsLayout v.sizes → IsKept v.sizes v.front → (start : List Event) (s : ScanValue) (at : ℕ)
-        → (e : EdgeRow) → IsWithin v start s at → index_of at ≢ nowhere → IsEdgeLoaded v at e
+    ensures edge { (v : View) → IsLayout v.sizes → IsKept v.sizes v.front → (start : List Event) (s : ScanValue)
+        → (at : ℕ) (e : EdgeRow) → IsWithin v start s at → index_of at ≢ nowhere → IsEdgeLoaded v at e
         → MetEdge v (last_row s).life e.life }
-    ensures target { (v : View) → IsLayout v.sizes → IsKept v.sizes v.front → (source x : Life) → MetEdge v source x
-        → (link : Event) → link_of v.front x ≡ Some link
-        → (life_of_word (word_at v.sizes v.front (second_at v.sizes x.index)) ≡ link.target)
-        × (key_of v.front link.target ≡ Some (key_in v x.index)) }
     ensures alive { (v : View) → IsLayout v.sizes → IsKept v.sizes v.front
         → (pass_in v.sizes v.front v.number).is_open ≡ true → (x : Life) (k : ℕ) → key_of v.front x ≡ Some k
         → tag_of (word_at v.sizes v.front (link_at v.sizes x.index)) ≡ x.tag
         → mark_of (word_at v.sizes v.front (link_at v.sizes x.index)) ≡ 0
         → MetVertex v x × (key_in v x.index ≡ k) × (present_key v.front x ≡ Some k) }
-    ensures over { (v : View) → IsLayout v.sizes → IsKept v.sizes v.front → (x : Life) (k : ℕ)
-        → key_of v.front x ≡ Some k
-        → (tag_of (word_at v.sizes v.front (link_at v.sizes x.index)) ≢ x.tag)
-        ⊎ (mark_of (word_at v.sizes v.front (link_at v.sizes x.index)) ≡ 1) → vertex_marked v.front x ≡ true }
     ensures absent { (v : View) (start : List Event) (s : ScanValue) (x : Life) → AreRowsMet v start s → MetVertex v x
         → ((k : ℕ) → k < length s.rows → (row_at s k).life ≢ x)
         → (k : ℕ) → k < length s.rows → (row_at s k).life.index ≢ x.index }
@@ -90,8 +81,9 @@ pub fn collect_may_push()
         → index_of at ≢ nowhere → length s.edges < v.sizes.nodes }
 {}
 
-/// What pushes to the scan leave: it's the same or longer (`same`, `longer`), each row's vertex was met (`met`), and each
-/// row is reached, also the new one once the edge is pushed that leads to it (`vertex`, `started`, `edge`, `new`).
+/// What pushes to the scan leave: it's the same or longer (`same`, `longer`), each row's vertex was met (`met`), and
+/// each row is reached, also the new one after the edge is pushed that leads to it (`vertex`, `started`, `edge`,
+/// `new`).
 pub fn pushes_keep_rows()
     ensures same { (s : ScanValue) → IsLonger s s }
     ensures longer { (s : ScanValue) (life : Life) (key : ℕ) → IsLonger s (with_vertex s life key) }

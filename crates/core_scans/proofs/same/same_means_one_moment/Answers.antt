@@ -1,4 +1,4 @@
-use Rattle.core_scans.proofs.Parts.{same_held, same_part}
+use Rattle.core_scans.proofs.HeldIsThePart.{same_held, same_part}
 use Rattle.core_scans.proofs.same.same_means_one_moment.Goals as goal
 
 pub returns-clause-held : goal.returns-clause-held

@@ -1,4 +1,4 @@
-use Rattle.core_scans.proofs.Parts.{complete, root_there, part_is}
+use Rattle.core_scans.proofs.HeldIsThePart.{complete, root_there, part_is}
 use Rattle.core_scans.proofs.same.what_is_held_is_the_part.Goals as goal
 
 pub returns-clause-complete : goal.returns-clause-complete

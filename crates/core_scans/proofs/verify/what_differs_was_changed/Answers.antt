@@ -1,4 +1,5 @@
-use Rattle.core_scans.proofs.Differs.{head_changed, counter_changed, link_changed, over_changed, differs_foreign}
+use Rattle.core_scans.proofs.DifferingWasChanged.{head_changed, counter_changed, link_changed, over_changed}
+use Rattle.core_scans.proofs.DifferingWasChanged.{differs_foreign}
 use Rattle.core_scans.proofs.verify.what_differs_was_changed.Goals as goal
 
 pub returns-clause-head : goal.returns-clause-head

@@ -1,8 +1,10 @@
 -- A scan whose recorded words all hold at the end of collect is the part of the graph that is reached from its root.
-use Rattle.std.proofs.Common.{◌≡◌, ⊎_elim, ℕ, zero, suc, ◌+◌, ◌-◌, ◌<◌, ◌≤◌, ◌==◌, true, false, cond, List, [], ◌∷◌, ◌++◌, length, map, Option, Some, None, is_some, Contains, refl, sym, ap, ◌∙◌, subst, arith, eqb-true}
+use Rattle.std.proofs.Common.{◌≡◌, ⊎_elim, ℕ, zero, suc, ◌+◌, ◌-◌, ◌<◌, ◌==◌, true, false, cond, List, [], ◌∷◌}
+use Rattle.std.proofs.Common.{◌++◌, length, map, Option, Some, None, is_some, refl, sym, ap, ◌∙◌, subst}
+use Rattle.std.proofs.Common.{arith, eqb-true}
 use Rattle.std.specs.Prelude.{slice_get, option_and_then}
 use Rattle.std.specs.List.{list_any}
-use Rattle.graph_kinds.specs.Graph.{IsGraph, has, weight_of}
+use Rattle.graph_kinds.specs.Graph.{has, weight_of}
 use Rattle.graph_kinds.specs.History.{Every}
 use Rattle.graph_kinds.specs.Path.{IsPath}
 use Rattle.graph_kinds.specs.Part.{IsPart, part}
@@ -14,7 +16,8 @@ use Rattle.packed_link.specs.declared.link.Life.{Life}
 use Rattle.scan_record.specs.declared.rows.VertexRow.{VertexRow}
 use Rattle.scan_record.specs.declared.rows.EdgeRow.{EdgeRow}
 use Rattle.scan_record.specs.Asked.{root_of}
-use Rattle.scan_record.specs.Scan.{ScanValue, IsScan, IsComplete, row_at, edge_at, edges_of, new_row, blank_life, blank_edge}
+use Rattle.scan_record.specs.Scan.{ScanValue, IsScan, IsComplete, row_at, edge_at, edges_of, new_row, blank_life}
+use Rattle.scan_record.specs.Scan.{blank_edge}
 use Rattle.scan_record.specs.ScanGraph.{graph_of_scan, weight_to}
 use Rattle.scan_record.proofs.Edges.{length-edges_of, get_or-edges_of}
 use Rattle.scan_record.proofs.GraphOfScan.{weights_law, keys_law}
@@ -32,14 +35,13 @@ use Rattle.core_journal.specs.Prefix.{IsPrefix}
 use Rattle.core_journal.specs.Reuse.{pass_in}
 use Rattle.core_journal.specs.State.{state}
 use Rattle.core_journal.proofs.Lists.{prefix_refl, prefix_trans, get_front}
-use Rattle.core_journal.proofs.LivesOf.{present_is, joined_is, key_of_life, life_of_pair, only_pair, ends_there}
+use Rattle.core_journal.proofs.LivesOf.{IsJoined, present_is, joined_is, key_of_life, life_of_pair, only_pair}
 use Rattle.core_kept.specs.Kept.{IsKept, IsQuiet}
-use Rattle.core_kept.specs.Nodes.{node_in, IsUsed}
+use Rattle.core_kept.specs.Nodes.{node_in}
 use Rattle.core_lists.specs.Chains.{IsEdgeOf, edge_chain}
 use Rattle.core_lists.proofs.LinkTellsPresence.{key_there, link_there}
-use Rattle.core_kept.proofs.Contents.{contents}
 use Rattle.core_lists.proofs.ListChains.{lists}
-use Rattle.core_lists.proofs.LivesOnLists.{edge_present, present_edge}
+use Rattle.core_lists.proofs.LivesOnLists.{edge_present}
 use Rattle.core_kept.proofs.EdgeEnds.{ends_linked}
 use Rattle.core_kept.proofs.Induction.{kept_front}
 use Rattle.core_kept.proofs.LinkWords.{used_link, mark_is, mark_isnt}
@@ -56,14 +58,20 @@ use Rattle.core_lists.proofs.OneEdgeOfPair.{one_pair}
 use Rattle.core_lists.proofs.OneVertexOfKey.{one_present}
 use Rattle.core_scans.specs.Seen.{Meeting, Recorded, PassedOver, index_met, recorded, IsEdgeSeen, IsSeenReplaced}
 use Rattle.core_scans.specs.Seen.{IsMeetingSeen, OnlyLooks, HasCollected, IsInside, IsSame, LeadsAlong}
-use Rattle.core_scans.proofs.Meetings.{IsRecordedAt, row_edges, met_how}
+use Rattle.core_scans.proofs.RecordedOfWalk.{IsRecordedAt, row_edges, met_how}
 use Rattle.core_scans.specs.Held.{IsHeldAt}
-use Rattle.core_scans.proofs.Fronts.{some_is, key_on, link_on, every_at, get_at}
-use Rattle.core_scans.proofs.Gaps.{IsHere, has_list, on_list}
-use Rattle.core_scans.proofs.Rows.{same_pass, row_held}
-use Rattle.core_scans.proofs.Weights.{found_by, some_found}
+use Rattle.core_scans.proofs.FrontsKeepLives.{some_is, key_on, link_on, every_at, get_at}
+use Rattle.core_scans.proofs.SameWordBetween.{IsHere, has_list, on_list}
+use Rattle.core_scans.proofs.RowIsHeld.{same_pass, row_held}
+use Rattle.core_scans.proofs.WeightsFound.{found_by, some_found}
 
-module _ (sizes : Sizes) (z : IsLayout sizes) (caller : ℕ) (start end : List Event) (s : ScanValue) (kept : IsKept sizes end) (quiet : IsQuiet end caller (length start)) (open_ : (pass_in sizes start caller).is_open ≡ true)
+-- what is found there and here is the same
+as_there : (here there : Option ℕ) (a w : ℕ) → here ≡ Some a → there ≡ Some a → there ≡ Some w → here ≡ Some w
+as_there here there a w found other h = found ∙ (sym other ∙ h)
+
+module _ (sizes : Sizes) (z : IsLayout sizes) (caller : ℕ) (start end : List Event) (s : ScanValue)
+    (kept : IsKept sizes end) (quiet : IsQuiet end caller (length start))
+    (open_ : (pass_in sizes start caller).is_open ≡ true)
     (is : IsScan s) (c : HasCollected sizes caller start end s) (held : IsHeldAt sizes end s) where
   -- a row's vertex, present at the end of collect
   here : (k : ℕ) → k < length s.rows → IsHere sizes z (row_at s k).life (row_at s k).key end
@@ -83,10 +91,12 @@ module _ (sizes : Sizes) (z : IsLayout sizes) (caller : ℕ) (start end : List E
   edges_seen k low = row_edges sizes caller s start end (row_at s k) (c.rows k low)
 
   seen : (k : ℕ) (e : EdgeRow) (i : IsIn k e) → IsEdgeSeen sizes caller s (c.rows k i.low).begin end (row_at s k).life e
-  seen k e i = every_at (IsEdgeSeen sizes caller s (c.rows k i.low).begin end (row_at s k).life) (edges_of s (row_at s k)) i.place e (edges_seen k i.low) i.at
+  seen k e i = every_at (IsEdgeSeen sizes caller s (c.rows k i.low).begin end (row_at s k).life)
+      (edges_of s (row_at s k)) i.place e (edges_seen k i.low) i.at
 
   word : (k : ℕ) (e : EdgeRow) (i : IsIn k e) → word_at sizes end (link_at sizes e.life.index) ≡ e.link
-  word k e i = every_at (λ (e : EdgeRow). word_at sizes end (link_at sizes e.life.index) ≡ e.link) (edges_of s (row_at s k)) i.place e (held k i.low).links i.at
+  word k e i = every_at (λ (e : EdgeRow). word_at sizes end (link_at sizes e.life.index) ≡ e.link)
+      (edges_of s (row_at s k)) i.place e (held k i.low).links i.at
 
   -- it's in its life still, and its link tells whether it's marked
   record IsNow (e : EdgeRow) (link : Event) : Type 0 where
@@ -99,7 +109,9 @@ module _ (sizes : Sizes) (z : IsLayout sizes) (caller : ℕ) (start end : List E
       let es = seen k e i in
       let there = link_there sizes es.moment (kept_front sizes es.moment end es.before kept) e.life es.link es.is in
       let start_m = prefix_trans start (c.rows k i.low).begin es.moment (from_start k i.low) es.after in
-      let m = still_met sizes z es.moment end kept caller e.life.index (same_pass sizes z caller start end end s kept (prefix_refl end) quiet open_ es.moment end start_m es.before (prefix_refl end)) es.met in
+      let m = still_met sizes z es.moment end kept caller e.life.index
+      (same_pass sizes z caller start end end s kept (prefix_refl end) quiet open_ es.moment end start_m es.before
+      (prefix_refl end)) es.met in
       let life : e.life.tag ≡ (node_in sizes end e.life.index).tag = es.life ∙ sym m.1.tag in
       let used = met_used sizes end caller e.life.index m.0 in
       let n = ((named sizes z end kept).each e.life.index there).edge_mark used (m.1.vertex ∙ es.edge) in
@@ -108,7 +120,8 @@ module _ (sizes : Sizes) (z : IsLayout sizes) (caller : ℕ) (start end : List E
         link_is = link_on es.moment end es.before e.life es.link es.is;
         mark =
             ap mark_of (sym (word k e i)) ∙ ((used_link sizes z end kept e.life.index there used).1
-            ∙ ap mark_bit (sym n ∙ ap (edge_marked end) (sym (life_is e.life e.life.index (node_in sizes end e.life.index).tag refl life))));
+            ∙ ap mark_bit (sym n ∙ ap (edge_marked end)
+            (sym (life_is e.life e.life.index (node_in sizes end e.life.index).tag refl life))));
       }
 
   -- an edge at a place among all edges is one of a row
@@ -137,8 +150,14 @@ module _ (sizes : Sizes) (z : IsLayout sizes) (caller : ℕ) (start end : List E
       let g = now k e i in
       let key_t = (present_is end (row_at s t).life (row_at s t).key (held t low).present).1 in
       let key_e = (ends_linked sizes z end kept).target e.life es.link g.link_is in
-      let same : (row_at s t).key ≡ es.link.key = some_is (row_at s t).key es.link.key (sym key_t ∙ (ap (key_of end) r.1 ∙ key_e)) in
-      record { low = low; life = r.1; key = same ∙ es.key; uncut = mark_isnt (edge_marked end e.life) (sym g.mark ∙ r.2) }
+      let same : (row_at s t).key ≡ es.link.key = some_is (row_at s t).key es.link.key
+      (sym key_t ∙ (ap (key_of end) r.1 ∙ key_e)) in
+      record {
+        low = low;
+        life = r.1;
+        key = same ∙ es.key;
+        uncut = mark_isnt (edge_marked end e.life) (sym g.mark ∙ r.2);
+      }
 
   -- so the scan is complete
   pub complete : IsComplete s
@@ -148,22 +167,28 @@ module _ (sizes : Sizes) (z : IsLayout sizes) (caller : ℕ) (start end : List E
     keys_differ = λ j k lt low same.
         let a = (held j (omega arith)).present in
         let b = (held k low).present in
-        let one = one_present sizes z end kept (row_at s j).life (row_at s k).life (row_at s k).key (a ∙ ap Some same) b in
+        let one = one_present sizes z end kept (row_at s j).life (row_at s k).life (row_at s k).key (a ∙ ap Some same)
+        b in
         is.indices_differ j k lt low (ap (λ (x : Life). x.index) one);
     target_keys = λ p t h e. let i = edge_in p h in (target i.0 (edge_at s p) i.1 t e).key;
   }
 
   -- an edge with a target is a pair of the graph, with its weight
-  pair_there : (k : ℕ) (e : EdgeRow) (i : IsIn k e) (t : ℕ) → e.target ≡ Some t → weight_of (graph_of end) (row_at s k).key e.key ≡ Some e.weight
+  pair_there : (k : ℕ) (e : EdgeRow) (i : IsIn k e) (t : ℕ) → e.target ≡ Some t
+      → weight_of (graph_of end) (row_at s k).key e.key ≡ Some e.weight
   pair_there k e i t h =
       let es = seen k e i in
       let g = now k e i in
       let r = target k e i t h in
-      let a : present_key end es.link.source ≡ Some (row_at s k).key = ap (present_key end) es.from ∙ (held k i.low).present in
-      let b : present_key end es.link.target ≡ Some e.key = ap (present_key end) (sym r.life) ∙ ((held t r.low).present ∙ ap Some r.key) in
+      let a : present_key end es.link.source ≡ Some (row_at s k).key = ap (present_key end) es.from
+      ∙ (held k i.low).present in
+      let b : present_key end es.link.target ≡ Some e.key = ap (present_key end) (sym r.life)
+      ∙ ((held t r.low).present ∙ ap Some r.key) in
       let here_pair : present_pair end e.life ≡ Some (((row_at s k).key, e.key), e.weight) =
-      (λ n. cond (r.uncut n) None (option_and_then (pair_between end) (g.link_is n))) ∙ (λ n. weighed (es.weight n) (both (a n) (b n))) in
-      only_pair end e.life (row_at s k).key e.key e.weight here_pair (λ y v f. one_pair sizes z end kept y e.life (row_at s k).key e.key v e.weight f here_pair)
+      (λ n. cond (r.uncut n) None (option_and_then (pair_between end) (g.link_is n)))
+      ∙ (λ n. weighed (es.weight n) (both (a n) (b n))) in
+      only_pair end e.life (row_at s k).key e.key e.weight here_pair
+      (λ y v f. one_pair sizes z end kept y e.life (row_at s k).key e.key v e.weight f here_pair)
 
   -- a key of the scan's graph is a row's
   row_of : (x : ℕ) → has (graph_of_scan s) x ≡ true → (k : ℕ) × (k < length s.rows) × ((row_at s k).key ≡ x)
@@ -172,11 +197,13 @@ module _ (sizes : Sizes) (z : IsLayout sizes) (caller : ℕ) (start end : List E
       (r.0, r.1, eqb-true (row_at s r.0).key x r.2)
 
   -- each pair of the scan's graph is one of the graph
-  pair_in : (x y w : ℕ) → weight_of (graph_of_scan s) x y ≡ Some w → (has (graph_of_scan s) x ≡ true) × (weight_of (graph_of end) x y ≡ Some w)
+  pair_in : (x y w : ℕ) → weight_of (graph_of_scan s) x y ≡ Some w → (has (graph_of_scan s) x ≡ true)
+      × (weight_of (graph_of end) x y ≡ Some w)
   pair_in x y w h =
       let there = (scan_graph.graph_law s is complete).from_key x y w h in
       let r = row_of x there in
-      let row_weight : weight_to y (edges_of s (row_at s r.0)) ≡ Some w = sym (weights_law s r.0 y is complete r.1) ∙ (ap (λ (n : ℕ). weight_of (graph_of_scan s) n y) r.2 ∙ h) in
+      let row_weight : weight_to y (edges_of s (row_at s r.0)) ≡ Some w = sym (weights_law s r.0 y is complete r.1)
+      ∙ (ap (λ (n : ℕ). weight_of (graph_of_scan s) n y) r.2 ∙ h) in
       let f = found_by y w (edges_of s (row_at s r.0)) row_weight in
       let pair = pair_there r.0 f.edge record { low = r.1; place = f.place; at = f.at } f.row f.target in
       let from = sym r.2 in
@@ -286,34 +313,75 @@ module _ (sizes : Sizes) (z : IsLayout sizes) (caller : ℕ) (start end : List E
       (met_how sizes caller s r.begin end v r.walked r.meetings l.index
       (contains_stands l.index (map index_met r.walked) listed))
 
-  -- each pair of the graph from a row's key is one of the scan's graph
-  pair_back : (x y w : ℕ) → has (graph_of_scan s) x ≡ true → weight_of (graph_of end) x y ≡ Some w → weight_of (graph_of_scan s) x y ≡ Some w
-  pair_back x y w there h =
-      let r = row_of x there in
-      let l = life_of_pair end x y w h in
-      let j = joined_is end l.0 x y w l.1 in
-      let one : j.link.source ≡ (row_at s r.0).life = one_present sizes z end kept j.link.source (row_at s r.0).life x j.source ((held r.0 r.1).present ∙ ap Some r.2) in
-      let d = recorded_edge r.0 r.1 l.0 j.link j.is j.uncut one in
-      let es = seen r.0 d.edge d.in_row in
-      let g = now r.0 d.edge d.in_row in
-      let which : es.link ≡ j.link = some_is es.link j.link (sym g.link_is ∙ (ap (link_of end) d.life_is ∙ j.is)) in
-      let key_to = (present_is end j.link.target y j.target).1 in
-      let key_link = (ends_linked sizes z end kept).target l.0 j.link j.is in
-      let key : d.edge.key ≡ y = sym es.key ∙ (ap (λ (e : Event). e.key) which ∙ some_is j.link.key y (sym key_link ∙ key_to)) in
-      let live : vertex_marked end es.link.target ≡ false = ap (λ (e : Event). vertex_marked end e.target) which ∙ (present_is end j.link.target y j.target).0 in
-      let unmarked : mark_of d.edge.link ≡ 0 = g.mark ∙ ap mark_bit (ap (edge_marked end) d.life_is ∙ j.uncut) in
-      let t = has_target d.edge es.link.target es.target.over unmarked live in
-      let f = some_found y (edges_of s (row_at s r.0)) d.in_row.place d.edge t.0 d.in_row.at t.1 key in
-      let found : weight_of (graph_of_scan s) x y ≡ Some f.0 = ap (λ (n : ℕ). weight_of (graph_of_scan s) n y) (sym r.2) ∙ (weights_law s r.0 y is complete r.1 ∙ f.1) in
-      let other = (pair_in x y f.0 found).1 in
-      found ∙ (sym other ∙ h)
+  -- an unmarked edge row whose target isn't marked has a target
+  has_target : (e : EdgeRow) (target : Life)
+      → (e.target ≡ None → mark_of e.link ≡ 0 → vertex_marked end target ≡ true) → mark_of e.link ≡ 0
+      → vertex_marked end target ≡ false → (t : ℕ) × (e.target ≡ Some t)
+  has_target e target over unmarked live = by e.target refl
     where
-      has_target : (e : EdgeRow) (target : Life) → (e.target ≡ None → mark_of e.link ≡ 0 → vertex_marked end target ≡ true) → mark_of e.link ≡ 0 → vertex_marked end target ≡ false → (t : ℕ) × (e.target ≡ Some t)
-      has_target e target over unmarked live = by e.target refl
-        where
-          by : (o : Option ℕ) → e.target ≡ o → (t : ℕ) × (e.target ≡ Some t)
-          by (Some t) h = (t, h)
-          by None h = let m = over h unmarked in absurd (cc)
+      by : (o : Option ℕ) → e.target ≡ o → (t : ℕ) × (e.target ≡ Some t)
+      by (Some t) h = (t, h)
+      by None h = let m = over h unmarked in absurd (cc)
+
+  -- each pair of the graph from a row's key
+  module _ (x y w : ℕ) (there : has (graph_of_scan s) x ≡ true) (pair : weight_of (graph_of end) x y ≡ Some w) where
+    from_row : (k : ℕ) × (k < length s.rows) × ((row_at s k).key ≡ x)
+    from_row = row_of x there
+
+    of_pair : (l : Life) × (present_pair end l ≡ Some ((x, y), w))
+    of_pair = life_of_pair end x y w pair
+
+    joined : IsJoined end of_pair.0 x y w
+    joined = joined_is end of_pair.0 x y w of_pair.1
+
+    one_source : joined.link.source ≡ (row_at s from_row.0).life
+    one_source = one_present sizes z end kept joined.link.source (row_at s from_row.0).life x joined.source
+        ((held from_row.0 from_row.1).present ∙ ap Some from_row.2)
+
+    its_edge : IsRecorded from_row.0 of_pair.0
+    its_edge = recorded_edge from_row.0 from_row.1 of_pair.0 joined.link joined.is joined.uncut one_source
+
+    abbrev its_seen : IsEdgeSeen sizes caller s (c.rows from_row.0 its_edge.in_row.low).begin end
+        (row_at s from_row.0).life
+        its_edge.edge
+    its_seen = seen from_row.0 its_edge.edge its_edge.in_row
+
+    its_now : IsNow its_edge.edge (seen from_row.0 its_edge.edge its_edge.in_row).link
+    its_now = now from_row.0 its_edge.edge its_edge.in_row
+
+    one_link : its_seen.link ≡ joined.link
+    one_link = some_is its_seen.link joined.link
+        (sym its_now.link_is ∙ (ap (link_of end) its_edge.life_is ∙ joined.is))
+
+    link_key : joined.link.key ≡ y
+    link_key = some_is joined.link.key y (sym ((ends_linked sizes z end kept).target of_pair.0 joined.link joined.is)
+        ∙ (present_is end joined.link.target y joined.target).1)
+
+    row_key_is : its_edge.edge.key ≡ y
+    row_key_is = sym its_seen.key ∙ (ap (λ (e : Event). e.key) one_link ∙ link_key)
+
+    live_target : vertex_marked end its_seen.link.target ≡ false
+    live_target = ap (λ (e : Event). vertex_marked end e.target) one_link
+        ∙ (present_is end joined.link.target y joined.target).0
+
+    unmarked_row : mark_of its_edge.edge.link ≡ 0
+    unmarked_row = its_now.mark ∙ ap mark_bit (ap (edge_marked end) its_edge.life_is ∙ joined.uncut)
+
+    found_target : (t : ℕ) × (its_edge.edge.target ≡ Some t)
+    found_target = has_target its_edge.edge its_seen.link.target its_seen.target.over unmarked_row live_target
+
+    found_weight : (n : ℕ) × (weight_to y (edges_of s (row_at s from_row.0)) ≡ Some n)
+    found_weight = some_found y (edges_of s (row_at s from_row.0)) its_edge.in_row.place its_edge.edge found_target.0
+        its_edge.in_row.at found_target.1 row_key_is
+
+    scan_weight : weight_of (graph_of_scan s) x y ≡ Some found_weight.0
+    scan_weight = ap (λ (n : ℕ). weight_of (graph_of_scan s) n y) (sym from_row.2)
+        ∙ (weights_law s from_row.0 y is complete from_row.1 ∙ found_weight.1)
+
+    -- is one of the scan's graph
+    pair_back : weight_of (graph_of_scan s) x y ≡ Some w
+    pair_back = as_there (weight_of (graph_of_scan s) x y) (weight_of (graph_of end) x y) found_weight.0 w scan_weight
+        (pair_in x y found_weight.0 scan_weight).1 pair
 
   -- the root is a key of the graph
   pub root_there : has (graph_of end) (root_of s) ≡ true
@@ -329,11 +397,17 @@ module _ (sizes : Sizes) (z : IsLayout sizes) (caller : ℕ) (start end : List E
       let q = path_to n r.from (omega (arith, r.earlier, less)) from_low in
       let i : IsIn r.from r.edge = record { low = from_low; place = r.place; at = r.at } in
       let t = target r.from r.edge i (suc k) r.leads in
-      let pair : weight_of (graph_of end) (row_at s r.from).key (row_at s (suc k)).key ≡ Some r.edge.weight = ap (weight_of (graph_of end) (row_at s r.from).key) t.key ∙ pair_there r.from r.edge i (suc k) r.leads in
-      (q.0 ++ (row_at s (suc k)).key ∷ [], path_on (graph_of end) (root_of s) (row_at s r.from).key (row_at s (suc k)).key q.0 q.1 (ap (λ (o : Option ℕ). is_some o) pair) (key_of_life end (row_at s (suc k)).life (row_at s (suc k)).key (held (suc k) low).present))
+      let pair : weight_of (graph_of end) (row_at s r.from).key (row_at s (suc k)).key ≡ Some r.edge.weight = ap
+      (weight_of (graph_of end) (row_at s r.from).key) t.key ∙ pair_there r.from r.edge i (suc k) r.leads in (
+        q.0 ++ (row_at s (suc k)).key ∷ [],
+        path_on (graph_of end) (root_of s) (row_at s r.from).key
+            (row_at s (suc k)).key q.0 q.1 (ap (λ (o : Option ℕ). is_some o) pair)
+            (key_of_life end (row_at s (suc k)).life (row_at s (suc k)).key (held (suc k) low).present),
+      )
 
   -- and from a key of the scan none leads out of it
-  stays_in : (a b : ℕ) (p : List ℕ) → IsPath (graph_of end) a b p → has (graph_of_scan s) a ≡ true → has (graph_of_scan s) b ≡ true
+  stays_in : (a b : ℕ) (p : List ℕ) → IsPath (graph_of end) a b p → has (graph_of_scan s) a ≡ true
+      → has (graph_of_scan s) b ≡ true
   stays_in a b [] k there = absurd k
   stays_in a b (x ∷ []) k there = subst (λ (n : ℕ). has (graph_of_scan s) n ≡ true) (sym k.0 ∙ k.1) there
   stays_in a b (x ∷ y ∷ p) k there =
@@ -357,12 +431,15 @@ module _ (sizes : Sizes) (z : IsLayout sizes) (caller : ℕ) (start end : List E
   part_is = only_part_law (graph_of end) (graph_of_scan s) (root_of s) (graph_is sizes z end kept) root_there is_part
 
 -- what was collected is in the table
-pub inside : (sizes : Sizes) (caller : ℕ) (start end : List Event) (s : ScanValue) → IsKept sizes end → IsScan s → HasCollected sizes caller start end s → IsInside sizes s
+pub inside : (sizes : Sizes) (caller : ℕ) (start end : List Event) (s : ScanValue) → IsKept sizes end → IsScan s
+    → HasCollected sizes caller start end s → IsInside sizes s
 inside sizes caller start end s kept is c = record {
   rows = λ k low.
       let r = c.rows k low in
       let p = prefix_trans r.found r.begin end r.then r.before in
-      key_there sizes end kept (row_at s k).life (row_at s k).key (key_on r.found end p (row_at s k).life (row_at s k).key (present_is r.found (row_at s k).life (row_at s k).key r.present).1);
+      key_there sizes end kept (row_at s k).life (row_at s k).key
+      (key_on r.found end p (row_at s k).life (row_at s k).key
+      (present_is r.found (row_at s k).life (row_at s k).key r.present).1);
   edges = λ p h.
       let r = is.held p h in
       let row = row_at s r.0 in
@@ -370,8 +447,10 @@ inside sizes caller start end s kept is c = record {
       let within : n < row.count = omega (arith, r.2, r.3) in
       let place : row.first + n ≡ p = omega (arith, r.2) in
       let got = get_at (edges_of s row) n blank_edge (omega (arith, length-edges_of s r.0 is r.1, within)) in
-      let at : slice_get (edges_of s row) n ≡ Some (edge_at s p) = got ∙ ap Some (get_or-edges_of s row n within ∙ ap (edge_at s) place) in
-      let e = every_at (IsEdgeSeen sizes caller s (c.rows r.0 r.1).begin end row.life) (edges_of s row) n (edge_at s p) (row_edges sizes caller s start end row (c.rows r.0 r.1)) at in
+      let at : slice_get (edges_of s row) n ≡ Some (edge_at s p) = got
+      ∙ ap Some (get_or-edges_of s row n within ∙ ap (edge_at s) place) in
+      let e = every_at (IsEdgeSeen sizes caller s (c.rows r.0 r.1).begin end row.life) (edges_of s row) n (edge_at s p)
+      (row_edges sizes caller s start end row (c.rows r.0 r.1)) at in
       link_there sizes e.moment (kept_front sizes e.moment end e.before kept) (edge_at s p).life e.link e.is;
 }
 

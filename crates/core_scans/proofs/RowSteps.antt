@@ -1,5 +1,6 @@
 -- The steps of collect: a load, the start of a row, an edge, the end of a row, and the end.
-use Rattle.std.proofs.Common.{◌≡◌, ◌≢◌, ℕ, zero, suc, ◌+◌, ◌-◌, ◌<◌, List, [], length, Some, inl, inr, ⊎_elim, refl, sym, ap, ◌∙◌, subst, arith}
+use Rattle.std.proofs.Common.{◌≡◌, ◌≢◌, ℕ, zero, suc, ◌+◌, ◌-◌, ◌<◌, List, [], length, Some, inl, inr, ⊎_elim, refl}
+use Rattle.std.proofs.Common.{sym, ap, ◌∙◌, subst, arith}
 use mathlib.Core.Logic.{dite}
 use native.Mathlib.Decide.{ℕ_discrete}
 use Rattle.packed_link.specs.Link.{index_of, nowhere}
@@ -22,15 +23,17 @@ use Rattle.core_lists.specs.Walks.{LeadsTo}
 use Rattle.core_rule.specs.declared.view.View.{View}
 use Rattle.core_rule.proofs.ViewShows.{vertex_still, edge_still, key_still, goes_further, list_shown}
 use Rattle.core_scans.specs.Seen.{IsRowSeen, HasCollected}
-use Rattle.core_scans.specs.Walking.{IsRowMet, AreRowsMet, AreRowsReached, IsBetween, IsRowOpen, IsNextEdge, last_row, IsWithin}
-use Rattle.core_scans.proofs.Scans.{more_same, more_started, started_other, started_same}
-use Rattle.core_scans.proofs.Collects.{row_on, open_on, open_done}
+use Rattle.core_scans.specs.Walking.{IsRowMet, AreRowsMet, AreRowsReached, IsBetween, IsRowOpen, IsNextEdge, last_row}
+use Rattle.core_scans.specs.Walking.{IsWithin}
+use Rattle.core_scans.proofs.PushesKeepLives.{more_same, more_started, started_other, started_same}
+use Rattle.core_scans.proofs.CollectGoesOn.{row_on, open_on, open_done}
 
 pub leads_map : (word : ℕ) (P Q : ℕ → Type 0) → ((y : ℕ) → P y → Q y) → LeadsTo word P → LeadsTo word Q
 leads_map word P Q f h = ⊎_elim (λ n. inl n) (λ (p : P (index_of word)). inr (f (index_of word) p)) h
 
 -- what is said of a row's life and key is said of another with them
-pub row_like : (v : View) (start : List Event) (row other : VertexRow) → other.life ≡ row.life → other.key ≡ row.key → IsRowMet v start row → IsRowMet v start other
+pub row_like : (v : View) (start : List Event) (row other : VertexRow) → other.life ≡ row.life → other.key ≡ row.key
+    → IsRowMet v start row → IsRowMet v start other
 row_like v start row other life key m = record {
   met = subst (MetVertex v) (sym life) m.met;
   key = ap (λ (x : Life). key_in v x.index) life ∙ (m.key ∙ sym key);
@@ -51,14 +54,17 @@ module _ (v w : View) (z : IsLayout v.sizes) (g : GoesOn v w) where
     present = m.present;
   }
 
-  pub next_later : (source : Life) (es : List EdgeRow) (index : ℕ) → IsNextEdge v source es index → IsNextEdge w source es index
+  pub next_later : (source : Life) (es : List EdgeRow) (index : ℕ) → IsNextEdge v source es index
+      → IsNextEdge w source es index
   next_later source es index n =
-      let key : key_in w index ≡ key_in v index = subst (λ (y : ℕ). key_in w y ≡ key_in v y) n.is (key_still v w z g n.life.index n.met.life.there n.met.met) in
+      let key : key_in w index ≡ key_in v index = subst (λ (y : ℕ). key_in w y ≡ key_in v y) n.is
+      (key_still v w z g n.life.index n.met.life.there n.met.met) in
       record {
         life = n.life;
         is = n.is;
         met = edge_still v w z g source n.life n.met;
-        above = every_map (λ (e : EdgeRow). e.key < key_in v index) (λ (e : EdgeRow). e.key < key_in w index) (λ e h. omega (arith, h, key)) es n.above;
+        above = every_map (λ (e : EdgeRow). e.key < key_in v index) (λ (e : EdgeRow). e.key < key_in w index)
+            (λ e h. omega (arith, h, key)) es n.above;
       }
 
   -- a load
@@ -67,8 +73,10 @@ module _ (v w : View) (z : IsLayout v.sizes) (g : GoesOn v w) where
     front = prefix_trans start v.front w.front h.front g.grows;
     some = h.some;
     started = h.started;
-    met = λ k low. subst (λ (u : View). IsRowMet u start (row_at s k)) g.view (met_later start (row_at s k) (h.met k low));
-    seen = λ k low. row_on v.sizes v.number s s (more_same s) v.front w.front g.grows start (row_at s k) refl (h.seen k low);
+    met = λ k low. subst (λ (u : View). IsRowMet u start (row_at s k)) g.view
+        (met_later start (row_at s k) (h.met k low));
+    seen = λ k low. row_on v.sizes v.number s s (more_same s) v.front w.front g.grows start (row_at s k) refl
+        (h.seen k low);
   }
 
   pub within_later : (start : List Event) (s : ScanValue) (at : ℕ) → IsWithin v start s at → IsWithin w start s at
@@ -76,27 +84,35 @@ module _ (v w : View) (z : IsLayout v.sizes) (g : GoesOn v w) where
     begun = h.begun;
     some = h.some;
     started = h.started;
-    met = λ k low. subst (λ (u : View). IsRowMet u start (row_at s k)) g.view (met_later start (row_at s k) (h.met k low));
-    seen = λ k low. row_on v.sizes v.number s s (more_same s) v.front w.front g.grows start (row_at s k) refl (h.seen k low);
+    met = λ k low. subst (λ (u : View). IsRowMet u start (row_at s k)) g.view
+        (met_later start (row_at s k) (h.met k low));
+    seen = λ k low. row_on v.sizes v.number s s (more_same s) v.front w.front g.grows start (row_at s k) refl
+        (h.seen k low);
     row = open_on v.sizes v.number s s (more_same s) v.front w.front g.grows start (last_row s) at refl h.row;
     onward = subst (λ (u : View). LeadsTo at (IsNextEdge u (last_row s).life (edges_of s (last_row s)))) g.view
-        (leads_map at (IsNextEdge v (last_row s).life (edges_of s (last_row s))) (IsNextEdge w (last_row s).life (edges_of s (last_row s))) (next_later (last_row s).life (edges_of s (last_row s))) h.onward);
+        (leads_map at (IsNextEdge v (last_row s).life (edges_of s (last_row s)))
+        (IsNextEdge w (last_row s).life (edges_of s (last_row s)))
+        (next_later (last_row s).life (edges_of s (last_row s))) h.onward);
   }
 
 -- the end of a row
-pub within_done : (v : View) (start : List Event) (s : ScanValue) (at : ℕ) → IsWithin v start s at → index_of at ≡ nowhere → IsBetween v start s
+pub within_done : (v : View) (start : List Event) (s : ScanValue) (at : ℕ) → IsWithin v start s at
+    → index_of at ≡ nowhere → IsBetween v start s
 within_done v start s at h none = record {
-  front = prefix_trans start h.row.begin v.front (prefix_trans start h.row.found h.row.begin h.row.after h.row.then) h.row.before;
+  front = prefix_trans start h.row.begin v.front (prefix_trans start h.row.found h.row.begin h.row.after h.row.then)
+      h.row.before;
   some = omega (arith, h.begun, h.some);
   started = h.started;
   met = h.met;
   seen = λ k low. dite (ℕ_discrete k (s.next - 1))
-      (λ same. subst (λ (n : ℕ). IsRowSeen v.sizes v.number s start v.front (row_at s n)) (sym same) (open_done v.sizes v.number s start v.front (last_row s) at none h.row))
+      (λ same. subst (λ (n : ℕ). IsRowSeen v.sizes v.number s start v.front (row_at s n)) (sym same)
+      (open_done v.sizes v.number s start v.front (last_row s) at none h.row))
       (λ ne. h.seen k (omega (arith, low, ne)));
 }
 
 -- the end of collect
-pub between_done : (v : View) (start : List Event) (s : ScanValue) → IsBetween v start s → AreRowsReached s (length s.rows) → s.next ≡ length s.rows → HasCollected v.sizes v.number start v.front s
+pub between_done : (v : View) (start : List Event) (s : ScanValue) → IsBetween v start s
+    → AreRowsReached s (length s.rows) → s.next ≡ length s.rows → HasCollected v.sizes v.number start v.front s
 between_done v start s h reached all = record {
   some = h.some;
   started = h.started ∙ all;
@@ -105,7 +121,9 @@ between_done v start s h reached all = record {
 }
 
 -- the start of collect
-pub between_first : (v : View) (start : List Event) (nodes : ℕ) (root : Life) (key : ℕ) → IsPrefix start v.front → present_key start root ≡ Some key → MetVertex v root → key_in v root.index ≡ key → IsBetween v start (with_vertex (empty_scan nodes) root key)
+pub between_first : (v : View) (start : List Event) (nodes : ℕ) (root : Life) (key : ℕ) → IsPrefix start v.front
+    → present_key start root ≡ Some key → MetVertex v root → key_in v root.index ≡ key
+    → IsBetween v start (with_vertex (empty_scan nodes) root key)
 between_first v start nodes root key p there m is = record {
   front = p;
   some = omega arith;
@@ -119,8 +137,10 @@ between_first v start nodes root key p there m is = record {
     first (suc k) low = absurd (omega (arith, low))
 
 -- the start of a row: its counter was loaded, and after that its head
-module _ (v a b : View) (z : IsLayout v.sizes) (start : List Event) (s : ScanValue) (is : IsScan s) (h : IsBetween v start s) (low : s.next < length s.rows) (ga : GoesOn v a) (gb : GoesOn a b) (counter head : ℕ)
-    (counted : word_at v.sizes a.front (third_at v.sizes (row_at s s.next).life.index) ≡ counter) (led : word_at v.sizes b.front (second_at v.sizes (row_at s s.next).life.index) ≡ head) where
+module _ (v a b : View) (z : IsLayout v.sizes) (start : List Event) (s : ScanValue) (is : IsScan s)
+    (h : IsBetween v start s) (low : s.next < length s.rows) (ga : GoesOn v a) (gb : GoesOn a b) (counter head : ℕ)
+    (counted : word_at v.sizes a.front (third_at v.sizes (row_at s s.next).life.index) ≡ counter)
+    (led : word_at v.sizes b.front (second_at v.sizes (row_at s s.next).life.index) ≡ head) where
   abbrev pub t : ScanValue
   t = with_started s s.next counter head
 
@@ -165,8 +185,11 @@ module _ (v a b : View) (z : IsLayout v.sizes) (start : List Event) (s : ScanVal
 
   onward : LeadsTo head (IsNextEdge u (row_at s s.next).life [])
   onward =
-      let met_b : MetVertex u (row_at s s.next).life = subst (λ (x : View). MetVertex x (row_at s s.next).life) as_u (vertex_still v b z g (row_at s s.next).life (h.met s.next low).met) in
-      let shown : LeadsTo head (IsEdgeIn u (row_at s s.next).life) = subst (λ (w : ℕ). LeadsTo w (IsEdgeIn u (row_at s s.next).life)) led (list_shown u z g.kept (row_at s s.next).life met_b) in
+      let met_b : MetVertex u (row_at s s.next).life = subst (λ (x : View). MetVertex x (row_at s s.next).life) as_u
+      (vertex_still v b z g (row_at s s.next).life (h.met s.next low).met) in
+      let shown : LeadsTo head (IsEdgeIn u (row_at s s.next).life) = subst
+      (λ (w : ℕ). LeadsTo w (IsEdgeIn u (row_at s s.next).life)) led
+      (list_shown u z g.kept (row_at s s.next).life met_b) in
       leads_map head (IsEdgeIn u (row_at s s.next).life) (IsNextEdge u (row_at s s.next).life [])
       (λ y m. record { life = life_in v.sizes b.front y; is = refl; met = m; above = tt }) shown
 
@@ -179,14 +202,20 @@ module _ (v a b : View) (z : IsLayout v.sizes) (start : List Event) (s : ScanVal
     seen = λ k less.
         let ne : k ≢ s.next = λ e. omega (arith, less, e) in
         subst (IsRowSeen v.sizes v.number t start b.front) (sym (started_other s is s.next counter head k ne))
-        (row_on v.sizes v.number s t (more_started s is s.next counter head) v.front b.front g.grows start (row_at s k) refl (h.seen k (omega (arith, less))));
+        (row_on v.sizes v.number s t (more_started s is s.next counter head) v.front b.front g.grows start
+        (row_at s k) refl (h.seen k (omega (arith, less))));
     row = subst (λ (r : VertexRow). IsRowOpen v.sizes v.number t start b.front r head) (sym last) open_row;
     onward = subst (λ (r : VertexRow). LeadsTo head (IsNextEdge u r.life (edges_of t r))) (sym last) onward;
   }
     where
       met_all : AreRowsMet (moved_on v b.front b.last) start (with_started s s.next counter head)
       met_all k inside = dite (ℕ_discrete k s.next)
-          (λ same. subst (IsRowMet u start) (sym (ap (row_at t) same ∙ here)) (row_like u start (row_at s s.next) row refl refl (subst (λ (x : View). IsRowMet x start (row_at s s.next)) as_u (met_later v b z g start (row_at s s.next) (h.met s.next low)))))
+          (λ same. subst (IsRowMet u start) (sym (ap (row_at t) same ∙ here))
+          (row_like u start (row_at s s.next) row refl refl
+          (subst (λ (x : View). IsRowMet x start (row_at s s.next)) as_u
+          (met_later v b z g start (row_at s s.next) (h.met s.next low)))))
           (λ ne.
           let inside_s : k < length s.rows = omega (arith, inside, length-set s.rows s.next row) in
-          subst (IsRowMet u start) (sym (started_other s is s.next counter head k ne)) (subst (λ (x : View). IsRowMet x start (row_at s k)) as_u (met_later v b z g start (row_at s k) (h.met k inside_s))))
+          subst (IsRowMet u start) (sym (started_other s is s.next counter head k ne))
+          (subst (λ (x : View). IsRowMet x start (row_at s k)) as_u
+          (met_later v b z g start (row_at s k) (h.met k inside_s))))

@@ -26,8 +26,8 @@ use Rattle.core_lists.proofs.ListHoldsKept.{has_open, listing}
 use Rattle.core_lists.proofs.LivesOnLists.{edge_of, of_edge}
 use Rattle.core_lists.proofs.OneVertexOfKey.{present_live}
 use Rattle.core_lists.proofs.SpentWordsLead.{unclosed}
-use Rattle.core_scans.proofs.Fronts.{some_is, link_on, stays_back}
-use Rattle.core_scans.proofs.LinkNumbers.{since_stays}
+use Rattle.core_scans.proofs.FrontsKeepLives.{some_is, link_on, stays_back}
+use Rattle.core_scans.proofs.LinkNumberStays.{since_stays}
 
 node_is : (x y : ℕ) → Next x ≡ Next y → x ≡ y
 node_is x y p = cc
@@ -91,7 +91,8 @@ module _ (sizes : Sizes) (z : IsLayout sizes) (v : Life) (key : ℕ) where
   alike_back i j p a = record { rank = sym a.rank; since = sym a.since }
 
   -- an edge that stands on the list at both
-  pub placed_alike : (i j : List Event) → IsHere i → IsHere j → IsPrefix i j → (l : Life) → IsEdgeOf i v l → IsEdgeOf j v l
+  pub placed_alike : (i j : List Event) → IsHere i → IsHere j → IsPrefix i j → (l : Life) → IsEdgeOf i v l
+      → IsEdgeOf j v l
       → IsPlacedAlike i j (Next l.index)
   placed_alike i j hi hj q l f g =
       let a = on_list i hi l f in

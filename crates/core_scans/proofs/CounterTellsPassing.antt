@@ -22,8 +22,8 @@ use Rattle.core_lists.proofs.LinksTellReplaced.{front_at}
 use Rattle.core_lists.proofs.LivesOnLists.{edge_present}
 use Rattle.core_lists.proofs.LowerCounters.{found_at, marked_lower, counter_rises}
 use Rattle.core_lists.proofs.OneVertexOfKey.{present_live}
-use Rattle.core_scans.proofs.Fronts.{some_is, key_on, link_on, unmarked_back, stays_back, every_at, not_below}
-use Rattle.core_scans.proofs.Gaps.{IsHere}
+use Rattle.core_scans.proofs.FrontsKeepLives.{some_is, key_on, link_on, unmarked_back, stays_back, every_at, not_below}
+use Rattle.core_scans.proofs.SameWordBetween.{IsHere}
 
 -- an edge whose link stands in a journal was linked in it
 link_in : (j : List Event) (x : Life) (link : Event) (k : ℕ) → slice_get j k ≡ Some link
@@ -73,8 +73,8 @@ module _ (sizes : Sizes) (z : IsLayout sizes) (v : Life) (key : ℕ) (begin last
     kept_t : IsKept sizes t
     kept_t = kept_front sizes t last t_last kept
 
-    -- an edge that was linked after the first moment and unlinked before the last was marked or replaced in between, at a
-    -- higher counter
+    -- an edge that was linked after the first moment and unlinked before the last was marked or replaced in
+    -- between, at a higher counter
     module _ (l : Life) (f : IsEdgeOf e v l) (not_m : IsEdgeOf m v l → ⊥) where
       link_t : link_of t l ≡ Some f.link
       link_t = link_on e t second l f.link f.is

@@ -1,5 +1,5 @@
 -- What collect carries from load to load.
-use Rattle.std.proofs.Common.{◌≡◌, ◌≢◌, ℕ, List, [], ◌∷◌, ◌++◌, refl, sym, ap, ◌∙◌, subst, arith}
+use Rattle.std.proofs.Common.{◌≡◌, ◌≢◌, ℕ, List, [], ◌∷◌, ◌++◌, refl, ap, ◌∙◌, arith}
 use Rattle.graph_kinds.specs.History.{Every}
 use Rattle.packed_link.specs.Link.{index_of, nowhere}
 use Rattle.packed_link.specs.Layout.{Sizes, second_at}
@@ -13,21 +13,30 @@ use Rattle.core_journal.proofs.Lists.{prefix_trans, every_map}
 use Rattle.core_scans.specs.Seen.{WasAt, Meeting, Recorded, PassedOver, index_met, link_met, IsTargetSeen}
 use Rattle.core_scans.specs.Seen.{IsEdgeSeen, IsMeetingSeen, LeadsAlong, IsRowSeen}
 use Rattle.core_scans.specs.Walking.{LeadsUpTo, IsRowOpen}
-use Rattle.core_scans.proofs.Fronts.{marked_on}
+use Rattle.core_scans.proofs.FrontsKeepLives.{marked_on}
 use Rattle.core_scans.specs.Walking.{IsMore}
 
 -- what was loaded between two moments was loaded between longer ones
-pub was_on : (sizes : Sizes) (from to later : List Event) (place word : ℕ) → IsPrefix to later → WasAt sizes from to place word → WasAt sizes from later place word
-was_on sizes from to later place word p w = record { moment = w.moment; after = w.after; before = prefix_trans w.moment to later w.before p; word_is = w.word_is }
+pub was_on : (sizes : Sizes) (from to later : List Event) (place word : ℕ) → IsPrefix to later
+    → WasAt sizes from to place word → WasAt sizes from later place word
+was_on sizes from to later place word p w = record {
+  moment = w.moment;
+  after = w.after;
+  before = prefix_trans w.moment
+      to later w.before p;
+  word_is = w.word_is;
+}
 
-module _ (sizes : Sizes) (caller : ℕ) (s t : ScanValue) (more : IsMore s t) (end later : List Event) (p : IsPrefix end later) where
+module _ (sizes : Sizes) (caller : ℕ) (s t : ScanValue) (more : IsMore s t) (end later : List Event)
+    (p : IsPrefix end later) where
   target_on : (e : EdgeRow) (target : Life) → IsTargetSeen s end e target → IsTargetSeen t later e target
   target_on e target h = record {
     row = λ n is. let r = h.row n is in (omega (arith, r.0, more.rows), more.lives n r.0 ∙ r.1, r.2);
     over = λ none unmarked. marked_on end later p target (h.over none unmarked);
   }
 
-  pub edge_on : (begin : List Event) (source : Life) (e : EdgeRow) → IsEdgeSeen sizes caller s begin end source e → IsEdgeSeen sizes caller t begin later source e
+  pub edge_on : (begin : List Event) (source : Life) (e : EdgeRow) → IsEdgeSeen sizes caller s begin end source e
+      → IsEdgeSeen sizes caller t begin later source e
   edge_on begin source e h = record {
     moment = h.moment;
     after = h.after;
@@ -64,7 +73,8 @@ module _ (sizes : Sizes) (caller : ℕ) (s t : ScanValue) (more : IsMore s t) (e
   meetings_on begin source ms f = every_map (IsMeetingSeen sizes caller s begin end source)
       (IsMeetingSeen sizes caller t begin later source) (meeting_on begin source) ms f
 
-  pub row_on : (start : List Event) (row : VertexRow) → edges_of t row ≡ edges_of s row → IsRowSeen sizes caller s start end row → IsRowSeen sizes caller t start later row
+  pub row_on : (start : List Event) (row : VertexRow) → edges_of t row ≡ edges_of s row
+      → IsRowSeen sizes caller s start end row → IsRowSeen sizes caller t start later row
   row_on start row edges h = record {
     found = h.found;
     after = h.after;
@@ -80,7 +90,8 @@ module _ (sizes : Sizes) (caller : ℕ) (s t : ScanValue) (more : IsMore s t) (e
     edges = edges ∙ h.edges;
   }
 
-  pub open_on : (start : List Event) (row : VertexRow) (at : ℕ) → edges_of t row ≡ edges_of s row → IsRowOpen sizes caller s start end row at → IsRowOpen sizes caller t start later row at
+  pub open_on : (start : List Event) (row : VertexRow) (at : ℕ) → edges_of t row ≡ edges_of s row
+      → IsRowOpen sizes caller s start end row at → IsRowOpen sizes caller t start later row at
   open_on start row at edges h = record {
     found = h.found;
     after = h.after;

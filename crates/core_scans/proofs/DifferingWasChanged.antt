@@ -1,10 +1,10 @@
 -- What isn't as it was recorded was changed by a counted event of another caller.
-use Rattle.std.proofs.Common.{◌≡◌, ◌≢◌, ◌⊎◌, inl, inr, ⊎_elim, ℕ, ◌+◌, ◌<◌, ◌≤◌, Bool, true, false, ◌&&◌, List, ◌∷◌, ◌++◌, length, take}
-use Rattle.std.proofs.Common.{Some, refl, sym, ap, ◌∙◌, subst, arith, lit<}
+use Rattle.std.proofs.Common.{◌≡◌, ◌≢◌, inl, inr, ⊎_elim, ℕ, ◌+◌, ◌<◌, true, List}
+use Rattle.std.proofs.Common.{length}
+use Rattle.std.proofs.Common.{Some, refl, sym, ap, ◌∙◌, arith, lit<}
 use Rattle.std.specs.Prelude.{slice_get}
 use Rattle.packed_link.specs.Link.{mark_of, tag_of}
 use Rattle.packed_link.specs.Layout.{Sizes, IsLayout, key_at, link_at, second_at, third_at}
-use Rattle.packed_link.specs.declared.link.Life.{Life}
 use Rattle.scan_record.specs.declared.rows.VertexRow.{VertexRow}
 use Rattle.scan_record.specs.declared.rows.EdgeRow.{EdgeRow}
 use Rattle.scan_record.specs.Scan.{ScanValue, edges_of}
@@ -29,9 +29,9 @@ use Rattle.core_lists.proofs.LinkTellsPresence.{over}
 use Rattle.core_lists.proofs.OneVertexOfKey.{present_live}
 use Rattle.core_scans.specs.Differing.{DiffersNow, HasOtherLink, IsVertexOver}
 use Rattle.core_scans.specs.Seen.{IsEdgeSeen, IsRowSeen, OnlyLooks}
-use Rattle.core_scans.proofs.Fronts.{every_at}
-use Rattle.core_scans.proofs.Meetings.{row_edges}
-use Rattle.core_scans.proofs.Rows.{pass_at, same_pass}
+use Rattle.core_scans.proofs.FrontsKeepLives.{every_at}
+use Rattle.core_scans.proofs.RecordedOfWalk.{row_edges}
+use Rattle.core_scans.proofs.RowIsHeld.{pass_at, same_pass}
 
 -- what was changed since a later front was changed since an earlier one
 since_earlier : (caller place : ℕ) (front later journal : List Event) → IsPrefix front later

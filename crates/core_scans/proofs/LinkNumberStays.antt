@@ -1,5 +1,5 @@
 -- The number of the event that linked a node stays while the node is in this life.
-use Rattle.std.proofs.Common.{◌≡◌, ◌≢◌, ℕ, ◌≤◌, List, true, refl, sym, ap, ◌∙◌, subst, arith}
+use Rattle.std.proofs.Common.{◌≡◌, ◌≢◌, ℕ, ◌≤◌, List, true, refl, sym, ◌∙◌, subst, arith}
 use Rattle.packed_link.specs.Layout.{Sizes, IsLayout}
 use Rattle.core_journal.specs.declared.event.Kind.TheVariants.{PopFree, LinkEdge, ReplaceEdge}
 use Rattle.core_journal.specs.declared.event.Event.{Event}
