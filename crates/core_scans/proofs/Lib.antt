@@ -17,3 +17,4 @@ pub mod VerifyGoesOn
 pub mod DifferingWasChanged
 pub mod AliveLaterWasPresent
 pub mod AnsweredOnThePart
+pub mod WorkedQueries

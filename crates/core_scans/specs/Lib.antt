@@ -2,3 +2,4 @@ pub mod Seen
 pub mod Held
 pub mod Walking
 pub mod Differing
+pub mod Worked
