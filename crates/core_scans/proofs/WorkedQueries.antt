@@ -15,14 +15,16 @@ use Rattle.core_journal.proofs.Lists.{prefix_take}
 use Rattle.core_lists.proofs.MetWordsLead.{linked_met}
 use Rattle.core_scans.specs.Differing.{DiffersNow}
 use Rattle.core_scans.specs.Held.{IsHeldAt}
-use Rattle.core_scans.specs.Seen.{Recorded, PassedOver, WasAt, IsTargetSeen, IsEdgeSeen, IsRowSeen, IsLedTo, HasCollected}
+use Rattle.core_scans.specs.Seen.{Recorded, PassedOver, WasAt, IsTargetSeen, IsEdgeSeen, IsRowSeen, IsLedTo}
+use Rattle.core_scans.specs.Seen.{HasCollected}
 use Rattle.core_scans.specs.Seen.{IsSeenReplaced, IsRowSame, IsSame}
 use Rattle.core_scans.specs.Worked.{beside_queries, moment, edge_to_two, scan_of, scan_before}
 use Rattle.core_scans.specs.Worked.{scan_between, scan_behind}
 
 -- the fronts of the journal, in order
-front : (n m : ℕ) → n ≤ m → IsPrefix (moment n) (moment m)
-front n m h = subst (λ (l : List Event). IsPrefix l (moment m)) (twice beside_queries n m h) (prefix_take (moment m) n)
+pub moments_rise : (n m : ℕ) → n ≤ m → IsPrefix (moment n) (moment m)
+moments_rise n m h = subst (λ (l : List Event). IsPrefix l (moment m)) (twice beside_queries n m h)
+    (prefix_take (moment m) n)
   where
     twice : (xs : List Event) (n m : ℕ) → n ≤ m → take n (take m xs) ≡ take n xs
     twice xs zero m h = refl
@@ -35,8 +37,8 @@ was : (from n to place word : ℕ) → from ≤ n → n ≤ to → word_at small
     → WasAt small (moment from) (moment to) place word
 was from n to place word a b h = record {
   moment = moment n;
-  after = front from n a;
-  before = front n to b;
+  after = moments_rise from n a;
+  before = moments_rise n to b;
   word_is = h;
 }
 
@@ -69,12 +71,13 @@ reached counter e target (suc zero) some low = record {
 reached counter e target (suc (suc t)) some low = absurd (omega (arith, low))
 
 -- before the edge from 1 to 1 comes; collect ends there, or at a later moment
-edge_before : (to : ℕ) → 27 ≤ to → IsEdgeSeen small 1 scan_before (moment 27) (moment to) (first_life 0) (edge_to_two 2 3)
+edge_before : (to : ℕ) → 27 ≤ to → IsEdgeSeen small 1 scan_before (moment 27) (moment to) (first_life 0)
+    (edge_to_two 2 3)
 unfolding machine word_at state link_of
 edge_before to h = record {
   moment = moment 27;
-  after = front 27 27 (lit≤ tt);
-  before = front 27 to h;
+  after = moments_rise 27 27 (lit≤ tt);
+  before = moments_rise 27 to h;
   word_is = refl;
   met = linked_met small (moment 27) 1 refl 2 refl;
   life = refl;
@@ -95,11 +98,11 @@ collected_before to h = record {
   rows = two (λ k. IsRowSeen small 1 scan_before (moment 27) (moment to) (row_at scan_before k))
       record {
         found = moment 27;
-        after = front 27 27 (lit≤ tt);
+        after = moments_rise 27 27 (lit≤ tt);
         present = refl;
         begin = moment 27;
-        then = front 27 27 (lit≤ tt);
-        before = front 27 to h;
+        then = moments_rise 27 27 (lit≤ tt);
+        before = moments_rise 27 to h;
         counter = refl;
         head = was 27 27 to (second_at small 0) (pack 2 0 1) (lit≤ tt) h refl;
         walked = Recorded (edge_to_two 2 3) ∷ [];
@@ -109,11 +112,11 @@ collected_before to h = record {
       }
       record {
         found = moment 27;
-        after = front 27 27 (lit≤ tt);
+        after = moments_rise 27 27 (lit≤ tt);
         present = refl;
         begin = moment 27;
-        then = front 27 27 (lit≤ tt);
-        before = front 27 to h;
+        then = moments_rise 27 27 (lit≤ tt);
+        before = moments_rise 27 to h;
         counter = refl;
         head = was 27 27 to (second_at small 1) (pack nowhere 0 1) (lit≤ tt) h refl;
         walked = [];
@@ -157,8 +160,8 @@ edge_between : IsEdgeSeen small 1 scan_between (moment 37) (moment 37) (first_li
 unfolding machine word_at state link_of
 edge_between = record {
   moment = moment 37;
-  after = front 37 37 (lit≤ tt);
-  before = front 37 37 (lit≤ tt);
+  after = moments_rise 37 37 (lit≤ tt);
+  before = moments_rise 37 37 (lit≤ tt);
   word_is = refl;
   met = linked_met small (moment 37) 1 refl 2 refl;
   life = refl;
@@ -179,11 +182,11 @@ collected_between = record {
   rows = two (λ k. IsRowSeen small 1 scan_between (moment 37) (moment 37) (row_at scan_between k))
       record {
         found = moment 37;
-        after = front 37 37 (lit≤ tt);
+        after = moments_rise 37 37 (lit≤ tt);
         present = refl;
         begin = moment 37;
-        then = front 37 37 (lit≤ tt);
-        before = front 37 37 (lit≤ tt);
+        then = moments_rise 37 37 (lit≤ tt);
+        before = moments_rise 37 37 (lit≤ tt);
         counter = refl;
         head = was 37 37 37 (second_at small 0) (pack 2 0 1) (lit≤ tt) (lit≤ tt) refl;
         walked = Recorded (edge_to_two 2 3) ∷ [];
@@ -193,11 +196,11 @@ collected_between = record {
       }
       record {
         found = moment 37;
-        after = front 37 37 (lit≤ tt);
+        after = moments_rise 37 37 (lit≤ tt);
         present = refl;
         begin = moment 37;
-        then = front 37 37 (lit≤ tt);
-        before = front 37 37 (lit≤ tt);
+        then = moments_rise 37 37 (lit≤ tt);
+        before = moments_rise 37 37 (lit≤ tt);
         counter = refl;
         head = was 37 37 37 (second_at small 1) (pack nowhere 0 1) (lit≤ tt) (lit≤ tt) refl;
         walked = [];
@@ -213,25 +216,25 @@ unfolding machine word_at
 same_between = two (λ k. IsRowSame small scan_between (moment 37) (moment 38) (row_at scan_between k))
     record {
       counted = moment 37;
-      after = front 37 37 (lit≤ tt);
+      after = moments_rise 37 37 (lit≤ tt);
       head = was 37 37 37 (second_at small 0) (pack 2 0 1) (lit≤ tt) (lit≤ tt) refl;
       links = (was 37 37 37 (link_at small 2) (pack nowhere 0 1) (lit≤ tt) (lit≤ tt) refl, tt);
       counter = refl;
       last = moment 38;
-      then = front 37 38 (lit≤ tt);
-      before = front 38 38 (lit≤ tt);
+      then = moments_rise 37 38 (lit≤ tt);
+      before = moments_rise 38 38 (lit≤ tt);
       life = refl;
       unmarked = refl;
     }
     record {
       counted = moment 38;
-      after = front 37 38 (lit≤ tt);
+      after = moments_rise 37 38 (lit≤ tt);
       head = was 37 38 38 (second_at small 1) (pack nowhere 0 1) (lit≤ tt) (lit≤ tt) refl;
       links = tt;
       counter = refl;
       last = moment 38;
-      then = front 38 38 (lit≤ tt);
-      before = front 38 38 (lit≤ tt);
+      then = moments_rise 38 38 (lit≤ tt);
+      before = moments_rise 38 38 (lit≤ tt);
       life = refl;
       unmarked = refl;
     }
@@ -241,8 +244,8 @@ replaced_behind : IsSeenReplaced small 1 (moment 44) (moment 44) 2 (pack 4 1 1)
 unfolding machine word_at state
 replaced_behind = record {
   moment = moment 44;
-  after = front 44 44 (lit≤ tt);
-  before = front 44 44 (lit≤ tt);
+  after = moments_rise 44 44 (lit≤ tt);
+  before = moments_rise 44 44 (lit≤ tt);
   word_is = refl;
   met = linked_met small (moment 44) 1 refl 2 refl;
   edge = refl;
@@ -253,8 +256,8 @@ edge_behind : IsEdgeSeen small 1 scan_behind (moment 44) (moment 44) (first_life
 unfolding machine word_at state link_of
 edge_behind = record {
   moment = moment 44;
-  after = front 44 44 (lit≤ tt);
-  before = front 44 44 (lit≤ tt);
+  after = moments_rise 44 44 (lit≤ tt);
+  before = moments_rise 44 44 (lit≤ tt);
   word_is = refl;
   met = linked_met small (moment 44) 1 refl 4 refl;
   life = refl;
@@ -275,11 +278,11 @@ collected_behind = record {
   rows = two (λ k. IsRowSeen small 1 scan_behind (moment 44) (moment 44) (row_at scan_behind k))
       record {
         found = moment 44;
-        after = front 44 44 (lit≤ tt);
+        after = moments_rise 44 44 (lit≤ tt);
         present = refl;
         begin = moment 44;
-        then = front 44 44 (lit≤ tt);
-        before = front 44 44 (lit≤ tt);
+        then = moments_rise 44 44 (lit≤ tt);
+        before = moments_rise 44 44 (lit≤ tt);
         counter = refl;
         head = was 44 44 44 (second_at small 0) (pack 2 0 1) (lit≤ tt) (lit≤ tt) refl;
         walked = PassedOver 2 (pack 4 1 1) ∷ Recorded (edge_to_two 4 7) ∷ [];
@@ -289,11 +292,11 @@ collected_behind = record {
       }
       record {
         found = moment 44;
-        after = front 44 44 (lit≤ tt);
+        after = moments_rise 44 44 (lit≤ tt);
         present = refl;
         begin = moment 44;
-        then = front 44 44 (lit≤ tt);
-        before = front 44 44 (lit≤ tt);
+        then = moments_rise 44 44 (lit≤ tt);
+        before = moments_rise 44 44 (lit≤ tt);
         counter = refl;
         head = was 44 44 44 (second_at small 1) (pack nowhere 0 1) (lit≤ tt) (lit≤ tt) refl;
         walked = [];
@@ -309,25 +312,25 @@ unfolding machine word_at
 same_behind = two (λ k. IsRowSame small scan_behind (moment 44) (moment 44) (row_at scan_behind k))
     record {
       counted = moment 44;
-      after = front 44 44 (lit≤ tt);
+      after = moments_rise 44 44 (lit≤ tt);
       head = was 44 44 44 (second_at small 0) (pack 2 0 1) (lit≤ tt) (lit≤ tt) refl;
       links = (was 44 44 44 (link_at small 4) (pack nowhere 0 1) (lit≤ tt) (lit≤ tt) refl, tt);
       counter = refl;
       last = moment 44;
-      then = front 44 44 (lit≤ tt);
-      before = front 44 44 (lit≤ tt);
+      then = moments_rise 44 44 (lit≤ tt);
+      before = moments_rise 44 44 (lit≤ tt);
       life = refl;
       unmarked = refl;
     }
     record {
       counted = moment 44;
-      after = front 44 44 (lit≤ tt);
+      after = moments_rise 44 44 (lit≤ tt);
       head = was 44 44 44 (second_at small 1) (pack nowhere 0 1) (lit≤ tt) (lit≤ tt) refl;
       links = tt;
       counter = refl;
       last = moment 44;
-      then = front 44 44 (lit≤ tt);
-      before = front 44 44 (lit≤ tt);
+      then = moments_rise 44 44 (lit≤ tt);
+      before = moments_rise 44 44 (lit≤ tt);
       life = refl;
       unmarked = refl;
     }

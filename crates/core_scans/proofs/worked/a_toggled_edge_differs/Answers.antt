@@ -1,5 +1,6 @@
 use Rattle.std.proofs.Common.{lit≤}
-use Rattle.core_scans.proofs.WorkedQueries.{collected_before, collected_between, differs_late, head_late, link_late, same_between}
+use Rattle.core_scans.proofs.WorkedQueries.{collected_before, collected_between, differs_late, head_late, link_late}
+use Rattle.core_scans.proofs.WorkedQueries.{same_between}
 use Rattle.core_scans.proofs.worked.a_toggled_edge_differs.Goals as goal
 
 pub returns-clause-collected : goal.returns-clause-collected

@@ -1,5 +1,6 @@
 use Rattle.std.proofs.Common.{lit≤}
-use Rattle.core_scans.proofs.WorkedQueries.{collected_before, counter_early, counter_late, head_late, link_late, not_held}
+use Rattle.core_scans.proofs.WorkedQueries.{collected_before, counter_early, counter_late, head_late, link_late}
+use Rattle.core_scans.proofs.WorkedQueries.{not_held}
 use Rattle.core_scans.proofs.worked.an_early_counter_tells_nothing.Goals as goal
 
 pub returns-clause-collected : goal.returns-clause-collected
