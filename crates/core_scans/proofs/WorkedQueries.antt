@@ -18,8 +18,8 @@ use Rattle.core_scans.specs.Held.{IsHeldAt}
 use Rattle.core_scans.specs.Seen.{Recorded, PassedOver, WasAt, IsTargetSeen, IsEdgeSeen, IsRowSeen, IsLedTo}
 use Rattle.core_scans.specs.Seen.{HasCollected}
 use Rattle.core_scans.specs.Seen.{IsSeenReplaced, IsRowSame, IsSame}
-use Rattle.core_scans.specs.Worked.{beside_queries, moment, edge_to_two, scan_of, scan_before}
-use Rattle.core_scans.specs.Worked.{scan_between, scan_behind}
+use Rattle.core_scans.specs.Worked.{beside_queries, moment, edge_to_two, scan_from_one, scan_before}
+use Rattle.core_scans.specs.Worked.{scan_between, scan_after}
 
 -- the fronts of the journal, in order
 pub moments_rise : (n m : ℕ) → n ≤ m → IsPrefix (moment n) (moment m)
@@ -50,15 +50,15 @@ two P a b (suc (suc k)) low = absurd (omega (arith, low))
 
 -- the edge leads to row 1
 leads : (counter : ℕ) (e : EdgeRow) → e.target ≡ Some 1 → mark_of e.link ≡ 0 → (end : List Event)
-    → IsTargetSeen (scan_of counter e) end e (first_life 1)
+    → IsTargetSeen (scan_from_one counter e) end e (first_life 1)
 leads counter e target unmarked end = record {
   row = λ t h. let same : 1 ≡ t = cc in
-      subst (λ (n : ℕ). (n < 2) × ((row_at (scan_of counter e) n).life ≡ first_life 1) × (mark_of e.link ≡ 0)) same
+      subst (λ (n : ℕ). (n < 2) × ((row_at (scan_from_one counter e) n).life ≡ first_life 1) × (mark_of e.link ≡ 0)) same
       (lit< tt, refl, unmarked);
   over = λ h. absurd (cc);
 }
 
-reached : (counter : ℕ) (e : EdgeRow) → e.target ≡ Some 1 → (t : ℕ) → 0 < t → t < 2 → IsLedTo (scan_of counter e) t
+reached : (counter : ℕ) (e : EdgeRow) → e.target ≡ Some 1 → (t : ℕ) → 0 < t → t < 2 → IsLedTo (scan_from_one counter e) t
 reached counter e target zero some low = absurd (omega (arith, some))
 reached counter e target (suc zero) some low = record {
   from = 0;
@@ -240,9 +240,9 @@ same_between = two (λ k. IsRowSame small scan_between (moment 37) (moment 38) (
     }
 
 -- after the edge from 1 to 2 was replaced: its node is passed over
-replaced_behind : IsSeenReplaced small 1 (moment 44) (moment 44) 2 (pack 4 1 1)
+replaced_after : IsSeenReplaced small 1 (moment 44) (moment 44) 2 (pack 4 1 1)
 unfolding machine word_at state
-replaced_behind = record {
+replaced_after = record {
   moment = moment 44;
   after = moments_rise 44 44 (lit≤ tt);
   before = moments_rise 44 44 (lit≤ tt);
@@ -252,9 +252,9 @@ replaced_behind = record {
   replaced = record { marked = refl; some = λ h. let none : 4 ≡ nowhere = h in omega (arith, none); key = refl };
 }
 
-edge_behind : IsEdgeSeen small 1 scan_behind (moment 44) (moment 44) (first_life 0) (edge_to_two 4 7)
+edge_after : IsEdgeSeen small 1 scan_after (moment 44) (moment 44) (first_life 0) (edge_to_two 4 7)
 unfolding machine word_at state link_of
-edge_behind = record {
+edge_after = record {
   moment = moment 44;
   after = moments_rise 44 44 (lit≤ tt);
   before = moments_rise 44 44 (lit≤ tt);
@@ -270,12 +270,12 @@ edge_behind = record {
   target = leads 2 (edge_to_two 4 7) refl refl (moment 44);
 }
 
-pub collected_behind : HasCollected small 1 (moment 44) (moment 44) scan_behind
+pub collected_after : HasCollected small 1 (moment 44) (moment 44) scan_after
 unfolding machine word_at key_of
-collected_behind = record {
+collected_after = record {
   some = lit< tt;
   started = refl;
-  rows = two (λ k. IsRowSeen small 1 scan_behind (moment 44) (moment 44) (row_at scan_behind k))
+  rows = two (λ k. IsRowSeen small 1 scan_after (moment 44) (moment 44) (row_at scan_after k))
       record {
         found = moment 44;
         after = moments_rise 44 44 (lit≤ tt);
@@ -287,7 +287,7 @@ collected_behind = record {
         head = was 44 44 44 (second_at small 0) (pack 2 0 1) (lit≤ tt) (lit≤ tt) refl;
         walked = PassedOver 2 (pack 4 1 1) ∷ Recorded (edge_to_two 4 7) ∷ [];
         leads = (refl, (λ f. absurd (omega (arith, f))), (refl, (λ f. absurd (omega (arith, f))), refl));
-        meetings = (replaced_behind, (edge_behind, tt));
+        meetings = (replaced_after, (edge_after, tt));
         edges = refl;
       }
       record {
@@ -307,9 +307,9 @@ collected_behind = record {
   reached = reached 2 (edge_to_two 4 7) refl;
 }
 
-pub same_behind : IsSame small (moment 44) (moment 44) scan_behind
+pub same_after : IsSame small (moment 44) (moment 44) scan_after
 unfolding machine word_at
-same_behind = two (λ k. IsRowSame small scan_behind (moment 44) (moment 44) (row_at scan_behind k))
+same_after = two (λ k. IsRowSame small scan_after (moment 44) (moment 44) (row_at scan_after k))
     record {
       counted = moment 44;
       after = moments_rise 44 44 (lit≤ tt);

@@ -112,13 +112,13 @@ abbrev pub AreRowsSame : Sizes → List Event → List Event → ScanValue → �
 AreRowsSame sizes end now s k = (i : ℕ) → i < k → IsRowSame sizes s end now (row_at s i)
 
 -- verify stands within a row: the head and the links of the first edges were found the same
-pub record IsRowAgain (sizes : Sizes) (s : ScanValue) (end now : List Event) (row : VertexRow) (found : ℕ) : Type 0
-  where
-    pub front : IsPrefix end now
-    pub head : WasAt sizes end now (second_at sizes row.life.index) row.head
-    pub links : Every (λ e. WasAt sizes end now (link_at sizes e.life.index) e.link) (take found (edges_of s row))
+pub record IsRowAgain (sizes : Sizes) (s : ScanValue) (end now : List Event) (row : VertexRow) (found : ℕ)
+    : Type 0 where
+  pub front : IsPrefix end now
+  pub head : WasAt sizes end now (second_at sizes row.life.index) row.head
+  pub links : Every (λ e. WasAt sizes end now (link_at sizes e.life.index) e.link) (take found (edges_of s row))
 
--- verify stands behind a row's list: its counter was found the same too
+-- verify has found a row's list the same, and after it the row's counter
 pub record IsRowCounted (sizes : Sizes) (s : ScanValue) (end now : List Event) (row : VertexRow) : Type 0 where
   pub counted : List Event
   pub after : IsPrefix end counted

@@ -1,6 +1,6 @@
--- A worked journal of queries beside another caller, and what their scans record. Caller 0 adds the vertices 1 and 2 and
--- an edge from 1 to 2. While caller 1 asks from vertex 1 on, caller 0 adds an edge from 1 to itself and removes it, and
--- then replaces the edge from 1 to 2.
+-- A worked journal of queries beside another caller, and what their scans record. Caller 0 adds the vertices 1 and 2
+-- and an edge from 1 to 2. While caller 1 asks from vertex 1 on, caller 0 adds an edge from 1 to itself and removes it,
+-- and then replaces the edge from 1 to 2.
 use Rattle.std.specs.Prelude.{ℕ, ◌+◌, List, [], ◌∷◌, ◌++◌, Some, take}
 use Rattle.packed_link.specs.Link.{pack, nowhere}
 use Rattle.packed_link.specs.Layout.{key_at, link_at, second_at, third_at}
@@ -43,8 +43,8 @@ abbrev pub raises_first : ℕ → Event
 raises_first n = record blank { kind = Raise; place = third_at small 0; word = n; life = first_life 0 }
 
 -- the edge from 1 to 2 of weight 3 is added: events 18 to 25
-abbrev pub adds_edge : List Event
-adds_edge =
+abbrev pub adds_edge_to_two : List Event
+adds_edge_to_two =
     announces 0 ∷ fills_edge 2 2 (pack nowhere 0 1) 1 3 ++ (links_in_front 2 2 1 3 ∷ withdraws 0 ∷ [])
 
 -- the edge from 1 to 1 is added in front of it, marked and unlinked: events 27 to 36
@@ -78,13 +78,13 @@ replaces_it =
 
 -- all events; caller 1 opens its pass by event 26
 abbrev pub beside_queries : List Event
-beside_queries = two_vertices ++ (adds_edge ++ (announces 1 ∷ toggles_edge ++ replaces_it))
+beside_queries = two_vertices ++ (adds_edge_to_two ++ (announces 1 ∷ toggles_edge ++ replaces_it))
 
 -- a front of them
 abbrev pub moment : ℕ → List Event
 moment n = take n beside_queries
 
--- the row of vertex 1, with a counter and one edge, to whose node or to one before it the head leads
+-- the row of vertex 1, with a counter and one edge; its head leads to the first edge from 1 to 2
 abbrev pub row_one : ℕ → VertexRow
 row_one counter = record {
   life = first_life 0;
@@ -110,8 +110,8 @@ edge_to_two x weight = record {
 }
 
 -- a scan from vertex 1: both vertices, and the edge
-abbrev pub scan_of : ℕ → EdgeRow → ScanValue
-scan_of counter edge = record (empty_scan 8) {
+abbrev pub scan_from_one : ℕ → EdgeRow → ScanValue
+scan_from_one counter edge = record (empty_scan 8) {
   rows = row_one counter ∷ row_two ∷ [];
   started = 2;
   next = 2;
@@ -124,10 +124,10 @@ scan_of counter edge = record (empty_scan 8) {
 
 -- what is recorded before the edge from 1 to 1 comes, after it's gone, and after the edge from 1 to 2 was replaced
 abbrev pub scan_before : ScanValue
-scan_before = scan_of 0 (edge_to_two 2 3)
+scan_before = scan_from_one 0 (edge_to_two 2 3)
 
 abbrev pub scan_between : ScanValue
-scan_between = scan_of 1 (edge_to_two 2 3)
+scan_between = scan_from_one 1 (edge_to_two 2 3)
 
-abbrev pub scan_behind : ScanValue
-scan_behind = scan_of 2 (edge_to_two 4 7)
+abbrev pub scan_after : ScanValue
+scan_after = scan_from_one 2 (edge_to_two 4 7)

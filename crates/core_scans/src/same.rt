@@ -17,7 +17,7 @@ ghost use Rattle.scan_record.specs.ScanGraph.{graph_of_scan};
 ghost use Rattle.core_scans.specs.Held.{IsHeldAt};
 ghost use Rattle.core_scans.specs.Seen.{HasCollected, IsSame, OnlyLooks};
 
-/// Where verify found the same words that collect recorded, and the caller only looked since the root was found, all of
+/// If verify found the same words that collect recorded, and the caller only looked since the root was found, all of
 /// them stood in the table at once at the end of collect. So the scan is complete, and its graph is the part of the
 /// graph at the end of collect that is reached from its root, which is a key of that graph.
 pub fn same_means_one_moment()

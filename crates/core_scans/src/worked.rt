@@ -9,11 +9,11 @@ ghost use Rattle.core_journal.specs.Worked.{small};
 ghost use Rattle.core_scans.specs.Differing.{DiffersNow};
 ghost use Rattle.core_scans.specs.Held.{IsHeldAt};
 ghost use Rattle.core_scans.specs.Seen.{HasCollected, IsSame};
-ghost use Rattle.core_scans.specs.Worked.{moment, scan_before, scan_behind, scan_between};
+ghost use Rattle.core_scans.specs.Worked.{moment, scan_before, scan_after, scan_between};
 
 /// Caller 1 has collected two vertices and an edge from 1 to 2 when caller 0 adds an edge from 1 to itself and removes
-/// it. Verify finds the head and the link as they were, and another counter: row 0 differs. A second collect has the new
-/// counter, and verify finds it the same.
+/// it. Verify finds the head and the link as they were, and another counter: row 0 differs. A second collect has the
+/// new counter, and verify finds it the same.
 pub fn a_toggled_edge_differs()
     ensures collected { HasCollected small 1 (moment 27) (moment 27) scan_before }
     ensures head { word_at small (moment 37) (second_at small 0) ≡ pack 2 0 1 }
@@ -38,6 +38,6 @@ pub fn an_early_counter_tells_nothing()
 /// The edge from 1 to 2 is replaced, and its node stands on the list still: collect passes it over and records the edge
 /// to which it leads, with the new weight.
 pub fn a_replaced_edge_is_passed_over()
-    ensures collected { HasCollected small 1 (moment 44) (moment 44) scan_behind }
-    ensures same { IsSame small (moment 44) (moment 44) scan_behind }
+    ensures collected { HasCollected small 1 (moment 44) (moment 44) scan_after }
+    ensures same { IsSame small (moment 44) (moment 44) scan_after }
 {}

@@ -6,14 +6,14 @@ ghost use Rattle.core_journal.specs.Worked.{small};
 ghost use Rattle.core_kept.specs.Kept.{IsKept};
 ghost use Rattle.core_scans.specs.Held.{IsHeldAt};
 ghost use Rattle.core_scans.specs.Seen.{OnlyLooks};
-ghost use Rattle.core_scans.specs.Worked.{moment, scan_behind, scan_between};
+ghost use Rattle.core_scans.specs.Worked.{moment, scan_after, scan_between};
 
 /// The worked journal of queries is kept, and caller 1 only looks from where it finds its root on.
 pub fn worked_queries_are_on_a_kept_journal()
     ensures kept { IsKept small (moment 44) }
     ensures before { OnlyLooks small 1 (moment 27) (moment 37) }
     ensures between { OnlyLooks small 1 (moment 37) (moment 38) }
-    ensures behind { OnlyLooks small 1 (moment 44) (moment 44) }
+    ensures after { OnlyLooks small 1 (moment 44) (moment 44) }
 {}
 
 /// What the laws of core_scans say of its three scans: the first differs by a foreign event, and of the two that were
@@ -21,5 +21,5 @@ pub fn worked_queries_are_on_a_kept_journal()
 pub fn laws_speak_of_worked_queries()
     ensures differs { IsForeign (moment 37) 1 27 37 }
     ensures between { IsHeldAt small (moment 37) scan_between }
-    ensures behind { IsHeldAt small (moment 44) scan_behind }
+    ensures after { IsHeldAt small (moment 44) scan_after }
 {}
