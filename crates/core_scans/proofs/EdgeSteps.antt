@@ -1,6 +1,6 @@
--- The step of collect that records an edge.
+-- The steps of collect at an edge: it records the edge, or passes it over.
 use Rattle.std.proofs.Common.{◌≡◌, ◌≢◌, ℕ, ◌+◌, ◌-◌, ◌<◌, ◌≤◌, List, [], ◌∷◌, ◌++◌, length, take, drop}
-use Rattle.std.proofs.Common.{Some, inl, inr, ⊎_elim, refl, sym, ap, ◌∙◌, subst, arith, append-nil}
+use Rattle.std.proofs.Common.{Some, None, inl, inr, ⊎_elim, refl, sym, ap, ◌∙◌, subst, arith, append-nil}
 use mathlib.Core.Logic.{dite}
 use native.Mathlib.Decide.{ℕ_discrete}
 use Rattle.graph_kinds.specs.History.{Every}
@@ -46,37 +46,36 @@ use Rattle.core_scans.proofs.CollectGoesOn.{was_on, edge_on, meetings_on, row_on
 use Rattle.core_scans.proofs.PushesKeepLives.{more_same}
 use Rattle.core_scans.proofs.RowSteps.{met_later, next_later, row_like}
 
--- the edge to which a word leads, loaded
+-- the edge to which a word leads, in the life of its link
 module _ (v : View) (z : IsLayout v.sizes) (kept : IsKept v.sizes v.front) (start : List Event) (s : ScanValue)
-    (at : ℕ) (e : EdgeRow) (h : IsWithin v start s at) (some : index_of at ≢ nowhere)
-    (loaded : IsEdgeLoaded v at e) where
+    (at : ℕ) (x : Life) (h : IsWithin v start s at) (some : index_of at ≢ nowhere) (led : x.index ≡ index_of at)
+    (tagged : tag_of (word_at v.sizes v.front (link_at v.sizes x.index)) ≡ x.tag) where
   next_edge : IsNextEdge v (last_row s).life (edges_of s (last_row s)) (index_of at)
   next_edge = ⊎_elim (λ (none : index_of at ≡ nowhere). absurd (some none))
       (λ (n : IsNextEdge v (last_row s).life (edges_of s (last_row s)) (index_of at)). n) h.onward
 
   -- the row's edge is the next one
-  is_next : next_edge.life ≡ e.life
+  is_next : next_edge.life ≡ x
   is_next =
       let n = next_edge in
-      let index : n.life.index ≡ e.life.index = n.is ∙ sym loaded.index in
-      let tag : n.life.tag ≡ e.life.tag = sym (life_shown v z kept n.life n.met.life n.met.met)
-      ∙ (ap (λ (y : ℕ). tag_of (word_at v.sizes v.front (link_at v.sizes y))) index
-      ∙ (sym (ap tag_of loaded.link) ∙ sym loaded.tag)) in
+      let index : n.life.index ≡ x.index = n.is ∙ sym led in
+      let tag : n.life.tag ≡ x.tag = sym (life_shown v z kept n.life n.met.life n.met.met)
+      ∙ (ap (λ (y : ℕ). tag_of (word_at v.sizes v.front (link_at v.sizes y))) index ∙ tagged) in
       λ i. record { index = index i; tag = tag i }
 
-  pub edge_met : MetEdge v (last_row s).life e.life
+  pub edge_met : MetEdge v (last_row s).life x
   edge_met = subst (MetEdge v (last_row s).life) is_next next_edge.met
 
 -- an edge: its link was loaded, and after that what its target is
 module _ (v w : View) (z : IsLayout v.sizes) (start : List Event) (s t : ScanValue) (is : IsScan t) (at : ℕ)
     (e : EdgeRow) (h : IsWithin v start s at) (some : index_of at ≢ nowhere) (loaded : IsEdgeLoaded v at e)
     (g : GoesOn v w) (longer : IsLonger s t) (kept : IsKept v.sizes v.front) (met : AreRowsMet w start t)
-    (other : IsFoundReplaced w e → ⊥) where
+    (other : IsFoundReplaced w e.key e.link → ⊥) where
   next : IsNextEdge v (last_row s).life (edges_of s (last_row s)) (index_of at)
-  next = next_edge v z kept start s at e h some loaded
+  next = next_edge v z kept start s at e.life h some loaded.index (sym (ap tag_of loaded.link) ∙ sym loaded.tag)
 
   met_edge : MetEdge v (last_row s).life e.life
-  met_edge = edge_met v z kept start s at e h some loaded
+  met_edge = edge_met v z kept start s at e.life h some loaded.index (sym (ap tag_of loaded.link) ∙ sym loaded.tag)
 
   module _ (seen_target : (link : Event) → link_of v.front e.life ≡ Some link → IsTargetSeen t w.front e link.target)
     where
@@ -190,7 +189,7 @@ module _ (v w : View) (z : IsLayout v.sizes) (start : List Event) (s t : ScanVal
           let ne : key_in v y ≢ e.key = λ same. other record {
             marked = dead;
             some = λ none. omega (arith, none, is, d.met.life.there, z.few_nodes);
-            key = ap (key_in w) is ∙ (key_still v w z g y d.met.life.there d.met.met ∙ same);
+            same = ap (key_in w) is ∙ (key_still v w z g y d.met.life.there d.met.met ∙ same);
           } in
           omega (arith, loaded.key, d.rising, ne))
 
@@ -262,16 +261,16 @@ module _ (v w : View) (z : IsLayout v.sizes) (start : List Event) (s t : ScanVal
             (sym new_edges) here_u);
       }
 
--- an edge that was found replaced is passed over
+-- an edge that was found replaced, as an edge row
 module _ (v w : View) (z : IsLayout v.sizes) (start : List Event) (s : ScanValue) (at : ℕ) (e : EdgeRow)
     (h : IsWithin v start s at) (some : index_of at ≢ nowhere) (loaded : IsEdgeLoaded v at e) (g : GoesOn v w)
-    (kept : IsKept v.sizes v.front) (replaced : IsFoundReplaced w e) where
+    (kept : IsKept v.sizes v.front) (replaced : IsFoundReplaced w e.key e.link) where
   passed_next : IsNextEdge v (last_row s).life (edges_of s (last_row s)) (index_of at)
-  passed_next = next_edge v z kept start s at e h some loaded
+  passed_next = next_edge v z kept start s at e.life h some loaded.index (sym (ap tag_of loaded.link) ∙ sym loaded.tag)
 
   -- the node, met and with its marked link at the later view
   edge : MetEdge v (last_row s).life e.life
-  edge = edge_met v z kept start s at e h some loaded
+  edge = edge_met v z kept start s at e.life h some loaded.index (sym (ap tag_of loaded.link) ∙ sym loaded.tag)
 
   there : e.life.index < v.sizes.nodes
   there = edge.life.there
@@ -305,7 +304,7 @@ module _ (v w : View) (z : IsLayout v.sizes) (start : List Event) (s : ScanValue
       (edge_link_shown v z kept (last_row s).life e.life edge))
 
   key_to : word_at v.sizes w.front (key_at v.sizes (index_of e.link)) ≡ e.key
-  key_to = subst (λ (x : View). word_at x.sizes w.front (key_at x.sizes (index_of e.link)) ≡ e.key) g.view replaced.key
+  key_to = subst (λ (x : View). word_at x.sizes w.front (key_at x.sizes (index_of e.link)) ≡ e.key) g.view replaced.same
 
   passed_seen : (begin : List Event) → IsPrefix begin v.front
       → IsSeenReplaced v.sizes v.number begin w.front e.life.index e.link
@@ -360,8 +359,8 @@ module _ (v w : View) (z : IsLayout v.sizes) (start : List Event) (s : ScanValue
             (edges_of s (last_row s)) passed_next.above;
       }
 
-  pub edge_passed : IsWithin w start s e.link
-  edge_passed = subst (λ (x : View). IsWithin x start s e.link) (sym g.view) record {
+  row_passed : IsWithin w start s e.link
+  row_passed = subst (λ (x : View). IsWithin x start s e.link) (sym g.view) record {
     begun = h.begun;
     some = h.some;
     started = h.started;
@@ -374,3 +373,16 @@ module _ (v w : View) (z : IsLayout v.sizes) (start : List Event) (s : ScanValue
         g.view
         (next_later v w z g (last_row s).life (edges_of s (last_row s)) (index_of e.link) passed_onward));
   }
+
+-- such an edge is passed over
+pub edge_passed : (v w : View) → IsLayout v.sizes → (start : List Event) (s : ScanValue) (at link : ℕ)
+    → IsWithin v start s at → index_of at ≢ nowhere
+    → word_at v.sizes v.front (link_at v.sizes (index_of at)) ≡ link → GoesOn v w → IsKept v.sizes v.front
+    → IsFoundReplaced w (key_in v (index_of at)) link → IsWithin w start s link
+edge_passed v w z start s at link h some led g kept replaced = row_passed v w z start s at record {
+  life = record { index = index_of at; tag = tag_of link };
+  link = link;
+  key = key_in v (index_of at);
+  weight = word_at v.sizes v.front (third_at v.sizes (index_of at));
+  target = None;
+} h some record { index = refl; link = sym led; tag = refl; key = refl; weight = refl } g kept replaced

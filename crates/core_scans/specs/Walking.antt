@@ -72,11 +72,11 @@ pub record IsEdgeLoaded (v : View) (at : ℕ) (e : EdgeRow) : Type 0 where
   pub key : e.key ≡ key_in v e.life.index
   pub weight : e.weight ≡ word_at v.sizes v.front (third_at v.sizes e.life.index)
 
--- an edge row was found replaced: its link is marked and leads to a node of its own key
-pub record IsFoundReplaced (v : View) (e : EdgeRow) : Type 0 where
-  pub marked : mark_of e.link ≡ 1
-  pub some : index_of e.link ≢ nowhere
-  pub key : key_in v (index_of e.link) ≡ e.key
+-- an edge with this key and this link was found replaced: the link is marked and leads to a node of the same key
+pub record IsFoundReplaced (v : View) (key link : ℕ) : Type 0 where
+  pub marked : mark_of link ≡ 1
+  pub some : index_of link ≢ nowhere
+  pub same : key_in v (index_of link) ≡ key
 
 -- the node of an index is an edge of the source that was met, with a greater key than each of these edges
 pub record IsNextEdge (v : View) (source : Life) (es : List EdgeRow) (index : ℕ) : Type 0 where

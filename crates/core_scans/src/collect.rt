@@ -45,12 +45,13 @@ pub fn collect_goes_on()
         → IsWithin b start (with_started s s.next counter head) head }
     ensures edge { (v w : View) → IsLayout v.sizes → (start : List Event) (s t : ScanValue) → IsScan t
         → (at : ℕ) (e : EdgeRow) → IsWithin v start s at → index_of at ≢ nowhere → IsEdgeLoaded v at e → GoesOn v w
-        → IsLonger s t → IsKept v.sizes v.front → AreRowsMet w start t → (IsFoundReplaced w e → ⊥)
+        → IsLonger s t → IsKept v.sizes v.front → AreRowsMet w start t → (IsFoundReplaced w e.key e.link → ⊥)
         → ((link : Event) → link_of v.front e.life ≡ Some link → IsTargetSeen t w.front e link.target)
         → IsWithin w start (with_edge t e) e.link }
-    ensures passed { (v w : View) → IsLayout v.sizes → (start : List Event) (s : ScanValue) (at : ℕ) (e : EdgeRow)
-        → IsWithin v start s at → index_of at ≢ nowhere → IsEdgeLoaded v at e → GoesOn v w → IsKept v.sizes v.front
-        → IsFoundReplaced w e → IsWithin w start s e.link }
+    ensures passed { (v w : View) → IsLayout v.sizes → (start : List Event) (s : ScanValue) (at link : ℕ)
+        → IsWithin v start s at → index_of at ≢ nowhere
+        → word_at v.sizes v.front (link_at v.sizes (index_of at)) ≡ link → GoesOn v w → IsKept v.sizes v.front
+        → IsFoundReplaced w (key_in v (index_of at)) link → IsWithin w start s link }
     ensures row_done { (v : View) (start : List Event) (s : ScanValue) (at : ℕ) → IsWithin v start s at
         → index_of at ≡ nowhere → IsBetween v start s }
     ensures done { (v : View) (start : List Event) (s : ScanValue) → IsBetween v start s
@@ -63,8 +64,8 @@ pub fn collect_goes_on()
 /// (`absent`), and there is room for its row (`row_room`), as there is for the edge (`edge_room`).
 pub fn collect_may_push()
     ensures edge { (v : View) → IsLayout v.sizes → IsKept v.sizes v.front → (start : List Event) (s : ScanValue)
-        → (at : ℕ) (e : EdgeRow) → IsWithin v start s at → index_of at ≢ nowhere → IsEdgeLoaded v at e
-        → MetEdge v (last_row s).life e.life }
+        → (at : ℕ) (x : Life) → IsWithin v start s at → index_of at ≢ nowhere → x.index ≡ index_of at
+        → tag_of (word_at v.sizes v.front (link_at v.sizes x.index)) ≡ x.tag → MetEdge v (last_row s).life x }
     ensures alive { (v : View) → IsLayout v.sizes → IsKept v.sizes v.front
         → (pass_in v.sizes v.front v.number).is_open ≡ true → (x : Life) (k : ℕ) → key_of v.front x ≡ Some k
         → tag_of (word_at v.sizes v.front (link_at v.sizes x.index)) ≡ x.tag
