@@ -1,6 +1,13 @@
 -- The laws of scans hold of the worked queries.
 use Rattle.std.proofs.Common.{refl, lit<, lit≤}
+use Rattle.graph_kinds.specs.Graph.{weight_of}
+use Rattle.graph_kinds.specs.Part.{part}
 use Rattle.scan_record.specs.Scan.{row_at}
+use Rattle.scan_record.specs.ScanGraph.{graph_of_scan}
+use Rattle.scan_record.proofs.GraphOfScan.{weights_law}
+use Rattle.core_journal.specs.GraphOf.{graph_of}
+use Rattle.scans_worked.proofs.ScansOfQueries.{is_scan}
+use Rattle.std.specs.Prelude.{◌≡◌, Some}
 use Rattle.core_journal.specs.Foreign.{IsForeign}
 use Rattle.core_journal.specs.State.{state}
 use Rattle.core_journal.specs.Worked.{small}
@@ -10,7 +17,7 @@ use Rattle.core_scans.specs.Held.{IsHeldAt}
 use Rattle.core_scans.specs.Seen.{OnlyLooks}
 use Rattle.core_scans.specs.Worked.{moment, scan_before, scan_after, scan_between}
 use Rattle.core_scans.proofs.DifferingWasChanged.{differs_foreign}
-use Rattle.core_scans.proofs.HeldIsThePart.{same_held}
+use Rattle.core_scans.proofs.HeldIsThePart.{same_held, same_part}
 use Rattle.core_scans.proofs.WorkedQueries.{moments_rise, collected_before, collected_between, collected_after}
 use Rattle.core_scans.proofs.WorkedQueries.{differs_late}
 use Rattle.core_scans.proofs.WorkedQueries.{same_between, same_after}
@@ -40,3 +47,13 @@ held_between = same_held small small_layout 1 (moment 37) (moment 37) (moment 38
 pub held_after : IsHeldAt small (moment 44) scan_after
 held_after = same_held small small_layout 1 (moment 44) (moment 44) (moment 44) scan_after looks_after
     (moments_rise 44 44 (lit≤ tt)) collected_after same_after
+
+-- the scan after the replacement is the part of the graph, with the new weight
+pub part_after : graph_of_scan scan_after ≡ part (graph_of (moment 44)) 1
+part_after = (same_part small small_layout 1 (moment 44) (moment 44) (moment 44) scan_after looks_after
+    (moments_rise 44 44 (lit≤ tt)) (is_scan 2 4 7 (lit≤ tt) (lit< tt)) collected_after same_after).2
+
+pub weight_after : weight_of (graph_of_scan scan_after) 1 2 ≡ Some 7
+weight_after = weights_law scan_after 0 2 (is_scan 2 4 7 (lit≤ tt) (lit< tt)) (same_part small small_layout 1
+    (moment 44) (moment 44) (moment 44) scan_after looks_after (moments_rise 44 44 (lit≤ tt))
+    (is_scan 2 4 7 (lit≤ tt) (lit< tt)) collected_after same_after).0 (lit< tt)
