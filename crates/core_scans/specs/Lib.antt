@@ -1,0 +1,5 @@
+pub mod Seen
+pub mod Held
+pub mod Walking
+pub mod Differing
+pub mod Worked

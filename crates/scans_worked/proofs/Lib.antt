@@ -1,0 +1,3 @@
+pub mod KeptQueries
+pub mod ScansOfQueries
+pub mod QueriesLook
