@@ -113,8 +113,8 @@ pub fn found_edges_go_on()
 /// What edges tell of the graph at a moment, between two lives of which the source is present there. The pair of an
 /// unmarked edge has its weight, if the target is present too (`has`). There's no such pair if no edge of the source
 /// with the key is unmarked (`lacks`), nor if the one that is leads to another life of the key than the present one
-/// (`stale`); nor right after the mark of an edge that no event replaced (`gone`). So has-edge, add-edge and remove-edge
-/// read their answers off what walks and marks tell.
+/// (`stale`); nor right after the mark of an edge that no event replaced (`gone`). So has-edge, add-edge and
+/// remove-edge read their answers off what walks and marks tell.
 pub fn edges_tell_pairs()
     ensures has { (sizes : Sizes) → IsLayout sizes → (journal : List Event) → IsKept sizes journal
         → (source : Life) (edge : Edge) (a b : ℕ) → IsUnmarkedEdge source edge journal

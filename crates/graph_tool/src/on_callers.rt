@@ -152,8 +152,8 @@ pub fn ask_callers<'a, R: Threads + Sync, G: Gate>(
     Ok((answers, callers))
 }
 
-/// The answers of the rows on a new graph that 16 callers share, and the graph that they leave. For n rows each call has
-/// 24 n + 1 tries.
+/// The answers of the rows on a new graph that 16 callers share, and the graph that they leave. For n rows each call
+/// has 24 n + 1 tries.
 ///
 /// # Errors
 /// `Memory`.

@@ -26,8 +26,8 @@ returns-in-Ok-clause-run g c = run_by c.in_ok-graph.graph c.in_ok-graph.callers.
     }
 
 pub returns-in-Ok-clause-written : goal.returns-in-Ok-clause-written
-returns-in-Ok-clause-written g c = run_can_be_written c.in_ok-graph.graph c.in_ok-graph.callers.items c.in_ok-answers.callers.items _
-    c.args.rows.now c.in_ok-answers.answers.items c.in-Ok.plain record {
+returns-in-Ok-clause-written g c = run_can_be_written c.in_ok-graph.graph c.in_ok-graph.callers.items
+    c.in_ok-answers.callers.items _ c.args.rows.now c.in_ok-answers.answers.items c.in-Ok.plain record {
       count = search rules;
       hired = λ i d low. c.in_ok-graph.ensures.callers i d (search rules);
       same = search rules;
