@@ -13,6 +13,7 @@ pub mod EdgeSteps
 pub mod AliveIsMet
 pub mod PushesKeepRows
 pub mod RoomInScan
+pub mod WalkMeetsOnce
 pub mod VerifyGoesOn
 pub mod DifferingWasChanged
 pub mod AliveLaterWasPresent

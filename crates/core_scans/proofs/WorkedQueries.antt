@@ -53,12 +53,14 @@ leads : (counter : ℕ) (e : EdgeRow) → e.target ≡ Some 1 → mark_of e.link
     → IsTargetSeen (scan_from_one counter e) end e (first_life 1)
 leads counter e target unmarked end = record {
   row = λ t h. let same : 1 ≡ t = cc in
-      subst (λ (n : ℕ). (n < 2) × ((row_at (scan_from_one counter e) n).life ≡ first_life 1) × (mark_of e.link ≡ 0)) same
+      subst (λ (n : ℕ). (n < 2) × ((row_at (scan_from_one counter e) n).life ≡ first_life 1) × (mark_of e.link ≡ 0))
+      same
       (lit< tt, refl, unmarked);
   over = λ h. absurd (cc);
 }
 
-reached : (counter : ℕ) (e : EdgeRow) → e.target ≡ Some 1 → (t : ℕ) → 0 < t → t < 2 → IsLedTo (scan_from_one counter e) t
+reached : (counter : ℕ) (e : EdgeRow) → e.target ≡ Some 1 → (t : ℕ) → 0 < t → t < 2
+    → IsLedTo (scan_from_one counter e) t
 reached counter e target zero some low = absurd (omega (arith, some))
 reached counter e target (suc zero) some low = record {
   from = 0;
