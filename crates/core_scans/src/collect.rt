@@ -45,7 +45,8 @@ pub fn collect_goes_on()
         → IsWithin b start (with_started s s.next counter head) head 0 }
     ensures edge { (v w : View) → IsLayout v.sizes → (start : List Event) (s t : ScanValue) → IsScan t
         → (at steps : ℕ) (e : EdgeRow) → IsWithin v start s at steps → index_of at ≢ nowhere → IsEdgeLoaded v at e
-        → GoesOn v w → IsLonger s t → IsKept v.sizes v.front → AreRowsMet w start t → (IsFoundReplaced w e.key e.link → ⊥)
+        → GoesOn v w → IsLonger s t → IsKept v.sizes v.front → AreRowsMet w start t
+        → (IsFoundReplaced w e.key e.link → ⊥)
         → ((link : Event) → link_of v.front e.life ≡ Some link → IsTargetSeen t w.front e link.target)
         → IsWithin w start (with_edge t e) e.link (steps + 1) }
     ensures passed { (v w : View) → IsLayout v.sizes → (start : List Event) (s : ScanValue) (at steps link : ℕ)
