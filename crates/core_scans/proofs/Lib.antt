@@ -4,6 +4,7 @@ pub mod SameWordBetween
 pub mod CounterTellsPassing
 pub mod RecordedOfWalk
 pub mod RowIsHeld
+pub mod OnlyLooking
 pub mod WeightsFound
 pub mod HeldIsThePart
 pub mod PushesKeepLives
