@@ -90,9 +90,9 @@ module _ (sizes : Sizes) (caller : ℕ) (s t : ScanValue) (more : IsMore s t) (e
     edges = edges ∙ h.edges;
   }
 
-  pub open_on : (start : List Event) (row : VertexRow) (at : ℕ) → edges_of t row ≡ edges_of s row
-      → IsRowOpen sizes caller s start end row at → IsRowOpen sizes caller t start later row at
-  open_on start row at edges h = record {
+  pub open_on : (start : List Event) (row : VertexRow) (at steps : ℕ) → edges_of t row ≡ edges_of s row
+      → IsRowOpen sizes caller s start end row at steps → IsRowOpen sizes caller t start later row at steps
+  open_on start row at steps edges h = record {
     found = h.found;
     after = h.after;
     present = h.present;
@@ -102,6 +102,7 @@ module _ (sizes : Sizes) (caller : ℕ) (s t : ScanValue) (more : IsMore s t) (e
     counter = h.counter;
     head = was_on sizes h.begin end later (second_at sizes row.life.index) row.head p h.head;
     walked = h.walked;
+    long = h.long;
     leads = h.leads;
     meetings = meetings_on h.begin row.life h.walked h.meetings;
     edges = edges ∙ h.edges;
@@ -117,9 +118,9 @@ pub leads_more : (word : ℕ) (ms : List Meeting) (at : ℕ) (m : Meeting) → L
 leads_more word [] at m h is some = (ap index_of h ∙ is, some, refl)
 leads_more word (d ∷ ms) at m h is some = (h.0, h.1, leads_more (link_met d) ms at m h.2 is some)
 
-pub open_done : (sizes : Sizes) (caller : ℕ) (s : ScanValue) (start end : List Event) (row : VertexRow) (at : ℕ)
-    → index_of at ≡ nowhere → IsRowOpen sizes caller s start end row at → IsRowSeen sizes caller s start end row
-open_done sizes caller s start end row at none h = record {
+pub open_done : (sizes : Sizes) (caller : ℕ) (s : ScanValue) (start end : List Event) (row : VertexRow) (at steps : ℕ)
+    → index_of at ≡ nowhere → IsRowOpen sizes caller s start end row at steps → IsRowSeen sizes caller s start end row
+open_done sizes caller s start end row at steps none h = record {
   found = h.found;
   after = h.after;
   present = h.present;

@@ -1,6 +1,6 @@
 -- The steps of collect at an edge: it records the edge, or passes it over.
 use Rattle.std.proofs.Common.{◌≡◌, ◌≢◌, ℕ, ◌+◌, ◌-◌, ◌<◌, ◌≤◌, List, [], ◌∷◌, ◌++◌, length, take, drop}
-use Rattle.std.proofs.Common.{Some, None, inl, inr, ⊎_elim, refl, sym, ap, ◌∙◌, subst, arith, append-nil}
+use Rattle.std.proofs.Common.{Some, None, inl, inr, ⊎_elim, refl, sym, ap, ◌∙◌, subst, arith, append-nil, length-append}
 use mathlib.Core.Logic.{dite}
 use native.Mathlib.Decide.{ℕ_discrete}
 use Rattle.graph_kinds.specs.History.{Every}
@@ -48,7 +48,8 @@ use Rattle.core_scans.proofs.RowSteps.{met_later, next_later, row_like}
 
 -- the edge to which a word leads, in the life of its link
 module _ (v : View) (z : IsLayout v.sizes) (kept : IsKept v.sizes v.front) (start : List Event) (s : ScanValue)
-    (at : ℕ) (x : Life) (h : IsWithin v start s at) (some : index_of at ≢ nowhere) (led : x.index ≡ index_of at)
+    (at steps : ℕ) (x : Life) (h : IsWithin v start s at steps) (some : index_of at ≢ nowhere)
+    (led : x.index ≡ index_of at)
     (tagged : tag_of (word_at v.sizes v.front (link_at v.sizes x.index)) ≡ x.tag) where
   next_edge : IsNextEdge v (last_row s).life (edges_of s (last_row s)) (index_of at)
   next_edge = ⊎_elim (λ (none : index_of at ≡ nowhere). absurd (some none))
@@ -67,15 +68,17 @@ module _ (v : View) (z : IsLayout v.sizes) (kept : IsKept v.sizes v.front) (star
   edge_met = subst (MetEdge v (last_row s).life) is_next next_edge.met
 
 -- an edge: its link was loaded, and after that what its target is
-module _ (v w : View) (z : IsLayout v.sizes) (start : List Event) (s t : ScanValue) (is : IsScan t) (at : ℕ)
-    (e : EdgeRow) (h : IsWithin v start s at) (some : index_of at ≢ nowhere) (loaded : IsEdgeLoaded v at e)
+module _ (v w : View) (z : IsLayout v.sizes) (start : List Event) (s t : ScanValue) (is : IsScan t)
+    (at steps : ℕ) (e : EdgeRow) (h : IsWithin v start s at steps) (some : index_of at ≢ nowhere)
+    (loaded : IsEdgeLoaded v at e)
     (g : GoesOn v w) (longer : IsLonger s t) (kept : IsKept v.sizes v.front) (met : AreRowsMet w start t)
     (other : IsFoundReplaced w e.key e.link → ⊥) where
   next : IsNextEdge v (last_row s).life (edges_of s (last_row s)) (index_of at)
-  next = next_edge v z kept start s at e.life h some loaded.index (sym (ap tag_of loaded.link) ∙ sym loaded.tag)
+  next = next_edge v z kept start s at steps e.life h some loaded.index (sym (ap tag_of loaded.link) ∙ sym loaded.tag)
 
   met_edge : MetEdge v (last_row s).life e.life
-  met_edge = edge_met v z kept start s at e.life h some loaded.index (sym (ap tag_of loaded.link) ∙ sym loaded.tag)
+  met_edge = edge_met v z kept start s at steps e.life h some loaded.index (sym (ap tag_of loaded.link)
+      ∙ sym loaded.tag)
 
   module _ (seen_target : (link : Event) → link_of v.front e.life ≡ Some link → IsTargetSeen t w.front e link.target)
     where
@@ -137,7 +140,7 @@ module _ (v w : View) (z : IsLayout v.sizes) (start : List Event) (s t : ScanVal
       new_row_is : last_row r ≡ longer_row t
       new_row_is = edge_same t is e begun
 
-      open_row : IsRowOpen v.sizes v.number r start w.front (last_row r) e.link
+      open_row : IsRowOpen v.sizes v.number r start w.front (last_row r) e.link (steps + 1)
       open_row =
           let o = h.row in
           let life : (last_row r).life ≡ (last_row s).life = ap (λ (x : VertexRow). x.life) new_row_is
@@ -170,6 +173,7 @@ module _ (v w : View) (z : IsLayout v.sizes) (start : List Event) (s t : ScanVal
                       ∙ (hw.word_is ∙ sym head);
                 };
             walked = o.walked ++ Recorded e ∷ [];
+            long = omega (arith, length-append o.walked (Recorded e ∷ []), o.long);
             leads = subst (λ (x : ℕ). LeadsUpTo x (o.walked ++ Recorded e ∷ []) e.link) (sym head)
                 (leads_more (last_row s).head o.walked at (Recorded e) o.leads (sym loaded.index) there);
             meetings = subst
@@ -240,8 +244,8 @@ module _ (v w : View) (z : IsLayout v.sizes) (start : List Event) (s t : ScanVal
           (row_on v.sizes v.number s r more_sr v.front w.front g.grows start (row_at s k) edges
           (h.seen k (omega (arith, less, longer.next))))
 
-      pub edge_recorded : IsWithin w start r e.link
-      edge_recorded = subst (λ (x : View). IsWithin x start r e.link) (sym g.view) record {
+      pub edge_recorded : IsWithin w start r e.link (steps + 1)
+      edge_recorded = subst (λ (x : View). IsWithin x start r e.link (steps + 1)) (sym g.view) record {
         begun = begun;
         some = omega (arith, h.some, longer.next, more_sr.rows);
         started = longer.started ∙ (h.started ∙ sym longer.next);
@@ -262,15 +266,17 @@ module _ (v w : View) (z : IsLayout v.sizes) (start : List Event) (s t : ScanVal
       }
 
 -- an edge that was found replaced, as an edge row
-module _ (v w : View) (z : IsLayout v.sizes) (start : List Event) (s : ScanValue) (at : ℕ) (e : EdgeRow)
-    (h : IsWithin v start s at) (some : index_of at ≢ nowhere) (loaded : IsEdgeLoaded v at e) (g : GoesOn v w)
+module _ (v w : View) (z : IsLayout v.sizes) (start : List Event) (s : ScanValue) (at steps : ℕ)
+    (e : EdgeRow) (h : IsWithin v start s at steps) (some : index_of at ≢ nowhere) (loaded : IsEdgeLoaded v at e)
+    (g : GoesOn v w)
     (kept : IsKept v.sizes v.front) (replaced : IsFoundReplaced w e.key e.link) where
   passed_next : IsNextEdge v (last_row s).life (edges_of s (last_row s)) (index_of at)
-  passed_next = next_edge v z kept start s at e.life h some loaded.index (sym (ap tag_of loaded.link) ∙ sym loaded.tag)
+  passed_next = next_edge v z kept start s at steps e.life h some loaded.index (sym (ap tag_of loaded.link)
+      ∙ sym loaded.tag)
 
   -- the node, met and with its marked link at the later view
   edge : MetEdge v (last_row s).life e.life
-  edge = edge_met v z kept start s at e.life h some loaded.index (sym (ap tag_of loaded.link) ∙ sym loaded.tag)
+  edge = edge_met v z kept start s at steps e.life h some loaded.index (sym (ap tag_of loaded.link) ∙ sym loaded.tag)
 
   there : e.life.index < v.sizes.nodes
   there = edge.life.there
@@ -322,7 +328,7 @@ module _ (v w : View) (z : IsLayout v.sizes) (start : List Event) (s : ScanValue
     };
   }
 
-  passed_row : IsRowOpen v.sizes v.number s start w.front (last_row s) e.link
+  passed_row : IsRowOpen v.sizes v.number s start w.front (last_row s) e.link (steps + 1)
   passed_row =
       let o = h.row in
       let m : Meeting = PassedOver e.life.index e.link in
@@ -337,6 +343,7 @@ module _ (v w : View) (z : IsLayout v.sizes) (start : List Event) (s : ScanValue
         head = was_on v.sizes o.begin v.front w.front (second_at v.sizes (last_row s).life.index) (last_row s).head
             g.grows o.head;
         walked = o.walked ++ m ∷ [];
+        long = omega (arith, length-append o.walked (m ∷ []), o.long);
         leads = leads_more (last_row s).head o.walked at m o.leads (sym loaded.index)
             (λ f. some (sym loaded.index ∙ f));
         meetings = every_append (IsMeetingSeen v.sizes v.number s o.begin w.front (last_row s).life) o.walked (m ∷ [])
@@ -359,8 +366,8 @@ module _ (v w : View) (z : IsLayout v.sizes) (start : List Event) (s : ScanValue
             (edges_of s (last_row s)) passed_next.above;
       }
 
-  row_passed : IsWithin w start s e.link
-  row_passed = subst (λ (x : View). IsWithin x start s e.link) (sym g.view) record {
+  row_passed : IsWithin w start s e.link (steps + 1)
+  row_passed = subst (λ (x : View). IsWithin x start s e.link (steps + 1)) (sym g.view) record {
     begun = h.begun;
     some = h.some;
     started = h.started;
@@ -375,11 +382,11 @@ module _ (v w : View) (z : IsLayout v.sizes) (start : List Event) (s : ScanValue
   }
 
 -- such an edge is passed over
-pub edge_passed : (v w : View) → IsLayout v.sizes → (start : List Event) (s : ScanValue) (at link : ℕ)
-    → IsWithin v start s at → index_of at ≢ nowhere
+pub edge_passed : (v w : View) → IsLayout v.sizes → (start : List Event) (s : ScanValue) (at steps link : ℕ)
+    → IsWithin v start s at steps → index_of at ≢ nowhere
     → word_at v.sizes v.front (link_at v.sizes (index_of at)) ≡ link → GoesOn v w → IsKept v.sizes v.front
-    → IsFoundReplaced w (key_in v (index_of at)) link → IsWithin w start s link
-edge_passed v w z start s at link h some led g kept replaced = row_passed v w z start s at record {
+    → IsFoundReplaced w (key_in v (index_of at)) link → IsWithin w start s link (steps + 1)
+edge_passed v w z start s at steps link h some led g kept replaced = row_passed v w z start s at steps record {
   life = record { index = index_of at; tag = tag_of link };
   link = link;
   key = key_in v (index_of at);

@@ -34,7 +34,7 @@ use Rattle.core_journal.specs.Machine.{word_at}
 use Rattle.core_journal.specs.Prefix.{IsPrefix}
 use Rattle.core_journal.specs.Reuse.{pass_in}
 use Rattle.core_journal.specs.State.{state}
-use Rattle.core_journal.proofs.Lists.{prefix_refl, prefix_trans, get_front}
+use Rattle.core_journal.proofs.Lists.{prefix_refl, prefix_trans}
 use Rattle.core_journal.proofs.LivesOf.{IsJoined, present_is, joined_is, key_of_life, life_of_pair, only_pair}
 use Rattle.core_kept.specs.Kept.{IsKept, IsQuiet}
 use Rattle.core_kept.specs.Nodes.{node_in}
@@ -62,6 +62,7 @@ use Rattle.core_scans.proofs.RecordedOfWalk.{IsRecordedAt, row_edges, met_how}
 use Rattle.core_scans.specs.Held.{IsHeldAt}
 use Rattle.core_scans.proofs.FrontsKeepLives.{some_is, key_on, link_on, every_at, get_at}
 use Rattle.core_scans.proofs.SameWordBetween.{IsHere, has_list, on_list}
+use Rattle.core_scans.proofs.OnlyLooking.{looks_until}
 use Rattle.core_scans.proofs.RowIsHeld.{same_pass, row_held}
 use Rattle.core_scans.proofs.WeightsFound.{found_by, some_found}
 
@@ -468,12 +469,8 @@ pub same_part : (sizes : Sizes) → IsLayout sizes → (caller : ℕ) (start end
     × (graph_of_scan s ≡ part (graph_of end) (root_of s))
 same_part sizes z caller start end now s looks p is c same =
     let held = same_held sizes z caller start end now s looks p c same in
-    let kept_end = kept_front sizes end now p looks.kept in
-    let quiet_end : IsQuiet end caller (length start) = record {
-      none = λ k e low at. looks.quiet.none k e low
-          (subst (λ (l : List Event). slice_get l k ≡ Some e) p.whole (get_front end p.rest k e at));
-    } in (
-      complete sizes z caller start end s kept_end quiet_end looks.opened is c held,
-      root_there sizes z caller start end s kept_end quiet_end looks.opened is c held,
-      part_is sizes z caller start end s kept_end quiet_end looks.opened is c held,
+    let until = looks_until sizes caller start end now looks p in (
+      complete sizes z caller start end s until.kept until.quiet until.opened is c held,
+      root_there sizes z caller start end s until.kept until.quiet until.opened is c held,
+      part_is sizes z caller start end s until.kept until.quiet until.opened is c held,
     )

@@ -4,6 +4,7 @@ pub mod SameWordBetween
 pub mod CounterTellsPassing
 pub mod RecordedOfWalk
 pub mod RowIsHeld
+pub mod OnlyLooking
 pub mod WeightsFound
 pub mod HeldIsThePart
 pub mod PushesKeepLives
@@ -13,6 +14,7 @@ pub mod EdgeSteps
 pub mod AliveIsMet
 pub mod PushesKeepRows
 pub mod RoomInScan
+pub mod WalkMeetsOnce
 pub mod VerifyGoesOn
 pub mod DifferingWasChanged
 pub mod AliveLaterWasPresent

@@ -30,10 +30,10 @@ pub row_edges : (sizes : Sizes) (caller : ℕ) (s : ScanValue) (start end : List
 row_edges sizes caller s start end row seen = subst (Every (IsEdgeSeen sizes caller s seen.begin end row.life))
     (sym seen.edges) (recorded_seen sizes caller s seen.begin end row.life seen.walked seen.meetings)
 
-pub open_edges : (sizes : Sizes) (caller : ℕ) (s : ScanValue) (start end : List Event) (row : VertexRow) (at : ℕ)
-    (o : IsRowOpen sizes caller s start end row at)
+pub open_edges : (sizes : Sizes) (caller : ℕ) (s : ScanValue) (start end : List Event) (row : VertexRow) (at steps : ℕ)
+    (o : IsRowOpen sizes caller s start end row at steps)
     → Every (IsEdgeSeen sizes caller s o.begin end row.life) (edges_of s row)
-open_edges sizes caller s start end row at o = subst (Every (IsEdgeSeen sizes caller s o.begin end row.life))
+open_edges sizes caller s start end row at steps o = subst (Every (IsEdgeSeen sizes caller s o.begin end row.life))
     (sym o.edges) (recorded_seen sizes caller s o.begin end row.life o.walked o.meetings)
 
 -- what is recorded of a longer walk

@@ -86,7 +86,7 @@ room_for_row v start s x is rows m none =
 -- where the caller made no event since the start of its pass, in which the scan was begun
 module _ (v : View) (z : IsLayout v.sizes) (start : List Event) (s : ScanValue) (kept : IsKept v.sizes v.front)
     (quiet : IsQuiet v.front v.number (length start)) (open_ : (pass_in v.sizes start v.number).is_open ≡ true)
-    (is : IsScan s) (at : ℕ) (h : IsWithin v start s at) where
+    (is : IsScan s) (at steps : ℕ) (h : IsWithin v start s at steps) where
   -- an edge row at a place: the row that it counts for, and what its node is now
   record IsAtPlace (p : ℕ) : Type 0 where
     pub row : ℕ
@@ -149,7 +149,7 @@ module _ (v : View) (z : IsLayout v.sizes) (start : List Event) (s : ScanValue) 
       seen_now (s.next - 1) p inside from to h.row.begin
       (prefix_trans start h.row.found h.row.begin h.row.after h.row.then)
       (edge_of_row (s.next - 1) p inside from to (IsEdgeSeen v.sizes v.number s h.row.begin v.front (last_row s).life)
-      (open_edges v.sizes v.number s start v.front (last_row s) at h.row)))
+      (open_edges v.sizes v.number s start v.front (last_row s) at steps h.row)))
       (λ ne.
       let q = h.seen r.0 (omega (arith, begun, ne)) in
       seen_now r.0 p r.1 r.2 r.3 q.begin (prefix_trans start q.found q.begin q.after q.then)

@@ -79,8 +79,9 @@ module _ (v w : View) (z : IsLayout v.sizes) (g : GoesOn v w) where
         (h.seen k low);
   }
 
-  pub within_later : (start : List Event) (s : ScanValue) (at : ℕ) → IsWithin v start s at → IsWithin w start s at
-  within_later start s at h = subst (λ (u : View). IsWithin u start s at) (sym g.view) record {
+  pub within_later : (start : List Event) (s : ScanValue) (at steps : ℕ) → IsWithin v start s at steps
+      → IsWithin w start s at steps
+  within_later start s at steps h = subst (λ (u : View). IsWithin u start s at steps) (sym g.view) record {
     begun = h.begun;
     some = h.some;
     started = h.started;
@@ -88,7 +89,7 @@ module _ (v w : View) (z : IsLayout v.sizes) (g : GoesOn v w) where
         (met_later start (row_at s k) (h.met k low));
     seen = λ k low. row_on v.sizes v.number s s (more_same s) v.front w.front g.grows start (row_at s k) refl
         (h.seen k low);
-    row = open_on v.sizes v.number s s (more_same s) v.front w.front g.grows start (last_row s) at refl h.row;
+    row = open_on v.sizes v.number s s (more_same s) v.front w.front g.grows start (last_row s) at steps refl h.row;
     onward = subst (λ (u : View). LeadsTo at (IsNextEdge u (last_row s).life (edges_of s (last_row s)))) g.view
         (leads_map at (IsNextEdge v (last_row s).life (edges_of s (last_row s)))
         (IsNextEdge w (last_row s).life (edges_of s (last_row s)))
@@ -96,9 +97,9 @@ module _ (v w : View) (z : IsLayout v.sizes) (g : GoesOn v w) where
   }
 
 -- the end of a row
-pub within_done : (v : View) (start : List Event) (s : ScanValue) (at : ℕ) → IsWithin v start s at
+pub within_done : (v : View) (start : List Event) (s : ScanValue) (at steps : ℕ) → IsWithin v start s at steps
     → index_of at ≡ nowhere → IsBetween v start s
-within_done v start s at h none = record {
+within_done v start s at steps h none = record {
   front = prefix_trans start h.row.begin v.front (prefix_trans start h.row.found h.row.begin h.row.after h.row.then)
       h.row.before;
   some = omega (arith, h.begun, h.some);
@@ -106,7 +107,7 @@ within_done v start s at h none = record {
   met = h.met;
   seen = λ k low. dite (ℕ_discrete k (s.next - 1))
       (λ same. subst (λ (n : ℕ). IsRowSeen v.sizes v.number s start v.front (row_at s n)) (sym same)
-      (open_done v.sizes v.number s start v.front (last_row s) at none h.row))
+      (open_done v.sizes v.number s start v.front (last_row s) at steps none h.row))
       (λ ne. h.seen k (omega (arith, low, ne)));
 }
 
@@ -167,7 +168,7 @@ module _ (v a b : View) (z : IsLayout v.sizes) (start : List Event) (s : ScanVal
   none_yet : edges_of t row ≡ []
   none_yet = refl
 
-  open_row : IsRowOpen v.sizes v.number t start b.front row head
+  open_row : IsRowOpen v.sizes v.number t start b.front row head 0
   open_row = record {
     found = (h.met s.next low).found;
     after = (h.met s.next low).after;
@@ -178,6 +179,7 @@ module _ (v a b : View) (z : IsLayout v.sizes) (start : List Event) (s : ScanVal
     counter = counted;
     head = record { moment = b.front; after = gb.grows; before = prefix_refl b.front; word_is = led };
     walked = [];
+    long = refl;
     leads = refl;
     meetings = tt;
     edges = none_yet;
@@ -193,8 +195,8 @@ module _ (v a b : View) (z : IsLayout v.sizes) (start : List Event) (s : ScanVal
       leads_map head (IsEdgeIn u (row_at s s.next).life) (IsNextEdge u (row_at s s.next).life [])
       (λ y m. record { life = life_in v.sizes b.front y; is = refl; met = m; above = tt }) shown
 
-  pub row_started : IsWithin b start t head
-  row_started = subst (λ (x : View). IsWithin x start t head) (sym as_u) record {
+  pub row_started : IsWithin b start t head 0
+  row_started = subst (λ (x : View). IsWithin x start t head 0) (sym as_u) record {
     begun = omega arith;
     some = omega (arith, low, (more_started s is s.next counter head).rows);
     started = ap (λ (k : ℕ). k + 1) h.started;
@@ -204,7 +206,7 @@ module _ (v a b : View) (z : IsLayout v.sizes) (start : List Event) (s : ScanVal
         subst (IsRowSeen v.sizes v.number t start b.front) (sym (started_other s is s.next counter head k ne))
         (row_on v.sizes v.number s t (more_started s is s.next counter head) v.front b.front g.grows start
         (row_at s k) refl (h.seen k (omega (arith, less))));
-    row = subst (λ (r : VertexRow). IsRowOpen v.sizes v.number t start b.front r head) (sym last) open_row;
+    row = subst (λ (r : VertexRow). IsRowOpen v.sizes v.number t start b.front r head 0) (sym last) open_row;
     onward = subst (λ (r : VertexRow). LeadsTo head (IsNextEdge u r.life (edges_of t r))) (sym last) onward;
   }
     where

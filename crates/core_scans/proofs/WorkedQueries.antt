@@ -53,8 +53,8 @@ leads : (counter : ℕ) (e : EdgeRow) → e.target ≡ Some 1 → mark_of e.link
     → IsTargetSeen (scan_from_one counter e) end e (first_life 1)
 leads counter e target unmarked end = record {
   row = λ t h. let same : 1 ≡ t = cc in
-      subst
-      (λ (n : ℕ). (n < 2) × ((row_at (scan_from_one counter e) n).life ≡ first_life 1) × (mark_of e.link ≡ 0)) same
+      subst (λ (n : ℕ). (n < 2) × ((row_at (scan_from_one counter e) n).life ≡ first_life 1) × (mark_of e.link ≡ 0))
+      same
       (lit< tt, refl, unmarked);
   over = λ h. absurd (cc);
 }

@@ -48,9 +48,9 @@ LeadsUpTo word [] last = word ≡ last
 LeadsUpTo word (m ∷ ms) last =
     (index_of word ≡ index_met m) × (index_met m ≢ nowhere) × LeadsUpTo (link_met m) ms last
 
--- a row is seen up to a word of its list
-pub record IsRowOpen (sizes : Sizes) (caller : ℕ) (s : ScanValue) (start end : List Event) (row : VertexRow) (at : ℕ)
-    : Type 0 where
+-- a row is seen up to a word of its list, to which its head leads along so many meetings
+pub record IsRowOpen (sizes : Sizes) (caller : ℕ) (s : ScanValue) (start end : List Event) (row : VertexRow)
+    (at steps : ℕ) : Type 0 where
   pub found : List Event
   pub after : IsPrefix start found
   pub present : present_key found row.life ≡ Some row.key
@@ -60,6 +60,7 @@ pub record IsRowOpen (sizes : Sizes) (caller : ℕ) (s : ScanValue) (start end :
   pub counter : word_at sizes begin (third_at sizes row.life.index) ≡ row.counter
   pub head : WasAt sizes begin end (second_at sizes row.life.index) row.head
   pub walked : List Meeting
+  pub long : length walked ≡ steps
   pub leads : LeadsUpTo row.head walked at
   pub meetings : Every (IsMeetingSeen sizes caller s begin end row.life) walked
   pub edges : edges_of s row ≡ recorded walked
@@ -89,14 +90,14 @@ pub record IsNextEdge (v : View) (source : Life) (es : List EdgeRow) (index : �
 abbrev pub last_row : ScanValue → VertexRow
 last_row s = row_at s (s.next - 1)
 
--- collect stands within a row, at a word of its list, which leads to none or to the next edge
-pub record IsWithin (v : View) (start : List Event) (s : ScanValue) (at : ℕ) : Type 0 where
+-- collect stands within a row, after so many meetings at a word of its list, which leads to none or to the next edge
+pub record IsWithin (v : View) (start : List Event) (s : ScanValue) (at steps : ℕ) : Type 0 where
   pub begun : 0 < s.next
   pub some : s.next ≤ length s.rows
   pub started : s.started ≡ s.next
   pub met : AreRowsMet v start s
   pub seen : (k : ℕ) → k + 1 < s.next → IsRowSeen v.sizes v.number s start v.front (row_at s k)
-  pub row : IsRowOpen v.sizes v.number s start v.front (last_row s) at
+  pub row : IsRowOpen v.sizes v.number s start v.front (last_row s) at steps
   pub onward : LeadsTo at (IsNextEdge v (last_row s).life (edges_of s (last_row s)))
 
 -- a scan is another one with further rows, none of them started

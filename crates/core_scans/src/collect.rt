@@ -36,23 +36,24 @@ pub fn collect_goes_on()
         → IsBetween v start (with_vertex (empty_scan nodes) root key) }
     ensures between_later { (v w : View) → IsLayout v.sizes → GoesOn v w → (start : List Event) (s : ScanValue)
         → IsBetween v start s → IsBetween w start s }
-    ensures within_later { (v w : View) → IsLayout v.sizes → GoesOn v w → (start : List Event) (s : ScanValue) (at : ℕ)
-        → IsWithin v start s at → IsWithin w start s at }
+    ensures within_later { (v w : View) → IsLayout v.sizes → GoesOn v w → (start : List Event) (s : ScanValue)
+        → (at steps : ℕ) → IsWithin v start s at steps → IsWithin w start s at steps }
     ensures row { (v a b : View) → IsLayout v.sizes → (start : List Event) (s : ScanValue) → IsScan s
         → IsBetween v start s → s.next < length s.rows → GoesOn v a → GoesOn a b → (counter head : ℕ)
         → word_at v.sizes a.front (third_at v.sizes (row_at s s.next).life.index) ≡ counter
         → word_at v.sizes b.front (second_at v.sizes (row_at s s.next).life.index) ≡ head
-        → IsWithin b start (with_started s s.next counter head) head }
+        → IsWithin b start (with_started s s.next counter head) head 0 }
     ensures edge { (v w : View) → IsLayout v.sizes → (start : List Event) (s t : ScanValue) → IsScan t
-        → (at : ℕ) (e : EdgeRow) → IsWithin v start s at → index_of at ≢ nowhere → IsEdgeLoaded v at e → GoesOn v w
-        → IsLonger s t → IsKept v.sizes v.front → AreRowsMet w start t → (IsFoundReplaced w e.key e.link → ⊥)
+        → (at steps : ℕ) (e : EdgeRow) → IsWithin v start s at steps → index_of at ≢ nowhere → IsEdgeLoaded v at e
+        → GoesOn v w → IsLonger s t → IsKept v.sizes v.front → AreRowsMet w start t
+        → (IsFoundReplaced w e.key e.link → ⊥)
         → ((link : Event) → link_of v.front e.life ≡ Some link → IsTargetSeen t w.front e link.target)
-        → IsWithin w start (with_edge t e) e.link }
-    ensures passed { (v w : View) → IsLayout v.sizes → (start : List Event) (s : ScanValue) (at link : ℕ)
-        → IsWithin v start s at → index_of at ≢ nowhere
+        → IsWithin w start (with_edge t e) e.link (steps + 1) }
+    ensures passed { (v w : View) → IsLayout v.sizes → (start : List Event) (s : ScanValue) (at steps link : ℕ)
+        → IsWithin v start s at steps → index_of at ≢ nowhere
         → word_at v.sizes v.front (link_at v.sizes (index_of at)) ≡ link → GoesOn v w → IsKept v.sizes v.front
-        → IsFoundReplaced w (key_in v (index_of at)) link → IsWithin w start s link }
-    ensures row_done { (v : View) (start : List Event) (s : ScanValue) (at : ℕ) → IsWithin v start s at
+        → IsFoundReplaced w (key_in v (index_of at)) link → IsWithin w start s link (steps + 1) }
+    ensures row_done { (v : View) (start : List Event) (s : ScanValue) (at steps : ℕ) → IsWithin v start s at steps
         → index_of at ≡ nowhere → IsBetween v start s }
     ensures done { (v : View) (start : List Event) (s : ScanValue) → IsBetween v start s
         → AreRowsReached s (length s.rows) → s.next ≡ length s.rows
@@ -61,10 +62,11 @@ pub fn collect_goes_on()
 
 /// What collect may do at a word of a list: the edge to which it leads was met (`edge`), so core_rule's laws tell its
 /// target. A target whose link shows its life and no mark was met (`alive`). If no row has its life, none has its index
-/// (`absent`), and there is room for its row (`row_room`), as there is for the edge (`edge_room`).
+/// (`absent`), and there is room for its row (`row_room`), as there is for the edge (`edge_room`). A row's walk meets
+/// each node once, so it has fewer steps than the table has nodes (`steps`).
 pub fn collect_may_push()
     ensures edge { (v : View) → IsLayout v.sizes → IsKept v.sizes v.front → (start : List Event) (s : ScanValue)
-        → (at : ℕ) (x : Life) → IsWithin v start s at → index_of at ≢ nowhere → x.index ≡ index_of at
+        → (at steps : ℕ) (x : Life) → IsWithin v start s at steps → index_of at ≢ nowhere → x.index ≡ index_of at
         → tag_of (word_at v.sizes v.front (link_at v.sizes x.index)) ≡ x.tag → MetEdge v (last_row s).life x }
     ensures alive { (v : View) → IsLayout v.sizes → IsKept v.sizes v.front
         → (pass_in v.sizes v.front v.number).is_open ≡ true → (x : Life) (k : ℕ) → key_of v.front x ≡ Some k
@@ -78,8 +80,11 @@ pub fn collect_may_push()
         → MetVertex v x
         → ((k : ℕ) → k < length s.rows → (row_at s k).life.index ≢ x.index) → length s.rows < v.sizes.nodes }
     ensures edge_room { (v : View) → IsLayout v.sizes → (start : List Event) (s : ScanValue)
-        → OnlyLooks v.sizes v.number start v.front → IsScan s → (at : ℕ) → IsWithin v start s at
+        → OnlyLooks v.sizes v.number start v.front → IsScan s → (at steps : ℕ) → IsWithin v start s at steps
         → index_of at ≢ nowhere → length s.edges < v.sizes.nodes }
+    ensures steps { (v : View) → IsLayout v.sizes → (start : List Event) (s : ScanValue)
+        → OnlyLooks v.sizes v.number start v.front → (at steps : ℕ) → IsWithin v start s at steps
+        → index_of at ≢ nowhere → steps < v.sizes.nodes }
 {}
 
 /// What pushes to the scan leave: it's the same or longer (`same`, `longer`), each row's vertex was met (`met`), and

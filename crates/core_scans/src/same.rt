@@ -4,13 +4,16 @@
 //! counter of each vertex stands in for a third read: it is raised before an edge of the vertex is marked or replaced,
 //! so an edge that was linked and taken away between the two reads of a list shows in the counter.
 
-ghost use Rattle.std.specs.Prelude.{◌≡◌, ℕ, true, List};
+ghost use Rattle.std.specs.Prelude.{◌≡◌, ℕ, ◌≤◌, true, List, length};
 ghost use Rattle.graph_kinds.specs.Graph.{has};
 ghost use Rattle.graph_kinds.specs.Part.{part};
 ghost use Rattle.packed_link.specs.Layout.{IsLayout, Sizes};
 ghost use Rattle.core_journal.specs.declared.event.Event.{Event};
 ghost use Rattle.core_journal.specs.GraphOf.{graph_of};
 ghost use Rattle.core_journal.specs.Prefix.{IsPrefix};
+ghost use Rattle.core_journal.specs.Reuse.{pass_in};
+ghost use Rattle.core_rule.specs.Plays.{IsSound};
+ghost use Rattle.core_rule.specs.declared.view.View.{View};
 ghost use Rattle.scan_record.specs.Asked.{root_of};
 ghost use Rattle.scan_record.specs.Scan.{IsComplete, IsScan, ScanValue};
 ghost use Rattle.scan_record.specs.ScanGraph.{graph_of_scan};
@@ -33,6 +36,15 @@ pub fn same_means_one_moment()
     ensures part { (sizes : Sizes) → IsLayout sizes → (caller : ℕ) (start end now : List Event) (s : ScanValue)
         → OnlyLooks sizes caller start now → IsPrefix end now → IsScan s → HasCollected sizes caller start end s
         → IsSame sizes end now s → graph_of_scan s ≡ part (graph_of end) (root_of s) }
+{}
+
+/// A token only looks, by its view, from a front on that has all of its events and in which its pass is open; and up to
+/// each front of what it has seen.
+pub fn a_quiet_token_only_looks()
+    ensures view { (v : View) → IsSound v → v.numbered ≡ true → (start : List Event) → v.last ≤ length start
+        → (pass_in v.sizes start v.number).is_open ≡ true → OnlyLooks v.sizes v.number start v.front }
+    ensures until { (sizes : Sizes) (caller : ℕ) (start front now : List Event) → OnlyLooks sizes caller start now
+        → IsPrefix front now → OnlyLooks sizes caller start front }
 {}
 
 /// A collected scan whose words all stand in the table at the end of collect is complete, and its graph is the part of
