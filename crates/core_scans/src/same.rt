@@ -1,8 +1,9 @@
 //! The laws of the two passes over a recorded part: what collect recorded and verify found again stood there at once.
 //!
-//! The idea of two collects that see the same is that of a snapshot by repeated reads (Afek et al. 1993). Here the
-//! counter of each vertex stands in for a third read: it is raised before an edge of the vertex is marked or replaced,
-//! so an edge that was linked and taken away between the two reads of a list shows in the counter.
+//! That two reads which see the same give a snapshot is an idea of Afek et al. (1993). Here a word may change between
+//! its two reads and be the same again. But the counter of a vertex is raised before an edge of it is marked or
+//! replaced: an edge that was linked and taken away between two reads of the list shows in the counter, which is loaded
+//! around them, first before the list and then after it.
 
 ghost use Rattle.std.specs.Prelude.{◌≡◌, ℕ, ◌≤◌, true, List, length};
 ghost use Rattle.graph_kinds.specs.Graph.{has};
