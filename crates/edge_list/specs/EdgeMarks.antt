@@ -33,7 +33,8 @@ pub record RaisedValue : Type 0 where
   pub source : Life
   pub edge : Edge
 
--- in its open pass, which has met the source and the edge, the token raised the counter when the edge was linked
+-- in its open pass, which has met the source and the edge, the token raised the counter after the edge was
+-- linked
 pub record IsRaisedEdge (v : View) (r : RaisedValue) : Type 0 where
   pub from : MetVertex v r.source
   pub met : MetEdge v r.source r.edge.life

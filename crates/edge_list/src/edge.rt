@@ -2,12 +2,15 @@
 
 use packed_link::Life;
 
-/// An edge: its life, the key of its target, the life of its target, and its weight. No word of it but its link changes
-/// while it's linked.
+/// An edge, as a walk finds it. Its source is that of the list. While it's linked no word of it changes but its link.
 #[derive(Clone, Copy, Debug, PartialEq, Eq)]
 pub struct Edge {
+    /// Its own life.
     pub life: Life,
+    /// The key of its target.
     pub key: u32,
+    /// The life of its target.
     pub target: Life,
+    /// Its weight, at least 1.
     pub weight: u32,
 }

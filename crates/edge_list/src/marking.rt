@@ -1,6 +1,6 @@
 //! Marks: the counter of an edge's source is raised, and then the edge is marked.
 //!
-//! A scan that reads the counter of a vertex before and behind its edges, and finds it the same, missed no mark. So the
+//! A scan that reads the counter of a vertex before and after its edges, and finds it the same, missed no mark. So the
 //! counter is raised first. One raise is for each edge that was linked before it: an edge is marked or replaced, as
 //! often as it's tried in one pass, after one raise.
 
@@ -67,8 +67,8 @@ pub fn raise(table: &GraphTable, token: &mut Token, from: Life, edge: &Edge) -> 
 }
 
 /// Marks an edge for which this pass raised the counter of its source, which takes its pair from the graph if both its
-/// ends are in it, in O(1): one step, and one load if the mark was there. `Was` comes exactly if the mark was set
-/// before and no edge replaced this one, and `Replaced` exactly if it was set before by a replacement: then the link
+/// ends are in it, in O(1): one step, and at most one load if the mark was there. `Was` comes exactly if the mark was
+/// set before and no edge replaced this one, and `Replaced` exactly if it was set before by a replacement: then the link
 /// leads to an edge of the same key.
 pub fn mark(table: &GraphTable, token: &mut Token, raised: &Raised) -> EdgeMarked
     requires table { IsOf table.now token.old }

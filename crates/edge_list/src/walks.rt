@@ -28,7 +28,9 @@ pub enum Started {
 /// An edge that was found, and the token at a moment at which it was linked and unmarked.
 #[derive(Drop)]
 pub struct EdgeSighting {
+    /// The edge.
     pub edge: Edge,
+    /// The token when the edge's link was loaded.
     pub moment: Snapshot<Token>,
 }
 

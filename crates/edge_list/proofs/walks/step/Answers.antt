@@ -1,11 +1,10 @@
-use Rattle.std.proofs.Common.{rules, arith, ap, ap₂, subst, sym, ◌∙◌, ◌≡◌, ◌≢◌, ◌<◌, ◌^◌, [], ℕ}
+use Rattle.std.proofs.Common.{rules, arith, ap, subst, sym, ◌∙◌, ◌≡◌, ◌≢◌, ◌<◌, ◌^◌, [], ℕ}
 use Rattle.packed_link.specs.Link.{index_of, mark_of, nowhere}
 use Rattle.packed_link.specs.Layout.{Sizes, key_at, link_at}
 use Rattle.packed_link.specs.declared.link.Life.{Life}
 use Rattle.core_kept.specs.Facts.{IsLinkOf}
 use Rattle.core_rule.specs.Fronts.{MetEdge, key_in}
 use Rattle.core_stretches.proofs.MakesAddUp.{makes_chain}
-use Rattle.graph_table.specs.Tokens.{TokenValue}
 use Rattle.edge_list.specs.EdgePositions.{EdgePositionValue}
 use Rattle.edge_list.specs.EdgeWalks.{IsEdgeDeadStep}
 use Rattle.edge_list.proofs.EdgeWalksTell.{step_leads, edge_loaded, edge_key_fits, edge_dead_step, edge_stepped}
@@ -161,21 +160,14 @@ returns-clause-stepped c =
       word = c.load.result;
       link = 0;
       moment = u.front;
-    } = ap (λ (y : Life). record {
-      source = y;
+    } = λ i. record {
+      source = source i;
       key = c.load-key.result;
-      place = c.link_at-2.result;
+      place = place i;
       word = c.load.result;
       link = 0;
-      moment = c.of-moment.result.value.view.front;
-    }) source ∙ ap₂ (λ (x : ℕ) (t : TokenValue). record {
-      source = p.source;
-      key = c.load-key.result;
-      place = x;
-      word = c.load.result;
-      link = 0;
-      moment = t.view.front;
-    }) place c.of-moment.ensures in
+      moment = (c.of-moment.ensures i).view.front;
+    } in
     edge_stepped v u w p q c.requires.position.0 e c.load-key.result c.load.result c.requires.table.layout
     c.load.ensures.table.layout c.load.ensures.table.sound.kept h some s live c.edge_at-edge.ensures.makes
     (ap (λ (y : Life). y.index) life ∙ index) (ap (λ (y : Life). y.tag) life ∙ c.tag.ensures.tag)
