@@ -68,8 +68,8 @@ pub fn raise(table: &GraphTable, token: &mut Token, from: Life, edge: &Edge) -> 
 
 /// Marks an edge for which this pass raised the counter of its source, which takes its pair from the graph if both its
 /// ends are in it, in O(1): one step, and at most one load if the mark was there. `Was` comes exactly if the mark was
-/// set before and no edge replaced this one, and `Replaced` exactly if it was set before by a replacement: then the link
-/// leads to an edge of the same key.
+/// set before and no edge replaced this one, and `Replaced` exactly if it was set before by a replacement: then the
+/// link leads to an edge of the same key.
 pub fn mark(table: &GraphTable, token: &mut Token, raised: &Raised) -> EdgeMarked
     requires table { IsOf table.now token.old }
     requires number { token.old.view.numbered ≡ true }
