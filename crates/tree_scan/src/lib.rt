@@ -1,0 +1,6 @@
+//! A part of the graph is recorded on a scan, and the record is verified on the table that all callers share.
+#![tactic(auto)]
+
+mod again;
+
+pub use again::{Verdict, verify};
