@@ -2,19 +2,21 @@
 -- What a step owes is one condition a kind, over the token's view (core_rule's specs/Fronts.antt), and the event that
 -- it then makes stands in core_rule's specs/OwnEvents.antt.
 use Rattle.std.specs.Prelude.{◌≡◌, ◌≢◌, ℕ, ◌+◌, ◌-◌, ◌/◌, ◌==◌, ◌&&◌, Bool, true, false, cond, List, [], ◌∷◌}
-use Rattle.std.specs.Prelude.{length}
+use Rattle.std.specs.Prelude.{length, ltb, min}
+use Rattle.graph_kinds.specs.Answer.{plain}
 use Rattle.graph_kinds.specs.History.{Every}
 use Rattle.graph_kinds.specs.declared.call.Call.{Call}
 use Rattle.graph_kinds.specs.declared.answer.Answer.{Answer}
 use Rattle.graph_kinds.specs.declared.entry.Class.{Class}
-use Rattle.graph_kinds.specs.declared.entry.Class.TheVariants.{Own, Silent}
+use Rattle.graph_kinds.specs.declared.entry.Class.TheVariants.{Late, Own}
 use Rattle.graph_kinds.specs.declared.entry.Entry.{Entry}
+use Rattle.graph_kinds.specs.declared.outcome.Outcome.TheVariants.{Overtaken}
 use Rattle.packed_link.specs.Link.{mark_of, index_of, tag_of}
 use Rattle.packed_link.specs.Layout.{Sizes, key_at, second_at, third_at}
 use Rattle.packed_link.specs.declared.link.Life.{Life}
 use Rattle.core_journal.specs.Machine.{word_at}
 use Rattle.core_journal.specs.declared.event.Event.{Event}
-use Rattle.core_journal.specs.Event.{marks_vertex, same_life}
+use Rattle.core_journal.specs.Event.{cut_life, cuts_edge, marks_vertex, same_life}
 use Rattle.core_kept.specs.Kept.{IsQuiet}
 use Rattle.core_kept.specs.Nodes.{node_in}
 use Rattle.core_lists.specs.Chains.{life_in}
@@ -111,16 +113,30 @@ abbrev pub before_mark : Life → List Event → ℕ
 before_mark x [] = 0
 before_mark x (e ∷ es) = cond (marks_vertex e.kind && same_life x e.life) 0 (1 + before_mark x es)
 
--- the place of an entry that is told of the first mark of a vertex life: right after the mark where it's silent, and
--- else at it
-abbrev pub place_at_mark : Class → Life → List Event → ℕ
-place_at_mark Silent x front = before_mark x front + 1
-place_at_mark _ x front = before_mark x front
+-- how many events of a journal there are before the first mark of an edge life, by its removal, its replacement or the
+-- freezing of its list; all, if no event marks it
+abbrev pub before_edge_mark : Life → List Event → ℕ
+before_edge_mark x [] = 0
+before_edge_mark x (e ∷ es) = cond (cuts_edge e.kind && same_life x (cut_life e)) 0 (1 + before_edge_mark x es)
 
 -- an entry before it ends
 abbrev pub entry_of : Call → ℕ → Answer → Class → ℕ → ℕ → Entry
 entry_of call tries answer class start place =
     record { call = call; tries = tries; answer = answer; class = class; place = place; start = start; end = 0 }
+
+-- how many events of a journal there are before the first that marks one of two vertex lives; all, if none does
+abbrev pub before_either_mark : Life → Life → List Event → ℕ
+before_either_mark x y journal = min (before_mark x journal) (before_mark y journal)
+
+-- an entry that is answered Overtaken, by a call that made its exchange on an edge between two vertex lives as the last
+-- event of a moment: an own one at the exchange where neither was marked before it, and else a late one at the first
+-- mark of either
+abbrev pub overtaken_entry : Call → (tries start : ℕ) → (moment : List Event) → (source target : Life) → List Event
+    → Entry
+overtaken_entry call tries start moment source target front =
+    entry_of call tries (plain Overtaken)
+    (cond (ltb (before_either_mark source target front) (place_in Own moment)) Late Own) start
+    (min (before_either_mark source target front) (place_in Own moment))
 
 -- the number of the field of a node
 abbrev pub field_of : Field → ℕ

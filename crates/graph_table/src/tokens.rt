@@ -1,13 +1,14 @@
 //! Tokens: how one draws its number, is split and joined, adds an entry to its book, and ends the table.
 
-ghost use Rattle.std.specs.Prelude.{◌≡◌, ◌≢◌, ◌<◌, ◌≤◌, true, false, length};
+ghost use Rattle.std.specs.Prelude.{◌≡◌, ◌≢◌, ◌⊎◌, ◌+◌, ◌<◌, ◌≤◌, true, false, length};
+ghost use Rattle.graph_kinds.specs.declared.entry.Class.TheVariants.{Silent};
 ghost use Rattle.graph_kinds.specs.declared.outcome.Outcome.TheVariants.{Again};
 ghost use Rattle.graph_kinds.specs.Answer.{plain};
-ghost use Rattle.core_journal.specs.Life.{vertex_marked};
+ghost use Rattle.core_journal.specs.Life.{edge_marked, vertex_marked};
 ghost use Rattle.core_rule.specs.Plays.{Drew, Met, Replied, both_fronts, newcomer, stays};
 ghost use Rattle.core_rule.specs.Rule.{AnswersForCallers};
 ghost use Rattle.graph_table.specs.Tokens.{IsOf};
-ghost use Rattle.graph_table.specs.Table.{IsWhole, entry_of, place_at_mark, place_in};
+ghost use Rattle.graph_table.specs.Table.{IsWhole, before_edge_mark, before_mark, entry_of, overtaken_entry, place_in};
 
 use crate::rule::{Cut, Drawing, Glue, Meeting, Replying, Said};
 use crate::table::{GraphTable, Token};
@@ -83,14 +84,13 @@ impl GraphTable {
         self.tell::<Brand>(token, call, tries, outcome, keys, ends, class, start, place);
     }
 
-    /// The load of `reply_at_mark`.
-    fn tell_at_mark<E: Said>(
+    /// The load of `reply_after_mark`.
+    fn tell_after_mark<E: Said>(
         &self,
         token: &mut Token,
         _call: &Call,
         _tries: u32,
         _outcome: Outcome,
-        _class: Class,
         _start: &Snapshot<Token>,
         _life: Life,
     )
@@ -101,18 +101,16 @@ impl GraphTable {
         self.table.shared.load::<Replying<E>>(&mut token.seat, 0);
     }
 
-    /// Adds an entry without keys whose place is another caller's event: the first mark of a vertex life that stands in
-    /// the token's front, in O(1), by one load; it makes no event. A silent entry stands right after the mark, one of
-    /// another class at it. It starts where the token stood at `start`, and ends at the length of the new front. Start,
-    /// class and life are for contracts alone. For the caller that finds a mark which isn't its own: no moment of its
-    /// own lies there.
-    pub fn reply_at_mark(
+    /// Adds a silent entry without keys whose place is right after another caller's event: the first mark of a vertex
+    /// life that stands in the token's front. In O(1), by one load; it makes no event. The entry starts where the token
+    /// stood at `start`, and ends at the length of the new front. Start and life are for contracts alone. For the caller
+    /// that finds a vertex marked, not by itself: no moment of its own lies there.
+    pub fn reply_after_mark(
         &self,
         token: &mut Token,
         call: &Call,
         tries: u32,
         outcome: Outcome,
-        class: Class,
         start: &Snapshot<Token>,
         life: Life,
     )
@@ -120,11 +118,97 @@ impl GraphTable {
         requires start { length start.now.value.view.front ≤ length token.old.view.front }
         requires marked { vertex_marked token.old.view.front life ≡ true }
         ensures replied { Replied token.old.view
-            (entry_of call.now tries (plain outcome) class (length start.now.value.view.front)
-            (place_at_mark class life token.old.view.front)) token.new.view }
+            (entry_of call.now tries (plain outcome) Silent (length start.now.value.view.front)
+            (before_mark life token.old.view.front + 1)) token.new.view }
         ensures table { IsOf self.now token.new }
     {
-        self.tell_at_mark::<Brand>(token, call, tries, outcome, class, start, life);
+        self.tell_after_mark::<Brand>(token, call, tries, outcome, start, life);
+    }
+
+    /// The load of `reply_after_edge_mark`.
+    fn tell_after_edge_mark<E: Said>(
+        &self,
+        token: &mut Token,
+        _call: &Call,
+        _tries: u32,
+        _outcome: Outcome,
+        _start: &Snapshot<Token>,
+        _edge: Life,
+    )
+        requires table { IsOf self.now token.old }
+        ensures replied { Replied token.old.view E.entry token.new.view }
+        ensures table { IsOf self.now token.new }
+    {
+        self.table.shared.load::<Replying<E>>(&mut token.seat, 0);
+    }
+
+    /// The same with the first mark of an edge life, by its removal, its replacement or the freezing of its list. For
+    /// the caller that finds an edge marked which it was to mark.
+    pub fn reply_after_edge_mark(
+        &self,
+        token: &mut Token,
+        call: &Call,
+        tries: u32,
+        outcome: Outcome,
+        start: &Snapshot<Token>,
+        edge: Life,
+    )
+        requires table { IsOf self.now token.old }
+        requires start { length start.now.value.view.front ≤ length token.old.view.front }
+        requires marked { edge_marked token.old.view.front edge ≡ true }
+        ensures replied { Replied token.old.view
+            (entry_of call.now tries (plain outcome) Silent (length start.now.value.view.front)
+            (before_edge_mark edge token.old.view.front + 1)) token.new.view }
+        ensures table { IsOf self.now token.new }
+    {
+        self.tell_after_edge_mark::<Brand>(token, call, tries, outcome, start, edge);
+    }
+
+    /// The load of `reply_overtaken`.
+    fn tell_overtaken<E: Said>(
+        &self,
+        token: &mut Token,
+        _call: &Call,
+        _tries: u32,
+        _start: &Snapshot<Token>,
+        _exchange: &Snapshot<Token>,
+        _source: Life,
+        _target: Life,
+    )
+        requires table { IsOf self.now token.old }
+        ensures replied { Replied token.old.view E.entry token.new.view }
+        ensures table { IsOf self.now token.new }
+    {
+        self.table.shared.load::<Replying<E>>(&mut token.seat, 0);
+    }
+
+    /// Adds an entry that is answered Overtaken, in O(1), by one load; it makes no event. The call made its exchange on
+    /// an edge between two vertex lives as the last event of the front at `exchange`, and by now one of the two is
+    /// marked. Where neither was marked before the exchange, the entry is an own one and stands at the exchange; else
+    /// it's a late one and stands at the first mark of either. It starts where the token stood at `start`, and ends at
+    /// the length of the new front. All but the call and its tries are for contracts alone: a caller that finds a vertex
+    /// marked can't tell which came first.
+    pub fn reply_overtaken(
+        &self,
+        token: &mut Token,
+        call: &Call,
+        tries: u32,
+        start: &Snapshot<Token>,
+        exchange: &Snapshot<Token>,
+        source: Life,
+        target: Life,
+    )
+        requires table { IsOf self.now token.old }
+        requires start { length start.now.value.view.front ≤ length token.old.view.front }
+        requires exchange { length exchange.now.value.view.front ≤ length token.old.view.front }
+        requires marked { (vertex_marked token.old.view.front source ≡ true)
+            ⊎ (vertex_marked token.old.view.front target ≡ true) }
+        ensures replied { Replied token.old.view
+            (overtaken_entry call.now tries (length start.now.value.view.front) exchange.now.value.view.front source
+            target token.old.view.front) token.new.view }
+        ensures table { IsOf self.now token.new }
+    {
+        self.tell_overtaken::<Brand>(token, call, tries, start, exchange, source, target);
     }
 
     /// A new token with the same front, an empty book and no number, in O(1). It has the right to draw where the other

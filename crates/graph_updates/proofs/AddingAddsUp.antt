@@ -1,5 +1,5 @@
 -- Adding a vertex: what a try came to, told from before its walk, and the tries that were lost.
-use Rattle.std.proofs.Common.{◌≡◌, ℕ, ◌+◌, ◌<◌, ◌≤◌, List, [], None}
+use Rattle.std.proofs.Common.{◌≡◌, ℕ, ◌+◌, ◌<◌, ◌≤◌, List, [], None, Bool, false}
 use Rattle.std.proofs.Common.{refl, ap, sym, ◌∙◌, subst, arith}
 use Rattle.graph_kinds.specs.declared.call.Call.{Call}
 use Rattle.graph_kinds.specs.declared.call.Call.TheVariants.{AddVertex}
@@ -12,7 +12,7 @@ use Rattle.core_stretches.specs.Makes.{Makes}
 use Rattle.core_stretches.specs.Moments.{Carries}
 use Rattle.core_stretches.proofs.MakesAddUp.{makes_self}
 use Rattle.core_kept.specs.Counts.{made}
-use Rattle.core_stretches.proofs.MakesTell.{makes_counts, makes_later}
+use Rattle.core_stretches.proofs.MakesTell.{makes_counts, makes_later, makes_leaves}
 use Rattle.graph_table.specs.Tokens.{TableValue, TokenValue}
 use Rattle.vertex_list.specs.Positions.{PositionValue}
 use Rattle.vertex_list.proofs.PositionsGoOn.{gap_makes}
@@ -27,62 +27,63 @@ use Rattle.graph_updates.proofs.LocatingTells.{between_later, fell_as, fell_both
 use Rattle.graph_updates.proofs.PartsLeave.{helps_leave, leaves_chain, leaves_less}
 
 -- a stretch that leaves the graph leads to a later view of the same caller
-pub leaves_grows : (a b : ℕ) (v w : View) → LeavesGraph a b v w → IsPrefix v.front w.front
-leaves_grows a b v w h = (makes_later v w h.own h.makes).grows
+pub leaves_grows : (r : Bool) (a b : ℕ) (v w : View) → LeavesGraph r a b v w → IsPrefix v.front w.front
+leaves_grows r a b v w h = (makes_later v w h.own h.makes).grows
 
-pub leaves_number : (a b : ℕ) (v w : View) → LeavesGraph a b v w → w.number ≡ v.number
-leaves_number a b v w h = (makes_later v w h.own h.makes).number
+pub leaves_number : (r : Bool) (a b : ℕ) (v w : View) → LeavesGraph r a b v w → w.number ≡ v.number
+leaves_number r a b v w h = (makes_later v w h.own h.makes).number
 
 -- nothing was made, but by loads
-pub leaves_by_loads : (v w : View) → Makes v [] w → LeavesGraph 0 0 v w
-leaves_by_loads v w makes = record {
+pub leaves_by_loads : (r : Bool) (v w : View) → Makes v [] w → LeavesGraph r 0 0 v w
+leaves_by_loads r v w makes = record {
   own = [];
   makes = makes;
-  leaves = tt;
+  leaves = λ z. makes_leaves v w [] z tt makes;
   takes = omega arith;
   shifts = omega arith;
-  raised = refl;
+  raised = λ _. refl;
 }
 
 -- nothing was made
-pub leaves_none : (g : TableValue) (h : HandValue) → IsHandOf g h → LeavesGraph 0 0 h.token.view h.token.view
-leaves_none g h of = record {
+pub leaves_none : (r : Bool) (g : TableValue) (h : HandValue) → IsHandOf g h
+    → LeavesGraph r 0 0 h.token.view h.token.view
+leaves_none r g h of = record {
   own = [];
   makes = makes_self h.token.view of.numbered of.of.sound;
-  leaves = tt;
+  leaves = λ z. makes_leaves h.token.view h.token.view [] z tt (makes_self h.token.view of.numbered of.of.sound);
   takes = omega arith;
   shifts = omega arith;
-  raised = refl;
+  raised = λ _. refl;
 }
 
-pub goes_on_none : (g : TableValue) (h : HandValue) → IsHandOf g h → HasItsNodes h → GoesOnBy h h
-goes_on_none g h of n = record {
+pub goes_on_none : (r : Bool) (g : TableValue) (h : HandValue) → IsHandOf g h → HasItsNodes h → GoesOnBy r h h
+goes_on_none r g h of n = record {
   taken = 0;
-  stretch = leaves_none g h of;
+  stretch = leaves_none r g h of;
   spares = omega arith;
   nodes = n;
   uses = refl;
 }
 
 -- a hand that helped has gone on
-pub helped_on : (old new : HandValue) → HasItsNodes old → HasHelped old new → GoesOnBy old new
-helped_on old new n h =
+pub helped_on : (r : Bool) (old new : HandValue) → HasItsNodes old → HasHelped old new → GoesOnBy r old new
+helped_on r old new n h =
     let same = ap may_take h.spare in
     record {
       taken = 0;
-      stretch = helps_leave old.token.view new.token.view h.helped.only;
+      stretch = helps_leave r old.token.view new.token.view h.helped.only;
       spares = omega (arith, same);
       nodes = h.nodes n;
       uses = h.uses;
     }
 
-pub goes_on_chain : (a b c : HandValue) → GoesOnBy a b → GoesOnBy b c → GoesOnBy a c
-goes_on_chain a b c g h =
+pub goes_on_chain : (r : Bool) (a b c : HandValue) → GoesOnBy r a b → GoesOnBy r b c → GoesOnBy r a c
+goes_on_chain r a b c g h =
     let first = g.spares in
     let second = h.spares in
     record {
       taken = g.taken + h.taken;
-      stretch = leaves_chain g.taken 0 h.taken 0 a.token.view b.token.view c.token.view g.stretch h.stretch;
+      stretch = leaves_chain r g.taken 0 h.taken 0 a.token.view b.token.view c.token.view g.stretch h.stretch;
       spares = omega (arith, first, second);
       nodes = h.nodes;
       uses = h.uses ∙ g.uses;
@@ -95,13 +96,13 @@ fell_since n caller a b c p q f = fell_as (0 + n) n caller a c (omega arith)
     (fell_both 0 n caller a b c p q (fell_none caller a b) f)
 
 -- a stretch that leaves the graph goes before a call that's carried out
-pub carries_since : (call : Call) (a b c : ℕ) (u v w : View) (at : List Event) → LeavesGraph a 0 u v
-    → CarriesOutBy call b c v w at → CarriesOutBy call (a + b) c u w at
-carries_since call a b c u v w at h k = record {
+pub carries_since : (r : Bool) (call : Call) (a b c : ℕ) (u v w : View) (at : List Event) → LeavesGraph r a 0 u v
+    → CarriesOutBy r call b c v w at → CarriesOutBy r call (a + b) c u w at
+carries_since r call a b c u v w at h k = record {
   before = k.before;
   done = k.done;
   event = k.event;
-  first = leaves_chain a 0 b 0 u v k.before h k.first;
+  first = leaves_chain r a 0 b 0 u v k.before h k.first;
   makes = k.makes;
   unlike = k.unlike;
   carries = k.carries;
@@ -109,24 +110,24 @@ carries_since call a b c u v w at h k = record {
   last = k.last;
 }
 
-pub carries_less : (call : Call) (a b c d : ℕ) (v w : View) (at : List Event) → a ≤ b → c ≤ d
-    → CarriesOutBy call a c v w at → CarriesOutBy call b d v w at
-carries_less call a b c d v w at low less k = record {
+pub carries_less : (r : Bool) (call : Call) (a b c d : ℕ) (v w : View) (at : List Event) → a ≤ b → c ≤ d
+    → CarriesOutBy r call a c v w at → CarriesOutBy r call b d v w at
+carries_less r call a b c d v w at low less k = record {
   before = k.before;
   done = k.done;
   event = k.event;
-  first = leaves_less a 0 b 0 v k.before low (omega arith) k.first;
+  first = leaves_less r a 0 b 0 v k.before low (omega arith) k.first;
   makes = k.makes;
   unlike = k.unlike;
   carries = k.carries;
   at_is = k.at_is;
-  last = leaves_less 0 c 0 d k.done w (omega arith) less k.last;
+  last = leaves_less r 0 c 0 d k.done w (omega arith) less k.last;
 }
 
 -- and one behind it
-pub carries_then : (call : Call) (a b c : ℕ) (u v w : View) (at : List Event) → CarriesOutBy call a b u v at
-    → LeavesGraph 0 c v w → CarriesOutBy call a (b + c) u w at
-carries_then call a b c u v w at k h = record {
+pub carries_then : (r : Bool) (call : Call) (a b c : ℕ) (u v w : View) (at : List Event)
+    → CarriesOutBy r call a b u v at → LeavesGraph r 0 c v w → CarriesOutBy r call a (b + c) u w at
+carries_then r call a b c u v w at k h = record {
   before = k.before;
   done = k.done;
   event = k.event;
@@ -135,7 +136,7 @@ carries_then call a b c u v w at k h = record {
   unlike = k.unlike;
   carries = k.carries;
   at_is = k.at_is;
-  last = leaves_chain 0 b 0 c k.done v w k.last h;
+  last = leaves_chain r 0 b 0 c k.done v w k.last h;
 }
 
 -- a node was placed: the vertex is added
@@ -152,7 +153,7 @@ placed_added g key h new p m of n key_is same bare k = record {
     unlike = (ap pops k.kind, (ap moves k.kind, ap raises k.kind));
     carries = subst (λ (i : ℕ). Carries (AddVertex i) k.event new.token.view) key_is k.carries;
     at_is = k.moment;
-    last = leaves_none g new of;
+    last = leaves_none false g new of;
   };
   spare = bare;
   nodes = n;
@@ -167,10 +168,10 @@ tried_since g (tried.Linked m) key old h new p of now n nodes helped gone k =
     let a = placed_added g key h new p m.value now nodes gone.key_is k.0 k.1.0 k.1.1 in
     let same = ap may_take helped.spare in
     record {
-      carries = carries_less (AddVertex key) (0 + may_take h.spare) (may_take old.spare) 0 0 old.token.view
+      carries = carries_less false (AddVertex key) (0 + may_take h.spare) (may_take old.spare) 0 0 old.token.view
           new.token.view m.value.view.front (omega (arith, same)) (omega arith)
-          (carries_since (AddVertex key) 0 (may_take h.spare) 0 old.token.view h.token.view new.token.view
-          m.value.view.front (helps_leave old.token.view h.token.view helped.helped.only) a.carries);
+          (carries_since false (AddVertex key) 0 (may_take h.spare) 0 old.token.view h.token.view new.token.view
+          m.value.view.front (helps_leave false old.token.view h.token.view helped.helped.only) a.carries);
       spare = a.spare;
       nodes = nodes;
       uses = a.uses ∙ helped.uses;
@@ -183,9 +184,9 @@ tried_since g (tried.Full q) key old h new p of now n nodes helped gone k =
     let bare : h.spare ≡ None = k.1.1.0 in
     let bare_new : new.spare ≡ None = k.1.1.1.0 in
     let same : may_take new.spare ≡ may_take h.spare = ap may_take (bare_new ∙ sym bare) in
-    let on : GoesOnBy h new = record {
+    let on : GoesOnBy false h new = record {
       taken = 0;
-      stretch = leaves_by_loads v w e.makes;
+      stretch = leaves_by_loads false v w e.makes;
       spares = omega (arith, same);
       nodes = nodes;
       uses = k.0.uses;
@@ -197,7 +198,7 @@ tried_since g (tried.Full q) key old h new p of now n nodes helped gone k =
           gone.there;
     } in
     record {
-      on = goes_on_chain old h new (helped_on old h n helped) on;
+      on = goes_on_chain false old h new (helped_on false old h n helped) on;
       gone = subst (WasGone key old.token.view w) (sym k.1.0) gone_here;
       empty = record { empty = e.empty };
       bare = bare_new;
@@ -206,7 +207,7 @@ tried_since g tried.Lost key old h new p of now n nodes helped gone k =
     let v = h.token.view in
     let w = new.token.view in
     let l = k.1 in
-    let on : GoesOnBy h new = record {
+    let on : GoesOnBy false h new = record {
       taken = l.taken;
       stretch = readies_leave l.taken v w l.first;
       spares = l.spares;
@@ -215,14 +216,14 @@ tried_since g tried.Lost key old h new p of now n nodes helped gone k =
     } in
     let on_to_w = (makes_later v w l.first.own l.first.makes).grows in
     let grows = prefix_trans p.moment v.front w.front gone.there.until on_to_w in (
-      goes_on_chain old h new (helped_on old h n helped) on,
+      goes_on_chain false old h new (helped_on false old h n helped) on,
       fell_since 1 w.number old.token.view.front p.moment w.front gone.there.since grows l.fell,
     )
 
 -- tries that were lost, since the call began to add
 pub record IsAdding (g : TableValue) (tries lost : ℕ) (old now : HandValue) : Type 0 where
   pub hand : IsHandOf g now
-  pub on : GoesOnBy old now
+  pub on : GoesOnBy false old now
   pub left : lost < tries
   pub fell : Fell lost now.token.view.number old.token.view.front now.token.view.front
 
@@ -232,20 +233,20 @@ module _ (key tries lost : ℕ) (g : TableValue) (old now new : HandValue) (i : 
   added_since m a =
       let s = i.on.spares in
       record {
-        carries = carries_less (AddVertex key) (i.on.taken + may_take now.spare) (may_take old.spare) 0 0
+        carries = carries_less false (AddVertex key) (i.on.taken + may_take now.spare) (may_take old.spare) 0 0
             old.token.view new.token.view m.view.front s (omega arith)
-            (carries_since (AddVertex key) i.on.taken (may_take now.spare) 0 old.token.view now.token.view
+            (carries_since false (AddVertex key) i.on.taken (may_take now.spare) 0 old.token.view now.token.view
             new.token.view m.view.front i.on.stretch a.carries);
         spare = a.spare;
         nodes = a.nodes;
         uses = a.uses ∙ i.on.uses;
       }
 
-  pub on_since : GoesOnBy now new → GoesOnBy old new
-  on_since h = goes_on_chain old now new i.on h
+  pub on_since : GoesOnBy false now new → GoesOnBy false old new
+  on_since h = goes_on_chain false old now new i.on h
 
   pub grows_since : IsPrefix old.token.view.front now.token.view.front
-  grows_since = leaves_grows i.on.taken 0 old.token.view now.token.view i.on.stretch
+  grows_since = leaves_grows false i.on.taken 0 old.token.view now.token.view i.on.stretch
 
   pub full_since : (q : PositionValue) → IsFullAt key now new q → IsFullAt key old new q
   full_since q h = record {
@@ -255,18 +256,18 @@ module _ (key tries lost : ℕ) (g : TableValue) (old now new : HandValue) (i : 
     bare = h.bare;
   }
 
-  pub fell_since_first : GoesOnBy now new → Fell 1 new.token.view.number now.token.view.front new.token.view.front
+  pub fell_since_first : GoesOnBy false now new → Fell 1 new.token.view.number now.token.view.front new.token.view.front
       → Fell (lost + 1) new.token.view.number old.token.view.front new.token.view.front
   fell_since_first h f =
-      let n = leaves_number h.taken 0 now.token.view new.token.view h.stretch in
+      let n = leaves_number false h.taken 0 now.token.view new.token.view h.stretch in
       fell_both lost 1 new.token.view.number old.token.view.front now.token.view.front new.token.view.front grows_since
-      (leaves_grows h.taken 0 now.token.view new.token.view h.stretch)
+      (leaves_grows false h.taken 0 now.token.view new.token.view h.stretch)
       (subst (λ (k : ℕ). Fell lost k old.token.view.front now.token.view.front) (sym n) i.fell) f
 
 -- the nodes taken in a stretch, counted
-pub leaves_made : (a b : ℕ) (v w : View) → LeavesGraph a b v w
+pub leaves_made : (r : Bool) (a b : ℕ) (v w : View) → LeavesGraph r a b v w
     → made pops w.number w.front ≤ made pops v.number v.front + a
-leaves_made a b v w h =
+leaves_made r a b v w h =
     let n = makes_counts pops v w h.own h.makes in
     let t = h.takes in
     omega (arith, n, t)

@@ -10,6 +10,7 @@ use Rattle.core_journal.specs.Event.{moves, raises, unlinks}
 use Rattle.core_rule.specs.Stretches.{HasPass}
 use Rattle.core_rule.specs.declared.view.View.{View}
 use Rattle.core_stretches.specs.Makes.{IsGraphless, Makes, StaysInPass}
+use Rattle.core_stretches.proofs.MakesTell.{makes_leaves}
 use Rattle.core_stretches.proofs.MakesAddUp.{makes_chain}
 use Rattle.graph_table.specs.Tokens.{IsOf, TableValue, TokenValue}
 use Rattle.graph_updates.specs.Adding.{IsNodePlaced, Readies}
@@ -67,16 +68,16 @@ pub readies_stays : (a : ℕ) (v w : View) → (r : Readies a v w) → Every Sta
 readies_stays a v w r = every_map (λ (e : Event). IsReadying e.kind) StaysInPass ready_stays r.own r.are
 
 -- and leaves the graph
-pub readies_leave : (a : ℕ) (v w : View) → Readies a v w → LeavesGraph a 0 v w
+pub readies_leave : (a : ℕ) (v w : View) → Readies a v w → LeavesGraph false a 0 v w
 readies_leave a v w r = record {
   own = r.own;
   makes = r.makes;
-  leaves = every_map (λ (e : Event). IsReadying e.kind) IsGraphless
-      (λ e h. inl (⊎_elim (λ is. ap is_idle is) (λ is. ap is_idle is) h)) r.own r.are;
+  leaves = λ z. makes_leaves v w r.own z (every_map (λ (e : Event). IsReadying e.kind) IsGraphless
+      (λ e h. inl (⊎_elim (λ is. ap is_idle is) (λ is. ap is_idle is) h)) r.own r.are) r.makes;
   takes = r.takes;
   shifts = let n = no_kinds moves r.own (each_kind IsReadying (λ k. moves k ≡ false)
       (λ k h. ⊎_elim (λ is. ap moves is) (λ is. ap moves is) h) r.own r.are) in omega (arith, n);
-  raised = no_kinds raises r.own (each_kind IsReadying (λ k. raises k ≡ false)
+  raised = λ _. no_kinds raises r.own (each_kind IsReadying (λ k. raises k ≡ false)
       (λ k h. ⊎_elim (λ is. ap raises is) (λ is. ap raises is) h) r.own r.are);
 }
 

@@ -13,7 +13,7 @@ use Rattle.packed_link.specs.Layout.{Sizes, IsLayout}
 use Rattle.packed_link.specs.declared.link.Life.{Life}
 use Rattle.core_journal.specs.declared.event.Event.{Event}
 use Rattle.core_journal.specs.declared.event.Kind.{Kind}
-use Rattle.core_journal.specs.Event.{moves, pops, raises}
+use Rattle.core_journal.specs.Event.{moves, pops}
 use Rattle.core_journal.specs.GraphOf.{changes}
 use Rattle.core_journal.specs.Passing.{changes_made}
 use Rattle.core_journal.specs.Prefix.{IsPrefix}
@@ -38,10 +38,12 @@ use Rattle.graph_table.specs.Tokens.{IsOf, RipeValue, TableValue, TokenValue}
 use Rattle.graph_updates.specs.Calls.{HasAnswered, is_own}
 use Rattle.graph_updates.specs.Hands.{HandValue, HasAllSpent, HasItsNodes, HoldsNoOther, HoldsSpare, IsHandOf}
 use Rattle.graph_updates.specs.Hands.{IsInOrder, IsRoomyLimbo, book_of, moves_due}
+use Rattle.graph_updates.specs.Parts.{RaisesDone}
 use Rattle.graph_updates.specs.Replying.{HasEnded}
 use Rattle.graph_updates.proofs.BurialLists.{every_map}
 use Rattle.graph_updates.proofs.PartsLeave.{all_goes, limbo_goes, other_goes, pass_goes, spare_goes}
 use Rattle.graph_updates.proofs.PartsLeave.{still_there}
+use Rattle.graph_updates.proofs.RaisesAddUp.{raised_chain, raised_none}
 
 -- a view but for its book
 abbrev pub unbooked : View → View → View
@@ -126,7 +128,6 @@ entry_by call tries reply class start place front = ended (entry_of call tries r
 pub record AreFew (own : List Event) : Type 0 where
   pub takes : of_kinds pops own ≤ 1
   pub shifts : of_kinds moves own ≤ 3
-  pub raised : of_kinds raises own ≡ 0
 
 -- an entry tells of a stretch: it's framed and right, stands where the graph was changed, and isn't answered Worn; the
 -- caller changed the graph once if it's an own one, and else not; and it's an own one exactly if its answer tells of a
@@ -223,6 +224,10 @@ module _ (g : TableValue) (old now : HandValue) (t : TokenValue) (own : List Eve
     spare = reply_spare m w _ c.hand.of.layout c.hand.numbered c.hand.of.sound r now.spare c.hand.spare;
   }
 
+  raised_now : RaisesDone 1 v w
+  raised_now = raised_chain 1 0 v m w c.ended.raised
+      (record { each = (raised_none m (unbooked m w) [] replies refl).each })
+
   module _ (is_start : start ≡ length v.front) (f : IsEntryFor v w e) where
     book_now : IsBookOf w.sizes w.front (book_of w)
     book_now = book_longer v w e c.order.book end_sizes end_number end_grows book_is f.frame f.right f.only
@@ -243,6 +248,9 @@ module _ (g : TableValue) (old now : HandValue) (t : TokenValue) (own : List Eve
           taken = omega (arith, taken_by, taken_old, used, takes);
           moved = omega (arith, moved_by, moved_old, used, shifts, none);
           uses = omega (arith, left, used);
+          again = c.order.again + 1;
+          given_up = let most = c.order.given_up in omega (arith, most, used);
+          raised = raised_now.each c.order.again c.order.raised;
           nodes = nodes_now;
         }
 
@@ -251,10 +259,8 @@ module _ (g : TableValue) (old now : HandValue) (t : TokenValue) (own : List Eve
     call_ends =
         let taken_by = counts pops in
         let moved_by = counts moves in
-        let raised_by = counts raises in
         let takes = c.few.takes in
         let shifts = c.few.shifts in
-        let raised = c.few.raised in
         record {
           hand = hand_now;
           order = order_now;
@@ -279,7 +285,7 @@ module _ (g : TableValue) (old now : HandValue) (t : TokenValue) (own : List Eve
             counts = record {
               taken = omega (arith, taken_by, takes);
               moved = omega (arith, moved_by, shifts);
-              raised = omega (arith, raised_by, raised);
+              raised = raised_now;
             };
             used = c.ended.uses;
           };

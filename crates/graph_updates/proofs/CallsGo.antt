@@ -24,7 +24,7 @@ use Rattle.core_kept.specs.Counts.{made, most_moves, most_pops}
 use Rattle.core_rule.specs.OwnEvents.{announce_event}
 use Rattle.core_rule.specs.declared.view.View.{View}
 use Rattle.core_stretches.specs.Moments.{Has, HoldsBetween, Lacks}
-use Rattle.core_stretches.proofs.MakesTell.{makes_counts, makes_later}
+use Rattle.core_stretches.proofs.MakesTell.{makes_counts, makes_later, makes_leaves}
 use Rattle.epoch_limbo.specs.Passes.{IsOpened}
 use Rattle.graph_updates.specs.Adding.{MatchAdding}
 use Rattle.graph_updates.specs.Hands.{HandValue, IsInOrder}
@@ -36,40 +36,44 @@ use Rattle.graph_updates.specs.declared.adding.Adding.{Adding}
 use Rattle.graph_updates.specs.declared.adding.Adding.TheVariants as adding
 use Rattle.graph_updates.specs.declared.removing.Removing.{Removing}
 use Rattle.graph_updates.specs.declared.removing.Removing.TheVariants as removing
-use Rattle.graph_updates.proofs.PartsLeave.{leaves_chain, leaves_less}
+use Rattle.graph_updates.proofs.PartsLeave.{leaves_any, leaves_chain, leaves_less, leaves_raising}
 
 -- opening a pass leaves the graph
-pub opened_leaves : (v w : View) → IsOpened v w → LeavesGraph 0 0 v w
-opened_leaves v w o = record {
+pub opened_leaves : (r : Bool) (v w : View) → IsOpened v w → LeavesGraph r 0 0 v w
+opened_leaves r v w o = record {
   own = announce_event v o.epoch ∷ [];
   makes = o.makes;
-  leaves = (inl refl, tt);
+  leaves = λ z. makes_leaves v w (announce_event v o.epoch ∷ []) z (inl refl, tt) o.makes;
   takes = omega arith;
   shifts = omega arith;
-  raised = refl;
+  raised = λ _. refl;
 }
 
 -- a call that left the graph
-pub whole_leaves : (a : ℕ) (u v w x : View) → a ≤ 1 → IsOpened u v → LeavesGraph a 0 v w → LeavesGraph 0 1 w x
-    → LeavesGraph 1 3 u x
-whole_leaves a u v w x few o g f = leaves_less (0 + a + 0) (0 + 0 + 1) 1 3 u x (omega (arith, few)) (omega arith)
-    (leaves_chain (0 + a) (0 + 0) 0 1 u w x (leaves_chain 0 0 a 0 u v w (opened_leaves u v o) g) f)
+pub whole_leaves : (r : Bool) (a : ℕ) (u v w x : View) → a ≤ 1 → IsOpened u v → LeavesGraph r a 0 v w
+    → LeavesGraph false 0 1 w x → LeavesGraph true 1 3 u x
+whole_leaves r a u v w x few o g f = leaves_raising r 1 3 u x
+    (leaves_less r (0 + a + 0) (0 + 0 + 1) 1 3 u x (omega (arith, few)) (omega arith)
+    (leaves_chain r (0 + a) (0 + 0) 0 1 u w x (leaves_chain r 0 0 a 0 u v w (opened_leaves r u v o) g)
+    (leaves_any r 0 1 w x f)))
 
 -- a call that carried itself out
-pub whole_carries : (call : Call) (a : ℕ) (u v w x : View) (at : List Event) → a ≤ 1 → IsOpened u v
-    → CarriesOutBy call a 0 v w at → LeavesGraph 0 1 w x → CarriesOutBy call 1 3 u x at
-whole_carries call a u v w x at few o h f = record {
+pub whole_carries : (r : Bool) (call : Call) (a : ℕ) (u v w x : View) (at : List Event) → a ≤ 1 → IsOpened u v
+    → CarriesOutBy r call a 0 v w at → LeavesGraph false 0 1 w x → CarriesOutBy true call 1 3 u x at
+whole_carries r call a u v w x at few o h f = record {
   before = h.before;
   done = h.done;
   event = h.event;
-  first = leaves_less (0 + a) (0 + 0) 1 0 u h.before (omega (arith, few)) (omega arith)
-      (leaves_chain 0 0 a 0 u v h.before (opened_leaves u v o) h.first);
+  first = leaves_raising r 1 0 u h.before
+      (leaves_less r (0 + a) (0 + 0) 1 0 u h.before (omega (arith, few)) (omega arith)
+      (leaves_chain r 0 0 a 0 u v h.before (opened_leaves r u v o) h.first));
   makes = h.makes;
   unlike = h.unlike;
   carries = h.carries;
   at_is = h.at_is;
-  last = leaves_less (0 + 0) (0 + 1) 0 3 h.done x (omega arith) (omega arith)
-      (leaves_chain 0 0 0 1 h.done w x h.last f);
+  last = leaves_raising r 0 3 h.done x
+      (leaves_less r (0 + 0) (0 + 1) 0 3 h.done x (omega arith) (omega arith)
+      (leaves_chain r 0 0 0 1 h.done w x h.last (leaves_any r 0 1 w x f)));
 }
 
 -- a moment in a part of a call is one in the call
@@ -184,6 +188,14 @@ gives_absent key at l = record {
   stays = gone_stays (graph_of at) key (lacks_there at key l);
 }
 
+-- the removal of a key that's gone
+pub absent_where : (key : ℕ) (at : List Event) → has (graph_of at) key ≡ false
+    → GivesAnswer (RemoveVertex key) Absent at
+absent_where key at none = record {
+  reply = gone_answer (graph_of at) key none;
+  stays = gone_stays (graph_of at) key none;
+}
+
 pub needs_one : (key : ℕ) (at : List Event) → Lacks key at → NeedsNode (AddVertex key) at
 needs_one key at l = record { needs = added_needs (graph_of at) key (lacks_there at key l) }
 
@@ -203,35 +215,35 @@ module _ (old : HandValue) (w : View) (o : IsInOrder old) (few : old.uses < 2 ^ 
       let taken = o.taken in
       omega (arith, same, taken, few)
 
-  pub may_move : (a : ℕ) (x : View) → LeavesGraph a 0 w x → made moves x.number x.front < most_moves
-  may_move a x h =
+  pub may_move : (r : Bool) (a : ℕ) (x : View) → LeavesGraph r a 0 w x → made moves x.number x.front < most_moves
+  may_move r a x h =
       let same = makes_counts moves old.token.view w (announce_event old.token.view opened.epoch ∷ []) opened.makes in
       let more = makes_counts moves w x h.own h.makes in
       let none = h.shifts in
       let moved = o.moved in
       omega (arith, same, more, none, moved, few)
 
-  pub may_move_carried : (call : Call) (a : ℕ) (x : View) (at : List Event) → CarriesOutBy call a 0 w x at
+  pub may_move_carried : (r : Bool) (call : Call) (a : ℕ) (x : View) (at : List Event) → CarriesOutBy r call a 0 w x at
       → made moves x.number x.front < most_moves
-  may_move_carried call a x at h =
+  may_move_carried r call a x at h =
       let one = makes_counts moves h.before h.done (h.event ∷ []) h.makes in
       let last = makes_counts moves h.done x h.last.own h.last.makes in
       let none = h.last.shifts in
-      let low = may_move a h.before h.first in
+      let low = may_move r a h.before h.first in
       let no_move = ap (λ (b : Bool). cond {A = ℕ} b 1 0) h.unlike.1.0 in
       omega (arith, one, last, none, low, no_move)
 
 -- the sizes of a call's last view are those of its first
-later_sizes : (a b : ℕ) (v w : View) → LeavesGraph a b v w → w.sizes ≡ v.sizes
-later_sizes a b v w h = (makes_later v w h.own h.makes).sizes
+later_sizes : (r : Bool) (a b : ℕ) (v w : View) → LeavesGraph r a b v w → w.sizes ≡ v.sizes
+later_sizes r a b v w h = (makes_later v w h.own h.makes).sizes
 
 pub may_one : (spare : Option Life) → may_take spare ≤ 1
 may_one None = omega arith
 may_one (Some x) = omega arith
 
 -- how a call is answered that left the graph: from what it found in its pass
-module _ (a : ℕ) (u v w x : View) (few : a ≤ 1) (o : IsOpened u v) (h : LeavesGraph a 0 v w)
-    (f : LeavesGraph 0 1 w x) where
+module _ (r : Bool) (a : ℕ) (u v w x : View) (few : a ≤ 1) (o : IsOpened u v) (h : LeavesGraph r a 0 v w)
+    (f : LeavesGraph false 0 1 w x) where
   starts : IsPrefix u.front v.front
   starts = (makes_later u v (announce_event u o.epoch ∷ []) o.makes).grows
 
@@ -245,13 +257,13 @@ module _ (a : ℕ) (u v w x : View) (few : a ≤ 1) (o : IsOpened u v) (h : Leav
       → ((j : List Event) → P j → GivesAnswer call outcome j) → HoldsBetween v.front w.front P at
       → IsDueAt call outcome u x at
   due_at call outcome P at gives found = record {
-    stretch = whole_leaves a u v w x few o h f;
+    stretch = whole_leaves r a u v w x few o h f;
     gives = between_wide P (GivesAnswer call outcome) u.front v.front w.front x.front at gives starts stops found;
   }
 
   pub due_again : (tries caller : ℕ) → caller ≡ w.number → Fell tries caller v.front w.front → IsDueAgain tries u x
   due_again tries caller same fell = record {
-    stretch = whole_leaves a u v w x few o h f;
+    stretch = whole_leaves r a u v w x few o h f;
     fell = fell_wide tries caller x.number u.front v.front w.front x.front
         (same ∙ sym (makes_later w x f.own f.makes).number) starts goes stops fell;
   }
@@ -259,7 +271,7 @@ module _ (a : ℕ) (u v w x : View) (few : a ≤ 1) (o : IsOpened u v) (h : Leav
   pub due_full : (key : ℕ) (at : List Event) → HoldsBetween v.front w.front (Lacks key) at → NoneFree w.sizes w.front
       → IsDueForFull (AddVertex key) u x at
   due_full key at found none = record {
-    stretch = whole_leaves a u v w x few o h f;
+    stretch = whole_leaves r a u v w x few o h f;
     needs = between_wide (Lacks key) (NeedsNode (AddVertex key)) u.front v.front w.front x.front at
         (λ j l. needs_one key j l) starts stops found;
     then = w.front;
@@ -267,34 +279,38 @@ module _ (a : ℕ) (u v w x : View) (few : a ≤ 1) (o : IsOpened u v) (h : Leav
       since = prefix_trans u.front v.front w.front starts goes;
       until = stops;
       holds = subst (λ (s : Sizes). NoneFree s w.front)
-          (later_sizes a 0 v w h ∙ (makes_later u v (announce_event u o.epoch ∷ []) o.makes).sizes) none;
+          (later_sizes r a 0 v w h ∙ (makes_later u v (announce_event u o.epoch ∷ []) o.makes).sizes) none;
     };
   }
 
-  pub due_at_mark : (key : ℕ) (y : Life) (at : List Event) → HoldsBetween v.front w.front (Has key y) at
-      → vertex_marked w.front y ≡ true → IsDueAtMark key u x y
-  due_at_mark key y at found marked = record {
-    stretch = whole_leaves a u v w x few o h f;
+  pub due_at_mark : (call : Call) (outcome : Outcome) (key : ℕ) (y : Life) (at : List Event)
+      → HoldsBetween v.front w.front (Has key y) at → vertex_marked w.front y ≡ true
+      → ((journal : List Event) → has (graph_of journal) key ≡ false → GivesAnswer call outcome journal)
+      → IsDueAtMark call outcome u x y
+  due_at_mark call outcome key y at found marked gives = record {
+    stretch = whole_leaves r a u v w x few o h f;
+    key = key;
     at = at;
     there = between_wide (Has key y) (Has key y) u.front v.front w.front x.front at (λ j p. p) starts stops found;
     marked = subst (λ (j : List Event). vertex_marked j y ≡ true) stops.whole
         (any_more (λ (e : Event). marks_vertex e.kind && same_life y e.life) w.front stops.rest marked);
+    gives = gives;
   }
 
 -- how a call is answered that changed it
-pub due_by_change : (call : Call) (outcome : Outcome) (a : ℕ) (u v w x : View) (at : List Event) → a ≤ 1
-    → IsOpened u v → (h : CarriesOutBy call a 0 v w at) → LeavesGraph 0 1 w x → is_change outcome ≡ true
+pub due_by_change : (r : Bool) (call : Call) (outcome : Outcome) (a : ℕ) (u v w x : View) (at : List Event) → a ≤ 1
+    → IsOpened u v → (h : CarriesOutBy r call a 0 v w at) → LeavesGraph false 0 1 w x → is_change outcome ≡ true
     → plain outcome ≡ answer (graph_of h.carries.past) call → IsDueByChange call outcome u x at
 unfolding whole_carries
-due_by_change call outcome a u v w x at few o h f changes reply = record {
-  stretch = whole_carries call a u v w x at few o h f;
+due_by_change r call outcome a u v w x at few o h f changes reply = record {
+  stretch = whole_carries r call a u v w x at few o h f;
   changes = changes;
   reply = reply;
 }
 
 -- a part of a call takes at most one node
-pub goes_few : (old new : HandValue) (g : GoesOnBy old new) → g.taken ≤ 1
-goes_few old new g =
+pub goes_few : (r : Bool) (old new : HandValue) (g : GoesOnBy r old new) → g.taken ≤ 1
+goes_few r old new g =
     let s = g.spares in
     let m = may_one old.spare in
     omega (arith, s, m)
@@ -304,22 +320,22 @@ module _ (old begun now : HandValue) (o : IsInOrder old) (few : old.uses < 2 ^ 3
     (opened : IsOpened old.token.view begun.token.view) where
   pub adding_moves : (r : Adding) (key tries : ℕ) → MatchAdding r key tries begun now
       → made moves now.token.view.number now.token.view.front < most_moves
-  adding_moves (adding.Linked m) key tries h = may_move_carried old begun.token.view o few opened (AddVertex key)
+  adding_moves (adding.Linked m) key tries h = may_move_carried old begun.token.view o few opened false (AddVertex key)
       (may_take begun.spare) now.token.view m.value.view.front h.carries
-  adding_moves (adding.There s) key tries h = may_move old begun.token.view o few opened h.0.taken now.token.view
+  adding_moves (adding.There s) key tries h = may_move old begun.token.view o few opened false h.0.taken now.token.view
       h.0.stretch
-  adding_moves (adding.Full q) key tries h = may_move old begun.token.view o few opened h.on.taken now.token.view
+  adding_moves (adding.Full q) key tries h = may_move old begun.token.view o few opened false h.on.taken now.token.view
       h.on.stretch
-  adding_moves adding.Again key tries h = may_move old begun.token.view o few opened h.0.taken now.token.view
+  adding_moves adding.Again key tries h = may_move old begun.token.view o few opened false h.0.taken now.token.view
       h.0.stretch
 
   pub removing_moves : (r : Removing) (key tries : ℕ) → MatchRemoving r key tries begun now
       → made moves now.token.view.number now.token.view.front < most_moves
-  removing_moves (removing.Marked m) key tries h = may_move_carried old begun.token.view o few opened
+  removing_moves (removing.Marked m) key tries h = may_move_carried old begun.token.view o few opened false
       (RemoveVertex key) 0 now.token.view m.value.view.front h.carries
-  removing_moves (removing.WasMarked y) key tries h = may_move old begun.token.view o few opened h.on.taken
+  removing_moves (removing.WasMarked y) key tries h = may_move old begun.token.view o few opened false h.on.taken
       now.token.view h.on.stretch
-  removing_moves (removing.Gone q) key tries h = may_move old begun.token.view o few opened h.0.taken now.token.view
+  removing_moves (removing.Gone q) key tries h = may_move old begun.token.view o few opened false h.0.taken now.token.view
       h.0.stretch
-  removing_moves removing.Again key tries h = may_move old begun.token.view o few opened h.0.taken now.token.view
+  removing_moves removing.Again key tries h = may_move old begun.token.view o few opened false h.0.taken now.token.view
       h.0.stretch

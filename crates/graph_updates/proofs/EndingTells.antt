@@ -9,7 +9,7 @@ use Rattle.core_rule.specs.Stretches.{HasPass}
 use Rattle.core_rule.specs.declared.view.View.{View}
 use Rattle.core_stretches.specs.Holdings.{HasNoPass}
 use Rattle.core_stretches.specs.Makes.{Makes}
-use Rattle.core_stretches.proofs.MakesTell.{makes_counts}
+use Rattle.core_stretches.proofs.MakesTell.{makes_counts, makes_leaves}
 use Rattle.epoch_limbo.specs.Advances.{MatchAdvanced}
 use Rattle.epoch_limbo.specs.Limbos.{LimboValue}
 use Rattle.epoch_limbo.specs.Passes.{IsOpened}
@@ -26,14 +26,14 @@ use Rattle.graph_updates.proofs.PartsLeave.{each_kind, leaves_chain, leaves_less
 
 -- a pass is opened
 module _ (v w : View) (z : IsLayout v.sizes) (o : IsOpened v w) where
-  pub opened_leaves : LeavesGraph 0 0 v w
+  pub opened_leaves : LeavesGraph false 0 0 v w
   opened_leaves = record {
     own = announce_event v o.epoch ∷ [];
     makes = o.makes;
-    leaves = (inl refl, tt);
+    leaves = λ y. makes_leaves v w (announce_event v o.epoch ∷ []) y (inl refl, tt) o.makes;
     takes = omega arith;
     shifts = omega arith;
-    raised = refl;
+    raised = λ _. refl;
   }
 
   pub opened_parts : (limbo : LimboValue) → LeavesParts limbo limbo v w
@@ -80,14 +80,14 @@ module _ (g : TableValue) (old : HandValue) (t : TokenValue) (h : IsHandOf g old
 
 -- a pass is closed
 module _ (v w : View) (z : IsLayout v.sizes) (makes : Makes v (withdraw_event v ∷ []) w) where
-  pub closed_leaves : LeavesGraph 0 0 v w
+  pub closed_leaves : LeavesGraph false 0 0 v w
   closed_leaves = record {
     own = withdraw_event v ∷ [];
     makes = makes;
-    leaves = (inl refl, tt);
+    leaves = λ y. makes_leaves v w (withdraw_event v ∷ []) y (inl refl, tt) makes;
     takes = omega arith;
     shifts = omega arith;
-    raised = refl;
+    raised = λ _. refl;
   }
 
   pub closed_parts : (limbo : LimboValue) → LeavesParts limbo limbo v w
@@ -108,7 +108,7 @@ module _ (v w : View) (z : IsLayout v.sizes) (makes : Makes v (withdraw_event v 
 
 -- the epoch is moved on, or isn't
 pub record Advances (v w : View) : Type 0 where
-  pub leaves : LeavesGraph 0 1 v w
+  pub leaves : LeavesGraph false 0 1 v w
   pub only : MakesOnly IsEnding v w
   pub parts : (limbo : LimboValue) → LeavesParts limbo limbo v w
   pub pass : HasNoPass v → HasNoPass w
@@ -118,10 +118,10 @@ advances_none v w z makes = record {
   leaves = record {
     own = [];
     makes = makes;
-    leaves = tt;
+    leaves = λ y. makes_leaves v w [] y tt makes;
     takes = omega arith;
     shifts = omega arith;
-    raised = refl;
+    raised = λ _. refl;
   };
   only = record { own = []; are = tt; makes = makes };
   parts = λ limbo. plain_parts limbo v w [] z makes tt;
@@ -133,10 +133,10 @@ advances Moved v w z m = record {
   leaves = record {
     own = move_event v m.epoch ∷ [];
     makes = m.makes;
-    leaves = (inl refl, tt);
+    leaves = λ y. makes_leaves v w (move_event v m.epoch ∷ []) y (inl refl, tt) m.makes;
     takes = omega arith;
     shifts = omega arith;
-    raised = refl;
+    raised = λ _. refl;
   };
   only = record { own = move_event v m.epoch ∷ []; are = (inr (inl refl), tt); makes = m.makes };
   parts = λ limbo. plain_parts limbo v w (move_event v m.epoch ∷ []) z m.makes (
@@ -216,8 +216,8 @@ module _ (g : TableValue) (old : HandValue) (t : TokenValue) (h : IsHandOf g old
     pub rest_hand : IsOf g t → IsHandOf g at_rest
     rest_hand = hand_goes g old at_rest h refl first_parts
 
-    rest_leaves : LeavesGraph 0 1 old.token.view t.view
-    rest_leaves = leaves_less 0 0 0 1 old.token.view t.view (omega arith) (omega arith)
+    rest_leaves : LeavesGraph false 0 1 old.token.view t.view
+    rest_leaves = leaves_less false 0 0 0 1 old.token.view t.view (omega arith) (omega arith)
         (closed_leaves old.token.view t.view h.of.layout makes)
 
     pub rest_order : IsInOrder old → IsInOrder at_rest
@@ -277,9 +277,9 @@ module _ (g : TableValue) (old : HandValue) (t : TokenValue) (h : IsHandOf g old
     pub ended_hand : IsOf g u → IsHandOf g ended
     ended_hand = hand_goes g old ended h refl last_parts
 
-    ended_leaves : LeavesGraph 0 1 old.token.view u.view
-    ended_leaves = leaves_chain 0 1 0 0 old.token.view m u.view
-        (leaves_chain 0 0 0 1 old.token.view t.view m
+    ended_leaves : LeavesGraph false 0 1 old.token.view u.view
+    ended_leaves = leaves_chain false 0 1 0 0 old.token.view m u.view
+        (leaves_chain false 0 0 0 1 old.token.view t.view m
         (closed_leaves old.token.view t.view h.of.layout makes) moved.leaves)
         (giving_leaves m u.view layout given.only)
 

@@ -1,28 +1,28 @@
 -- What an entry says at the end of a call is right, by the way in which the call was answered.
 use Rattle.std.proofs.Common.{◌≡◌, ◌≢◌, ℕ, ◌+◌, ◌-◌, ◌<◌, ◌≤◌, Bool, true, false, cond, List, [], ◌∷◌, ◌++◌, length}
-use Rattle.std.proofs.Common.{Some, take, refl, sym, ap, ap₂, ◌∙◌, subst, arith}
+use Rattle.std.proofs.Common.{Some, zero, suc, take, refl, sym, ap, ap₂, ◌∙◌, subst, arith}
 use Rattle.std.specs.Prelude.{slice_get}
+use Rattle.std.proofs.lemmas.List.{length-take-le}
 use Rattle.graph_kinds.specs.Answer.{after, alters, answer, is_change, needs_node, plain}
 use Rattle.graph_kinds.specs.Graph.{Graph}
 use Rattle.graph_kinds.specs.declared.answer.Answer.{Answer}
 use Rattle.graph_kinds.specs.declared.call.Call.{Call}
-use Rattle.graph_kinds.specs.declared.call.Call.TheVariants.{RemoveVertex}
 use Rattle.graph_kinds.specs.declared.outcome.Outcome.{Outcome}
-use Rattle.graph_kinds.specs.declared.outcome.Outcome.TheVariants.{Absent, Again, Full, Overtaken, Worn}
+use Rattle.graph_kinds.specs.declared.outcome.Outcome.TheVariants.{Again, Full, Overtaken, Worn}
 use Rattle.graph_kinds.specs.declared.entry.Class.TheVariants.{Own, Silent}
 use Rattle.graph_kinds.specs.declared.entry.Entry.{Entry}
 use Rattle.graph_kinds.proofs.PlainAnswers.{not_again, not_full, not_overtaken, not_worn}
 use Rattle.packed_link.specs.Layout.{Sizes, IsLayout}
 use Rattle.packed_link.specs.declared.link.Life.{Life}
 use Rattle.core_journal.specs.declared.event.Event.{Event}
-use Rattle.core_journal.specs.Event.{moves, pops, raises}
+use Rattle.core_journal.specs.Event.{moves, pops}
 use Rattle.core_journal.specs.Foreign.{foreign}
 use Rattle.core_journal.specs.GraphOf.{changes, graph_of}
 use Rattle.core_journal.specs.Passing.{changes_made}
 use Rattle.core_journal.specs.Prefix.{IsPrefix}
 use Rattle.core_journal.specs.Right.{IsAnswer, NoneFree, OwnReply, RightOwn, RightSilent, graph_at}
 use Rattle.core_journal.proofs.ForeignAddsUp.{adds_up, longer_same}
-use Rattle.core_journal.proofs.Lists.{get_short, prefix_length, prefix_trans, take_here}
+use Rattle.core_journal.proofs.Lists.{get_short, prefix_length, prefix_take, prefix_trans, take_here}
 use Rattle.core_rule.specs.Plays.{Replied, place_by}
 use Rattle.core_rule.specs.Stretches.{Leaves, Own as OwnEvents}
 use Rattle.core_rule.specs.declared.view.View.{View}
@@ -32,15 +32,15 @@ use Rattle.core_stretches.specs.Makes.{Makes}
 use Rattle.core_stretches.specs.Moments.{HoldsBetween}
 use Rattle.core_stretches.proofs.MakesAddUp.{makes_chain}
 use Rattle.core_stretches.proofs.MakesTell.{makes_later}
-use Rattle.graph_table.specs.Table.{before_mark, entry_of, place_at_mark}
+use Rattle.graph_table.specs.Table.{before_edge_mark, before_mark, entry_of}
 use Rattle.graph_table.specs.Tokens.{IsOf, TableValue, TokenValue}
 use Rattle.graph_updates.specs.Hands.{HandValue, IsHandOf, IsInOrder}
 use Rattle.graph_updates.specs.Parts.{CarriesOutBy, LeavesGraph}
-use Rattle.graph_updates.specs.Replying.{GivesAnswer, HasEnded, IsDueAgain, IsDueAtMark, IsDueByChange}
-use Rattle.graph_updates.specs.Replying.{IsDueForFull}
+use Rattle.graph_updates.specs.Replying.{GivesAnswer, HasEnded, IsDueAgain, IsDueAtEdgeMark, IsDueAtMark}
+use Rattle.graph_updates.specs.Replying.{IsDueByChange, IsDueForFull}
 use Rattle.graph_updates.proofs.CallsEnd.{AreFew, HasCome, HasReplied, call_ends, end_grows, end_number}
 use Rattle.graph_updates.proofs.CallsEnd.{end_sizes, entry_by, unbooked, with_token}
-use Rattle.graph_updates.proofs.MarkPlaces.{absent_answer, absent_stays, after_mark}
+use Rattle.graph_updates.proofs.MarkPlaces.{after_mark, edge_before_is}
 use Rattle.graph_updates.proofs.OwnChanges.{at_length, carried_count, event_at, event_by, event_past, event_turns}
 use Rattle.graph_updates.proofs.OwnChanges.{leaves_own, left_count, only_there, past_since}
 use Rattle.graph_updates.proofs.PartsLeave.{kinds_both}
@@ -84,41 +84,49 @@ module _ (g : Graph) (call : Call) (reply : Answer) (is : reply ≡ answer g cal
   unfolding alters
   no_change h = ap is_change outcome_is ∙ h
 
+-- a prefix is one of each front that is as long
+prefix_within : (short long : List Event) (n : ℕ) → IsPrefix short long → length short ≤ n → IsPrefix short
+    (take n long)
+prefix_within [] long n p low = record { rest = take n long; whole = refl }
+prefix_within (e ∷ es) [] n p low = let w = p.whole in absurd (cc)
+prefix_within (e ∷ es) (d ∷ ds) zero p low = absurd (omega (arith, low))
+prefix_within (e ∷ es) (d ∷ ds) (suc n) p low =
+    let w = p.whole in
+    let head : e ≡ d = cc in
+    let tail : es ++ p.rest ≡ ds = cc in
+    let more = prefix_within es ds n (record { rest = p.rest; whole = tail }) (omega (arith, low)) in
+    record { rest = more.rest; whole = ap₂ (λ (x : Event) (xs : List Event). x ∷ xs) head more.whole }
+
 -- the graph at a place that is a front's length
 graph_there : (at front : List Event) → IsPrefix at front → graph_at front (length at) ≡ graph_of at
 graph_there at front p = ap graph_of (ap (take (length at)) (sym p.whole) ∙ take_here at p.rest)
 
-few_left : (v w : View) (h : LeavesGraph 1 3 v w) → AreFew h.own
-few_left v w h = record { takes = h.takes; shifts = h.shifts; raised = h.raised }
+few_left : (v w : View) (h : LeavesGraph true 1 3 v w) → AreFew h.own
+few_left v w h = record { takes = h.takes; shifts = h.shifts }
 
 -- the events of a stretch that carries a call out
-abbrev pub all_own : (call : Call) (a b : ℕ) (v w : View) (at : List Event) → CarriesOutBy call a b v w at → List Event
+abbrev pub all_own : (call : Call) (a b : ℕ) (v w : View) (at : List Event) → CarriesOutBy true call a b v w at → List Event
 all_own call a b v w at h = h.first.own ++ (h.event ∷ [] ++ h.last.own)
 
-pub carried_makes : (call : Call) (a b : ℕ) (v w : View) (at : List Event) (h : CarriesOutBy call a b v w at)
+pub carried_makes : (call : Call) (a b : ℕ) (v w : View) (at : List Event) (h : CarriesOutBy true call a b v w at)
     → Makes v (all_own call a b v w at h) w
 carried_makes call a b v w at h = makes_chain v h.before w h.first.own (h.event ∷ [] ++ h.last.own) h.first.makes
     (makes_chain h.before h.done w (h.event ∷ []) h.last.own h.makes h.last.makes)
 
-few_carried : (call : Call) (v w : View) (at : List Event) (h : CarriesOutBy call 1 3 v w at)
+few_carried : (call : Call) (v w : View) (at : List Event) (h : CarriesOutBy true call 1 3 v w at)
     → AreFew (all_own call 1 3 v w at h)
 few_carried call v w at h =
     let p = kinds_both pops h.first.own (h.event ∷ [] ++ h.last.own) in
     let s = kinds_both moves h.first.own (h.event ∷ [] ++ h.last.own) in
-    let r = kinds_both raises h.first.own (h.event ∷ [] ++ h.last.own) in
     let no_pop = ap (λ (b : Bool). cond {A = ℕ} b 1 0) h.unlike.0 in
     let no_move = ap (λ (b : Bool). cond {A = ℕ} b 1 0) h.unlike.1.0 in
-    let no_raise = ap (λ (b : Bool). cond {A = ℕ} b 1 0) h.unlike.1.1 in
     let ft = h.first.takes in
     let fs = h.first.shifts in
-    let fr = h.first.raised in
     let lt = h.last.takes in
     let ls = h.last.shifts in
-    let lr = h.last.raised in
     record {
       takes = omega (arith, p, no_pop, ft, lt);
       shifts = omega (arith, s, no_move, fs, ls);
-      raised = omega (arith, r, no_raise, fr, lr);
     }
 
 -- of a call that ends by a reply
@@ -133,7 +141,7 @@ module _ (g : TableValue) (old now : HandValue) (t : TokenValue) (hand : IsHandO
   abbrev w : View
   w = t.view
 
-  module _ (a b : ℕ) (stretch : LeavesGraph a b v m) where
+  module _ (a b : ℕ) (stretch : LeavesGraph true a b v m) where
     layout : IsLayout v.sizes
     layout = subst IsLayout (makes_later v m stretch.own stretch.makes).sizes hand.of.layout
 
@@ -141,12 +149,12 @@ module _ (g : TableValue) (old now : HandValue) (t : TokenValue) (hand : IsHandO
     left : (e : Entry) → Replied m e w → OwnEvents Leaves v w
     left e r = record {
       each = (own_chain Leaves v m (unbooked m w) (makes_later v m stretch.own stretch.makes).number r.grows
-          (leaves_own a b v m layout stretch)
+          (leaves_own true a b v m layout stretch)
           (own_look Leaves m (unbooked m w) (reply_steps m e w hand.numbered hand.of.sound r))).each;
     }
 
   -- silent replies
-  module _ (stretch : LeavesGraph 1 3 v m) (call : Call) (tries : ℕ) (reply : Answer) (start place : ℕ)
+  module _ (stretch : LeavesGraph true 1 3 v m) (call : Call) (tries : ℕ) (reply : Answer) (start place : ℕ)
       (is_start : start ≡ length v.front) (r : Replied m (entry_of call tries reply Silent start place) w) where
     abbrev e : Entry
     e = entry_by call tries reply Silent start place w.front
@@ -206,7 +214,17 @@ module _ (g : TableValue) (old now : HandValue) (t : TokenValue) (hand : IsHandO
           stays = ap (λ (x : Graph). alters x call) there ∙ stays;
         }))
 
-  pub at_ends : LeavesGraph 1 3 v m → (call : Call) (tries : ℕ) (outcome : Outcome) (start place : ℕ)
+    -- as the graph answers after so many events
+    pub place_ends : length v.front ≤ place → place ≤ length m.front → reply ≡ answer (graph_at m.front place) call
+        → alters (graph_at m.front place) call ≡ false → HasReplied g call tries reply old (with_token now t)
+    place_ends low high p stays =
+        let later = makes_later v m stretch.own stretch.makes in
+        let front = later.grows in
+        let since : IsPrefix v.front (take place m.front) = prefix_within v.front m.front place front low in
+        moment_ends (take place m.front) (sym (length-take-le place m.front high)) since
+        (prefix_take m.front place) p stays
+
+  pub at_ends : LeavesGraph true 1 3 v m → (call : Call) (tries : ℕ) (outcome : Outcome) (start place : ℕ)
       → start ≡ length v.front → Replied m (entry_of call tries (plain outcome) Silent start place) w
       → (at : List Event) → place ≡ length at → HoldsBetween v.front m.front (GivesAnswer call outcome) at
       → HasReplied g call tries (plain outcome) old (with_token now t)
@@ -262,23 +280,32 @@ module _ (g : TableValue) (old now : HandValue) (t : TokenValue) (hand : IsHandO
       (record { reply = refl; place = refl; lost = omega (arith, fell, same, sum, as_now) })
 
   -- right after the mark of a vertex life
-  pub mark_ends : (key tries : ℕ) (start : ℕ) (x : Life) → start ≡ length v.front → (d : IsDueAtMark key v m x)
-      → Replied m (entry_of (RemoveVertex key) tries (plain Absent) Silent start (place_at_mark Silent x m.front)) w
-      → HasReplied g (RemoveVertex key) tries (plain Absent) old (with_token now t)
-  mark_ends key tries start x is_start d r =
-      let place = before_mark x m.front + 1 in
+  pub mark_ends : (call : Call) (outcome : Outcome) (tries start : ℕ) (x : Life) → start ≡ length v.front
+      → (d : IsDueAtMark call outcome v m x)
+      → Replied m (entry_of call tries (plain outcome) Silent start (before_mark x m.front + 1)) w
+      → HasReplied g call tries (plain outcome) old (with_token now t)
+  mark_ends call outcome tries start x is_start d r =
       let since = prefix_length v.front d.at d.there.since in
-      let b = after_mark m.sizes key x v.front d.at m.front w.front hand.of.layout hand.of.sound.kept r.grows
-      d.there since d.marked in
-      let low = b.low in
-      let high = b.high in
-      let longer = prefix_length m.front w.front r.grows in
-      silent_ends d.stretch (RemoveVertex key) tries (plain Absent) start place is_start r (λ is. absurd (cc)) refl low
-      (omega (arith, high, longer))
-      (record {
-        reply = absent_answer (graph_at w.front place) key b.gone;
-        stays = absent_stays (graph_at w.front place) key b.gone;
-      })
+      let b = after_mark m.sizes d.key x v.front d.at m.front hand.of.layout hand.of.sound.kept d.there since
+      d.marked in
+      let place = before_mark x m.front + 1 in
+      let given = d.gives (take place m.front) b.gone in
+      place_ends d.stretch call tries (plain outcome) start place is_start r b.low b.high given.reply given.stays
+
+  -- right after the mark of an edge life
+  pub edge_mark_ends : (call : Call) (outcome : Outcome) (tries start : ℕ) (x : Life) → start ≡ length v.front
+      → (d : IsDueAtEdgeMark call outcome v m x)
+      → Replied m (entry_of call tries (plain outcome) Silent start (before_edge_mark x m.front + 1)) w
+      → HasReplied g call tries (plain outcome) old (with_token now t)
+  edge_mark_ends call outcome tries start x is_start d r =
+      let c = d.cut in
+      let since = d.since in
+      let number = edge_before_is x m.front d.number c.event c.at c.cuts c.life c.uncut in
+      let short = get_short m.front d.number c.event c.at in
+      let given : GivesAnswer call outcome (take (before_edge_mark x m.front + 1) m.front) = subst
+      (λ (n : ℕ). GivesAnswer call outcome (take (n + 1) m.front)) (sym number) d.gives in
+      place_ends d.stretch call tries (plain outcome) start (before_edge_mark x m.front + 1) is_start r
+      (omega (arith, number, since)) (omega (arith, number, short)) given.reply given.stays
 
   -- a call that changed the graph
   module _ (call : Call) (tries : ℕ) (outcome : Outcome) (start : ℕ) (at : List Event)
@@ -317,12 +344,12 @@ module _ (g : TableValue) (old now : HandValue) (t : TokenValue) (hand : IsHandO
     place_is =
         let told = place_told outcome (length at - 1) (length w.front)
         (no_again (graph_of past) call (plain outcome) d.reply) in
-        let n = at_length call 1 3 v m at layout_v d.stretch in
+        let n = at_length true call 1 3 v m at layout_v d.stretch in
         omega (arith, told, n)
 
     before_end : length past < length w.front
     before_end = get_short w.front (length past) d.stretch.event
-        (event_at call 1 3 v m at layout_v d.stretch w.front r.grows)
+        (event_at true call 1 3 v m at layout_v d.stretch w.front r.grows)
 
     count : changes_made w.number w.front ≡ changes_made v.number v.front + 1
     count =
@@ -332,24 +359,24 @@ module _ (g : TableValue) (old now : HandValue) (t : TokenValue) (hand : IsHandO
               hand.of.sound r)).each;
         } in
         left_count m w r.grows (number ∙ sym (makes_later v m own makes).number) looked
-        ∙ carried_count call 1 3 v m at layout_v d.stretch
+        ∙ carried_count true call 1 3 v m at layout_v d.stretch
 
     own_count : changes_made v.number w.front ≡ changes_made v.number v.front + 1
     own_count = ap (λ (n : ℕ). changes_made n w.front) (sym number) ∙ count
 
     taken_is : take entry.place w.front ≡ past
     taken_is = ap (λ (n : ℕ). take n w.front) place_is
-        ∙ event_past call 1 3 v m at layout_v d.stretch w.front r.grows
+        ∙ event_past true call 1 3 v m at layout_v d.stretch w.front r.grows
 
     own_right : RightOwn w.front w.number entry
     own_right = record {
       event = d.stretch.event;
       own = record {
         at = subst (λ (n : ℕ). slice_get w.front n ≡ Some d.stretch.event) (sym place_is)
-            (event_at call 1 3 v m at layout_v d.stretch w.front r.grows);
-        by = event_by call 1 3 v m at layout_v d.stretch w.front r.grows ∙ sym number;
+            (event_at true call 1 3 v m at layout_v d.stretch w.front r.grows);
+        by = event_by true call 1 3 v m at layout_v d.stretch w.front r.grows ∙ sym number;
         changing = subst (λ (n : ℕ). changes (take n w.front) d.stretch.event ≡ true) (sym place_is)
-            (event_turns call 1 3 v m at layout_v d.stretch w.front r.grows);
+            (event_turns true call 1 3 v m at layout_v d.stretch w.front r.grows);
         leads = subst (λ (j : List Event). graph_of (j ++ d.stretch.event ∷ []) ≡ after (graph_of j) call)
             (sym taken_is) (ap graph_of (sym d.stretch.carries.front) ∙ d.stretch.carries.leads);
       };
@@ -360,7 +387,7 @@ module _ (g : TableValue) (old now : HandValue) (t : TokenValue) (hand : IsHandO
 
     pub change_ends : HasReplied g call tries (plain outcome) old (with_token now t)
     change_ends =
-        let since = prefix_length v.front past (past_since call 1 3 v m at layout_v d.stretch) in
+        let since = prefix_length v.front past (past_since true call 1 3 v m at layout_v d.stretch) in
         let short = before_end in
         let is = place_is in
         call_ends g old now t own came call tries (plain outcome) Own start (length at - 1) r is_start
@@ -375,7 +402,7 @@ module _ (g : TableValue) (old now : HandValue) (t : TokenValue) (hand : IsHandO
           right = own_right;
           only = λ p event far stands by turns. record {
             class = refl;
-            place = is ∙ sym (only_there call 1 3 v m at layout_v d.stretch w.front r.grows own_count p event far
+            place = is ∙ sym (only_there true call 1 3 v m at layout_v d.stretch w.front r.grows own_count p event far
                 stands by turns);
           };
           unworn = no_worn (graph_of past) call (plain outcome) d.reply;

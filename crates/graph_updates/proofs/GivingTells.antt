@@ -29,7 +29,7 @@ use Rattle.core_stretches.specs.Makes.{IsGraphless, Makes, StaysInPass}
 use Rattle.core_stretches.specs.Moments.{HoldsBetween}
 use Rattle.core_stretches.proofs.HoldingsStay.{makes_got, makes_retired}
 use Rattle.core_stretches.proofs.MakesAddUp.{makes_look}
-use Rattle.core_stretches.proofs.MakesTell.{makes_later}
+use Rattle.core_stretches.proofs.MakesTell.{makes_later, makes_leaves}
 use Rattle.epoch_limbo.specs.Limbos.{AreRising, IsLimboOf, IsPutBack, IsRipeOut, LimboValue, index_in}
 use Rattle.epoch_limbo.specs.Passes.{EpochIs}
 use Rattle.epoch_limbo.proofs.LimboStays.{limbo_room, limbo_still}
@@ -262,17 +262,17 @@ giving_not : (e : Kind) → (StoreFree ≡ e → ⊥) → (PushFree ≡ e → �
 giving_not e s p k h is = ⊎_elim (λ (a : k ≡ StoreFree). s (sym a ∙ is)) (λ (a : k ≡ PushFree). p (sym a ∙ is)) h
 
 module _ (v w : View) (z : IsLayout v.sizes) (h : MakesOnly IsGiving v w) where
-  pub giving_leaves : LeavesGraph 0 0 v w
+  pub giving_leaves : LeavesGraph false 0 0 v w
   giving_leaves = record {
     own = h.own;
     makes = h.makes;
-    leaves = every_map (λ (e : Event). IsGiving e.kind) IsGraphless
-        (λ e p. inl (giving_test is_idle true refl refl e.kind p)) h.own h.are;
+    leaves = λ y. makes_leaves v w h.own y (every_map (λ (e : Event). IsGiving e.kind) IsGraphless
+        (λ e p. inl (giving_test is_idle true refl refl e.kind p)) h.own h.are) h.makes;
     takes = let n = no_kinds pops h.own
         (each_kind IsGiving (λ k. pops k ≡ false) (giving_test pops false refl refl) h.own h.are) in omega (arith, n);
     shifts = let n = no_kinds moves h.own
         (each_kind IsGiving (λ k. moves k ≡ false) (giving_test moves false refl refl) h.own h.are) in omega (arith, n);
-    raised = no_kinds raises h.own
+    raised = λ _. no_kinds raises h.own
         (each_kind IsGiving (λ k. raises k ≡ false) (giving_test raises false refl refl) h.own h.are);
   }
 

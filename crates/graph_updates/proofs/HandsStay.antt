@@ -14,11 +14,11 @@ use Rattle.core_journal.specs.GraphOf.{changes}
 use Rattle.core_journal.specs.Right.{IsBookOf}
 use Rattle.core_journal.proofs.Onward.{book_more}
 use Rattle.core_kept.specs.Counts.{made, most_moves}
-use Rattle.core_rule.specs.Stretches.{HasPass, is_of_fresh}
+use Rattle.core_rule.specs.Stretches.{HasPass, Leaves, Own, is_of_fresh}
 use Rattle.core_rule.specs.declared.view.View.{View}
 use Rattle.core_stretches.specs.Holdings.{HasNoPass}
-use Rattle.core_stretches.specs.Makes.{IsGraphless, Makes, StepsBy, of_kinds}
-use Rattle.core_stretches.proofs.MakesTell.{makes_counts, makes_later, makes_leaves}
+use Rattle.core_stretches.specs.Makes.{Makes, StepsBy, of_kinds}
+use Rattle.core_stretches.proofs.MakesTell.{makes_counts, makes_later}
 use Rattle.epoch_limbo.specs.Limbos.{LimboValue}
 use Rattle.graph_table.specs.Tokens.{IsOf, TableValue}
 use Rattle.graph_updates.specs.Hands.{HandValue, HasAllSpent, HasItsNodes, HoldsNoOther, HoldsSpare, IsHandOf}
@@ -27,6 +27,7 @@ use Rattle.graph_updates.specs.Parts.{LeavesGraph}
 use Rattle.graph_updates.proofs.BurialLists.{every_map}
 use Rattle.graph_updates.proofs.PartsLeave.{IsCalm, all_goes, limbo_goes, other_goes, spare_goes, still_numbered}
 use Rattle.graph_updates.proofs.PartsLeave.{still_there}
+use Rattle.graph_updates.proofs.RaisesAddUp.{raised_left}
 
 -- steps leave the book
 book_by : (v w : View) (own : List Event) → StepsBy v own w → w.book ≡ v.book
@@ -37,11 +38,10 @@ pub makes_book : (v w : View) (own : List Event) → Makes v own w → w.book �
 makes_book v w own h = book_by v w own h.steps
 
 -- the book stays true where each own event leaves the graph
-pub book_goes : (v w : View) (own : List Event) → IsLayout v.sizes → Makes v own w → Every IsGraphless own
+pub book_goes : (v w : View) (own : List Event) → Makes v own w → Own Leaves v w
     → IsBookOf v.sizes v.front (book_of v) → IsBookOf w.sizes w.front (book_of w)
-book_goes v w own z makes every h =
+book_goes v w own makes leaves h =
     let later = makes_later v w own makes in
-    let leaves = makes_leaves v w own z every makes in
     let g = later.grows in
     let more : IsBookOf v.sizes (v.front ++ g.rest) (book_of v) = book_more v.sizes v.front g.rest (book_of v) h
     (λ p e far at by. subst (λ (j : List Event). changes (take p j) e ≡ false) (sym g.whole)
@@ -62,7 +62,7 @@ due_closed v h = ap (λ (b : Bool). cond {A = ℕ} b 1 0) h
 
 -- a hand in order is in order after a stretch that leaves the graph, where it has its nodes and uses enough
 pub order_goes : (old new : HandValue) (taken moved : ℕ) → IsLayout old.token.view.sizes
-    → LeavesGraph taken moved old.token.view new.token.view → HasItsNodes new → old.uses + taken ≤ new.uses
+    → LeavesGraph false taken moved old.token.view new.token.view → HasItsNodes new → old.uses + taken ≤ new.uses
     → 3 * old.uses + moved + moves_due new.token.view ≤ 3 * new.uses + moves_due old.token.view → new.uses ≤ 2 ^ 32
     → IsInOrder old → IsInOrder new
 order_goes old new taken moved z s nodes few less uses h =
@@ -75,10 +75,13 @@ order_goes old new taken moved z s nodes few less uses h =
     let a = h.taken in
     let b = h.moved in
     record {
-      book = book_goes v w s.own z s.makes s.leaves h.book;
+      book = book_goes v w s.own s.makes (s.leaves z) h.book;
       taken = omega (arith, p, t, a, few);
       moved = omega (arith, q, m, b, less);
       uses = uses;
+      again = h.again + 0;
+      given_up = let most = h.given_up in omega (arith, most, few);
+      raised = (raised_left taken moved v w s).each h.again h.raised;
       nodes = nodes;
     }
 

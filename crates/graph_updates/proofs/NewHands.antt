@@ -8,7 +8,7 @@ use Rattle.core_journal.specs.declared.event.Kind.{Kind}
 use Rattle.core_journal.specs.declared.event.Kind.TheVariants.{DrawNumber}
 use Rattle.core_journal.specs.declared.event.Event.{Event}
 use Rattle.core_journal.specs.Changes.{is_idle}
-use Rattle.core_journal.specs.Event.{pops, moves}
+use Rattle.core_journal.specs.Event.{pops, moves, raises}
 use Rattle.core_journal.specs.GraphOf.{changes}
 use Rattle.core_journal.specs.Machine.{word_at}
 use Rattle.core_journal.specs.Reuse.{pass_in}
@@ -32,6 +32,7 @@ use Rattle.graph_updates.specs.Hands.{HandValue, IsHandOf, IsInOrder, book_of}
 use Rattle.graph_updates.specs.Opening.{IsTokenRefused}
 use Rattle.graph_updates.specs.declared.opening.HandCause.TheVariants.{Memory}
 use Rattle.graph_updates.proofs.HandsStay.{due_closed}
+use Rattle.graph_updates.proofs.RaisesAddUp.{raises_of_none}
 
 -- a token that is handed back as it was
 pub refused : (g : TableValue) (t : TokenValue) → IsOf g t
@@ -148,6 +149,9 @@ module _ (m w : View) (found : ℕ) (d : Drew m found w) where
           taken = omega (arith, taken);
           moved = omega (arith, moved, due);
           uses = omega arith;
+          again = 0;
+          given_up = omega arith;
+          raised = raises_of_none w.front w.number (none_made raises refl);
           nodes = record {
             spent = record { each = λ y spent. absurd (none_spent y spent) };
             fresh = record { none = λ y low fresh. none_fresh y fresh };

@@ -1,6 +1,6 @@
 -- How many own events that changed the graph a stretch of a call has, and where the one stands that carried the call
 -- out.
-use Rattle.std.proofs.Common.{◌≡◌, ℕ, ◌+◌, ◌<◌, ◌≤◌, true, false, List, [], ◌∷◌, ◌++◌, length, take, None}
+use Rattle.std.proofs.Common.{◌≡◌, ℕ, ◌+◌, ◌<◌, ◌≤◌, true, false, List, [], ◌∷◌, ◌++◌, length, take, None, Bool}
 use Rattle.std.proofs.Common.{Some, inl, inr, refl, sym, ap, ◌∙◌, subst, arith, append_assoc, append-nil, length-append}
 use Rattle.std.proofs.Common.{⊎_elim}
 use Rattle.std.specs.Prelude.{slice_get}
@@ -24,7 +24,7 @@ use Rattle.core_rule.proofs.OwnStretch.{own_look}
 use Rattle.core_rule.proofs.ViewShows.{step_view}
 use Rattle.core_stretches.specs.Makes.{Makes}
 use Rattle.core_stretches.specs.Moments.{Carries}
-use Rattle.core_stretches.proofs.MakesTell.{makes_later, makes_leaves}
+use Rattle.core_stretches.proofs.MakesTell.{makes_later}
 use Rattle.graph_updates.specs.Parts.{CarriesOutBy, LeavesGraph}
 
 -- a caller that leaves the graph behind a past made as many changes as before
@@ -53,8 +53,8 @@ left_count v w p number o = ap (λ (n : ℕ). changes_made n w.front) number
     → e.caller ≡ v.number → changes (take k l) e ≡ false) (sym p.whole) o.each))
 
 -- a stretch that leaves the graph
-pub leaves_own : (a b : ℕ) (v w : View) → IsLayout v.sizes → LeavesGraph a b v w → Own Leaves v w
-leaves_own a b v w z h = makes_leaves v w h.own z h.leaves h.makes
+pub leaves_own : (r : Bool) (a b : ℕ) (v w : View) → IsLayout v.sizes → LeavesGraph r a b v w → Own Leaves v w
+leaves_own r a b v w z h = h.leaves z
 
 module _ (before done : View) (call : Call) (event : Event) (makes : Makes before (event ∷ []) done)
     (c : Carries call event done) where
@@ -148,8 +148,8 @@ module _ (before done : View) (call : Call) (event : Event) (makes : Makes befor
       ∙ (ap (changes_made before.number) c.front ∙ (one ∙ ap (λ (n : ℕ). n + 1) until_same))
 
 -- in a stretch that carries a call out the caller changed the graph once
-module _ (call : Call) (a b : ℕ) (v m : View) (at : List Event) (z : IsLayout v.sizes)
-    (h : CarriesOutBy call a b v m at) where
+module _ (r : Bool) (call : Call) (a b : ℕ) (v m : View) (at : List Event) (z : IsLayout v.sizes)
+    (h : CarriesOutBy r call a b v m at) where
   first_later : IsPrefix v.front h.before.front
   first_later = (makes_later v h.before h.first.own h.first.makes).grows
 
@@ -182,8 +182,8 @@ module _ (call : Call) (a b : ℕ) (v m : View) (at : List Event) (z : IsLayout 
       let zd = subst IsLayout (sym done_sizes) z in
       let f = makes_later v h.before h.first.own h.first.makes in
       let l = makes_later h.done m h.last.own h.last.makes in
-      let first = left_count v h.before f.grows f.number (leaves_own a 0 v h.before z h.first) in
-      let last = left_count h.done m l.grows l.number (leaves_own 0 b h.done m zd h.last) in
+      let first = left_count v h.before f.grows f.number (leaves_own r a 0 v h.before z h.first) in
+      let last = left_count h.done m l.grows l.number (leaves_own r 0 b h.done m zd h.last) in
       last ∙ (one_count h.before h.done call h.event h.makes h.carries ∙ ap (λ (n : ℕ). n + 1) first)
 
   -- its event stands behind the past of its front, in each longer journal

@@ -22,13 +22,14 @@ use Rattle.core_kept.specs.Kept.{IsKept}
 use Rattle.core_kept.specs.Nodes.{node_in, IsFrozenToEnd, IsSpentWith}
 use Rattle.core_lists.proofs.EventKeepsRest.{one_fresh}
 use Rattle.core_rule.specs.Retired.{IsRetired}
-use Rattle.core_rule.specs.Stretches.{is_of_fresh}
+use Rattle.core_rule.specs.Stretches.{Leaves, is_of_fresh}
 use Rattle.core_rule.specs.declared.view.View.{View}
+use Rattle.core_rule.proofs.OwnStretch.{own_chain}
 use Rattle.core_stretches.specs.Holdings.{HasGotOnly, IsHeldFresh}
 use Rattle.core_stretches.specs.Makes.{IsGraphless, Makes, StaysInPass, of_kinds}
 use Rattle.core_stretches.proofs.HoldingsStay.{makes_fresh_by_kind, makes_got, makes_none}
 use Rattle.core_stretches.proofs.MakesAddUp.{makes_chain}
-use Rattle.core_stretches.proofs.MakesTell.{makes_goes, makes_later}
+use Rattle.core_stretches.proofs.MakesTell.{makes_goes, makes_later, makes_leaves}
 use Rattle.epoch_limbo.specs.Limbos.{LimboValue, index_in}
 use Rattle.epoch_limbo.proofs.LimboStays.{limbo_still_by_kind}
 use Rattle.graph_table.specs.Tokens.{RipeValue}
@@ -212,16 +213,17 @@ pub each_kind : (P Q : Kind → Type 0) → ((k : Kind) → P k → Q k) → (ow
 each_kind P Q f own h = every_map (λ (e : Event). P e.kind) (λ (e : Event). Q e.kind) (λ e p. f e.kind p) own h
 
 -- a stretch that helps leaves the graph
-pub helps_leave : (v w : View) → MakesOnly IsHelp v w → LeavesGraph 0 0 v w
-helps_leave v w h = record {
+pub helps_leave : (r : Bool) (v w : View) → MakesOnly IsHelp v w → LeavesGraph r 0 0 v w
+helps_leave r v w h = record {
   own = h.own;
   makes = h.makes;
-  leaves = every_map (λ (e : Event). IsHelp e.kind) IsGraphless help_graphless h.own h.are;
+  leaves = λ z. makes_leaves v w h.own z (every_map (λ (e : Event). IsHelp e.kind) IsGraphless help_graphless h.own
+      h.are) h.makes;
   takes = let n = no_kinds pops h.own (each_kind IsHelp (λ k. pops k ≡ false) help_pops h.own h.are) in
       omega (arith, n);
   shifts = let n = no_kinds moves h.own (each_kind IsHelp (λ k. moves k ≡ false) help_moves h.own h.are) in
       omega (arith, n);
-  raised = no_kinds raises h.own (each_kind IsHelp (λ k. raises k ≡ false) help_raises h.own h.are);
+  raised = λ _. no_kinds raises h.own (each_kind IsHelp (λ k. raises k ≡ false) help_raises h.own h.are);
 }
 
 -- stretches one behind another
@@ -232,30 +234,33 @@ only_chain P u v w g h = record {
   makes = makes_chain u v w g.own h.own g.makes h.makes;
 }
 
-pub leaves_chain : (a b c d : ℕ) (u v w : View) → LeavesGraph a b u v → LeavesGraph c d v w
-    → LeavesGraph (a + c) (b + d) u w
-leaves_chain a b c d u v w g h =
+pub leaves_chain : (r : Bool) (a b c d : ℕ) (u v w : View) → LeavesGraph r a b u v → LeavesGraph r c d v w
+    → LeavesGraph r (a + c) (b + d) u w
+leaves_chain r a b c d u v w g h =
     let p = kinds_both pops g.own h.own in
     let q = kinds_both moves g.own h.own in
-    let r = kinds_both raises g.own h.own in
+    let s = kinds_both raises g.own h.own in
     let gt = g.takes in
     let ht = h.takes in
     let gs = g.shifts in
     let hs = h.shifts in
-    let gr = g.raised in
-    let hr = h.raised in
     record {
       own = g.own ++ h.own;
       makes = makes_chain u v w g.own h.own g.makes h.makes;
-      leaves = every_both IsGraphless g.own h.own g.leaves h.leaves;
+      leaves = λ z.
+          let one = makes_later u v g.own g.makes in
+          let two = makes_later v w h.own h.makes in
+          own_chain Leaves u v w one.number two.grows (g.leaves z)
+          (h.leaves (subst IsLayout (sym one.sizes) z));
       takes = omega (arith, p, gt, ht);
       shifts = omega (arith, q, gs, hs);
-      raised = omega (arith, r, gr, hr);
+      raised = λ is. let gr = g.raised is in let hr = h.raised is in omega (arith, s, gr, hr);
     }
 
 -- more may be taken and moved
-pub leaves_less : (a b c d : ℕ) (v w : View) → a ≤ c → b ≤ d → LeavesGraph a b v w → LeavesGraph c d v w
-leaves_less a b c d v w ac bd h =
+pub leaves_less : (r : Bool) (a b c d : ℕ) (v w : View) → a ≤ c → b ≤ d → LeavesGraph r a b v w
+    → LeavesGraph r c d v w
+leaves_less r a b c d v w ac bd h =
     let t = h.takes in
     let s = h.shifts in
     record {
@@ -266,3 +271,24 @@ leaves_less a b c d v w ac bd h =
       shifts = omega (arith, s, bd);
       raised = h.raised;
     }
+
+-- a stretch that raises nothing is one of a call that may raise
+pub leaves_raising : (r : Bool) (a b : ℕ) (v w : View) → LeavesGraph r a b v w → LeavesGraph true a b v w
+leaves_raising r a b v w h = record {
+  own = h.own;
+  makes = h.makes;
+  leaves = h.leaves;
+  takes = h.takes;
+  shifts = h.shifts;
+  raised = λ is. absurd (cc);
+}
+
+pub leaves_any : (r : Bool) (a b : ℕ) (v w : View) → LeavesGraph false a b v w → LeavesGraph r a b v w
+leaves_any r a b v w h = record {
+  own = h.own;
+  makes = h.makes;
+  leaves = h.leaves;
+  takes = h.takes;
+  shifts = h.shifts;
+  raised = λ _. h.raised refl;
+}

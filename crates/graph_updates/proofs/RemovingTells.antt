@@ -1,5 +1,5 @@
 -- What removing a vertex tells: it's marked in its pass, and one more walk helps.
-use Rattle.std.proofs.Common.{◌≡◌, ℕ, [], ◌∷◌, Some, refl, sym}
+use Rattle.std.proofs.Common.{◌≡◌, ℕ, [], ◌∷◌, Some, refl, sym, false}
 use Rattle.std.proofs.Common.{◌∙◌, subst, arith}
 use Rattle.graph_kinds.specs.declared.call.Call.TheVariants.{RemoveVertex}
 use Rattle.packed_link.specs.declared.link.Life.{Life}
@@ -88,13 +88,13 @@ removed_is g key old h new t m s of n first here k at then = record {
     before = h.token.view;
     done = t.view;
     event = mark_vertex_event h.token.view s.life k.found;
-    first = helps_leave old.token.view h.token.view first.helped.only;
+    first = helps_leave false old.token.view h.token.view first.helped.only;
     makes = k.makes;
     unlike = (refl, (refl, refl));
     carries = subst (λ (i : ℕ). Carries (RemoveVertex i) (mark_vertex_event h.token.view s.life k.found) t.view)
         (key_is g h key old.token.view s of here) k.carries;
     at_is = at;
-    last = helps_leave t.view new.token.view then.helped.only;
+    last = helps_leave false t.view new.token.view then.helped.only;
   };
   spare = then.spare ∙ first.spare;
   nodes = n;
@@ -106,9 +106,9 @@ pub was_marked_is : (g : TableValue) (key : ℕ) (old h : HandValue) (t : TokenV
     → HasItsNodes (with_spare h t h.spare) → HasHelped old h → WasHere key old.token.view h.token.view s
     → WasMarked s.life h.token.view t.view → WasMarkedMeanwhile key old (with_spare h t h.spare) s.life
 was_marked_is g key old h t s n nodes first here k = record {
-  on = goes_on_chain old h (with_spare h t h.spare) (helped_on old h n first) (record {
+  on = goes_on_chain false old h (with_spare h t h.spare) (helped_on false old h n first) (record {
     taken = 0;
-    stretch = leaves_by_loads h.token.view t.view k.makes;
+    stretch = leaves_by_loads false h.token.view t.view k.makes;
     spares = omega arith;
     nodes = nodes;
     uses = refl;

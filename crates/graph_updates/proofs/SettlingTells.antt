@@ -194,7 +194,7 @@ module _ (g : TableValue) (old : HandValue) (h : IsHandOf g old) (closed : HasNo
     hand = hand_goes g old settling h refl both_parts last_of;
     nodes = nodes_go g old settling h refl both_parts;
     settled = record {
-      stretch = leaves_chain 0 1 0 1 old.token.view t m.view first.leaves second.leaves;
+      stretch = leaves_chain false 0 1 0 1 old.token.view t m.view first.leaves second.leaves;
       moved = m.view;
       moves = both;
       gives = record { own = []; are = tt; makes = makes_self m.view second_number last_of.sound };
@@ -292,7 +292,7 @@ module _ (g : TableValue) (old now : HandValue) (lost : ℕ) (i : IsSettling g o
 
   abbrev pub settled_goes : HasSettled old gave_ripe
   settled_goes = record {
-    stretch = leaves_chain 0 2 0 0 old.token.view now.token.view u.view i.settled.stretch
+    stretch = leaves_chain false 0 2 0 0 old.token.view now.token.view u.view i.settled.stretch
         (giving_leaves now.token.view u.view i.hand.of.layout b.given.only);
     moved = moved;
     moves = i.settled.moves;

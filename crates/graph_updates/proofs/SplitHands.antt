@@ -93,6 +93,9 @@ module _ (g : TableValue) (h : HandValue) (t : TokenValue) (is : t.view ≡ stay
         taken = k.taken;
         moved = k.moved;
         uses = k.uses;
+        again = k.again;
+        given_up = k.given_up;
+        raised = k.raised;
         nodes = record {
           spent = record { each = k.nodes.spent.each };
           fresh = split_other v h.spare k.nodes.fresh;

@@ -1,5 +1,5 @@
 -- What adding a vertex tells, try by try.
-use Rattle.std.specs.Prelude.{◌≡◌, ℕ, ◌+◌, ◌≤◌, List, [], ◌∷◌, Option, None}
+use Rattle.std.specs.Prelude.{◌≡◌, ℕ, ◌+◌, ◌≤◌, List, [], ◌∷◌, Option, None, false}
 use Rattle.graph_kinds.specs.History.{Every}
 use Rattle.graph_kinds.specs.declared.call.Call.TheVariants.{AddVertex}
 use Rattle.packed_link.specs.Layout.{free_at}
@@ -92,14 +92,14 @@ MatchPlacingAt tried.Lost p old new =
 
 -- a vertex of the key was linked, and at most one node was taken for it
 pub record IsAdded (key : ℕ) (old new : HandValue) (m : TokenValue) : Type 0 where
-  pub carries : CarriesOutBy (AddVertex key) (may_take old.spare) 0 old.token.view new.token.view m.view.front
+  pub carries : CarriesOutBy false (AddVertex key) (may_take old.spare) 0 old.token.view new.token.view m.view.front
   pub spare : new.spare ≡ None
   pub nodes : HasItsNodes new
   pub uses : new.uses ≡ old.uses
 
 -- no node was free at the end, and the key was missing at a moment before
 pub record IsFullAt (key : ℕ) (old new : HandValue) (q : PositionValue) : Type 0 where
-  pub on : GoesOnBy old new
+  pub on : GoesOnBy false old new
   pub gone : WasGone key old.token.view new.token.view q
   pub empty : NoneFree new.token.view.sizes new.token.view.front
   pub bare : new.spare ≡ None
@@ -107,15 +107,15 @@ pub record IsFullAt (key : ℕ) (old new : HandValue) (q : PositionValue) : Type
 -- what one try came to
 abbrev pub MatchAddTried : AddTried → ℕ → HandValue → HandValue → Type 0
 MatchAddTried (tried.Linked m) key old new = IsAdded key old new m.value
-MatchAddTried (tried.There s) key old new = GoesOnBy old new × WasHere key old.token.view new.token.view s
+MatchAddTried (tried.There s) key old new = GoesOnBy false old new × WasHere key old.token.view new.token.view s
 MatchAddTried (tried.Full q) key old new = IsFullAt key old new q
 MatchAddTried tried.Lost key old new =
-    GoesOnBy old new × Fell 1 new.token.view.number old.token.view.front new.token.view.front
+    GoesOnBy false old new × Fell 1 new.token.view.number old.token.view.front new.token.view.front
 
 -- what all tries came to
 abbrev pub MatchAdding : Adding → (key tries : ℕ) → HandValue → HandValue → Type 0
 MatchAdding (adding.Linked m) key tries old new = IsAdded key old new m.value
-MatchAdding (adding.There s) key tries old new = GoesOnBy old new × WasHere key old.token.view new.token.view s
+MatchAdding (adding.There s) key tries old new = GoesOnBy false old new × WasHere key old.token.view new.token.view s
 MatchAdding (adding.Full q) key tries old new = IsFullAt key old new q
 MatchAdding adding.Again key tries old new =
-    GoesOnBy old new × Fell tries new.token.view.number old.token.view.front new.token.view.front
+    GoesOnBy false old new × Fell tries new.token.view.number old.token.view.front new.token.view.front

@@ -9,7 +9,7 @@ use Rattle.graph_kinds.specs.declared.entry.Class.{Class}
 use Rattle.graph_kinds.specs.declared.entry.Class.TheVariants.{Own}
 use Rattle.graph_kinds.specs.declared.entry.Entry.{Entry}
 use Rattle.graph_kinds.specs.declared.outcome.Outcome.TheVariants.{Overtaken, Worn}
-use Rattle.core_journal.specs.Event.{moves, pops, raises}
+use Rattle.core_journal.specs.Event.{moves, pops}
 use Rattle.core_journal.specs.GraphOf.{graph_of}
 use Rattle.core_journal.specs.History.{history}
 use Rattle.core_journal.specs.Passing.{changes_made}
@@ -18,13 +18,14 @@ use Rattle.core_journal.specs.Right.{IsBookOf, Right}
 use Rattle.core_kept.specs.Counts.{made}
 use Rattle.core_rule.specs.declared.view.View.{View}
 use Rattle.graph_updates.specs.Hands.{HandValue, book_of}
+use Rattle.graph_updates.specs.Parts.{RaisesDone}
 
 -- the counts of a caller's events rise by at most this much in a call: one node taken and three moves of the epoch; and
--- in a call on vertices no counter is raised
+-- at most one edge is given up for which a counter was raised
 pub record HasSpentAtMost (v w : View) : Type 0 where
   pub taken : made pops w.number w.front ≤ made pops v.number v.front + 1
   pub moved : made moves w.number w.front ≤ made moves v.number v.front + 3
-  pub raised : made raises w.number w.front ≡ made raises v.number v.front
+  pub raised : RaisesDone 1 v w
 
 -- whether a class is that of own entries
 abbrev pub is_own : Class → Bool

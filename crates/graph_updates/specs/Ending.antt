@@ -108,7 +108,7 @@ pub record HasTidied (old new : LimboValue) (v w : View) : Type 0 where
 -- done
 pub record IsFinished (old new : HandValue) : Type 0 where
   pub only : MakesOnly IsEnding old.token.view new.token.view
-  pub stretch : LeavesGraph 0 1 old.token.view new.token.view
+  pub stretch : LeavesGraph false 0 1 old.token.view new.token.view
   pub closed : HasNoPass new.token.view
   pub gone : List RipeValue
   pub limbo : old.limbo.nodes ≡ gone ++ new.limbo.nodes
@@ -146,7 +146,7 @@ pub record HasMovedTwice (v w : View) : Type 0 where
 -- that nodes were given back, the oldest of the limbo: each was ripe by the epoch of the new front, and free at a
 -- moment since the moves
 pub record HasSettled (old new : HandValue) : Type 0 where
-  pub stretch : LeavesGraph 0 2 old.token.view new.token.view
+  pub stretch : LeavesGraph false 0 2 old.token.view new.token.view
   pub moved : View
   pub moves : HasMovedTwice old.token.view moved
   pub gives : MakesOnly IsGiving moved new.token.view

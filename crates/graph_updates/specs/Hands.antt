@@ -1,10 +1,11 @@
 -- What contracts see of a hand, what every call on a hand asks, and when a hand is in order.
-use Rattle.std.specs.Prelude.{◌≡◌, ℕ, ◌+◌, ◌*◌, ◌^◌, ◌<◌, ◌≤◌, Bool, true, cond, Option, Some, None}
+use Rattle.std.specs.Prelude.{◌≡◌, ℕ, ◌+◌, ◌*◌, ◌^◌, ◌<◌, ◌≤◌, Bool, true, cond, [], Option, Some, None}
 use Rattle.packed_link.specs.declared.link.Life.{Life}
 use Rattle.core_journal.specs.declared.book.Book.{Book}
 use Rattle.core_journal.specs.Event.{pops, moves}
 use Rattle.core_journal.specs.Reuse.{pass_in}
 use Rattle.core_journal.specs.Right.{IsBookOf}
+use Rattle.core_counts.specs.Totals.{RaisesOnce}
 use Rattle.core_kept.specs.Counts.{made}
 use Rattle.core_kept.specs.Nodes.{node_in, IsFreshWith, IsLinkedEdge, IsSpentWith}
 use Rattle.core_rule.specs.Stretches.{HasNoFresh}
@@ -73,10 +74,14 @@ pub record HasNoEdgeOfSpent (v : View) : Type 0 where
 
 -- a hand is in order: its book is true of its front, so that each entry is right and framed and each own event that
 -- changes the graph has just one own entry; it took at most one node a use, and moved the epoch on at most three times
--- a use; and it has its nodes
+-- a use; it raised a counter once for each of some edges that are over, and for at most one that it gave up a use; and
+-- it has its nodes
 pub record IsInOrder (h : HandValue) : Type 0 where
   pub book : IsBookOf h.token.view.sizes h.token.view.front (book_of h.token.view)
   pub taken : made pops h.token.view.number h.token.view.front ≤ h.uses
   pub moved : made moves h.token.view.number h.token.view.front + moves_due h.token.view ≤ 3 * h.uses
   pub uses : h.uses ≤ 2 ^ 32
+  pub again : ℕ
+  pub given_up : again ≤ h.uses
+  pub raised : RaisesOnce h.token.view.front h.token.view.front h.token.view.number again []
   pub nodes : HasItsNodes h

@@ -1,11 +1,14 @@
 pub mod Adding
 pub mod Burying
 pub mod Calls
+pub mod EdgeLocating
+pub mod EdgeLooking
 pub mod Ending
 pub mod Hands
 pub mod Lending
 pub mod Locating
 pub mod Opening
+pub mod Pairs
 pub mod Parts
 pub mod Removing
 pub mod Replying

@@ -1,5 +1,5 @@
 -- What removing a vertex tells.
-use Rattle.std.specs.Prelude.{◌≡◌, ℕ, true, List}
+use Rattle.std.specs.Prelude.{◌≡◌, ℕ, true, List, false}
 use Rattle.graph_kinds.specs.declared.call.Call.TheVariants.{RemoveVertex}
 use Rattle.packed_link.specs.declared.link.Life.{Life}
 use Rattle.core_journal.specs.declared.event.Event.{Event}
@@ -14,14 +14,14 @@ use Rattle.graph_updates.specs.declared.removing.Removing.TheVariants as removin
 
 -- the vertex of the key was marked by this call
 pub record IsRemoved (key : ℕ) (old new : HandValue) (m : TokenValue) : Type 0 where
-  pub carries : CarriesOutBy (RemoveVertex key) 0 0 old.token.view new.token.view m.view.front
+  pub carries : CarriesOutBy false (RemoveVertex key) 0 0 old.token.view new.token.view m.view.front
   pub spare : new.spare ≡ old.spare
   pub nodes : HasItsNodes new
   pub uses : new.uses ≡ old.uses
 
 -- a vertex was present with the key at a moment, and is marked at the end, by another caller
 pub record WasMarkedMeanwhile (key : ℕ) (old new : HandValue) (x : Life) : Type 0 where
-  pub on : GoesOnBy old new
+  pub on : GoesOnBy false old new
   pub then : List Event
   pub there : HoldsBetween old.token.view.front new.token.view.front (Has key x) then
   pub marked : vertex_marked new.token.view.front x ≡ true
@@ -29,6 +29,6 @@ pub record WasMarkedMeanwhile (key : ℕ) (old new : HandValue) (x : Life) : Typ
 abbrev pub MatchRemoving : Removing → (key tries : ℕ) → HandValue → HandValue → Type 0
 MatchRemoving (removing.Marked m) key tries old new = IsRemoved key old new m.value
 MatchRemoving (removing.WasMarked x) key tries old new = WasMarkedMeanwhile key old new x
-MatchRemoving (removing.Gone q) key tries old new = GoesOnBy old new × WasGone key old.token.view new.token.view q
+MatchRemoving (removing.Gone q) key tries old new = GoesOnBy false old new × WasGone key old.token.view new.token.view q
 MatchRemoving removing.Again key tries old new =
-    GoesOnBy old new × Fell tries new.token.view.number old.token.view.front new.token.view.front
+    GoesOnBy false old new × Fell tries new.token.view.number old.token.view.front new.token.view.front

@@ -46,7 +46,7 @@ pub enum Adding {
 }
 
 /// The spare node, or else one that this call takes.
-fn node_for(table: &GraphTable, token: &mut Token, spare: Option<Fresh>) -> Taken
+pub(crate) fn node_for(table: &GraphTable, token: &mut Token, spare: Option<Fresh>) -> Taken
     requires table { IsOf table.now token.old }
     requires number { token.old.view.numbered ≡ true }
     requires spare { HoldsSpare spare token.old.view }

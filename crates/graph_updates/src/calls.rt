@@ -12,9 +12,7 @@ use crate::ending::{Begun, begin, finish};
 use crate::hand::Hand;
 use crate::locating::{Located, locate};
 use crate::removing::{Removing, remove};
-use crate::replying::{
-    Entered, reply, reply_again, reply_behind_mark, reply_full, reply_to_change,
-};
+use crate::replying::{Entered, reply, reply_after_mark, reply_again, reply_full, reply_to_change};
 use graph_kinds::{Call, Outcome};
 use graph_table::GraphTable;
 
@@ -138,7 +136,9 @@ pub fn remove_vertex(table: &GraphTable, hand: &mut Hand, key: u32, tries: u32) 
                 &moment,
             )
         }
-        Removing::WasMarked(life) => reply_behind_mark(table, hand, &entered, key, tries, life),
+        Removing::WasMarked(life) => {
+            reply_after_mark(table, hand, &entered, &call, tries, Outcome::Absent, life)
+        }
         Removing::Gone(gap) => {
             reply(
                 table,

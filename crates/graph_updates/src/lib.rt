@@ -7,11 +7,15 @@
 mod adding;
 mod burying;
 mod calls;
+mod edge_locating;
+mod edge_looking;
 mod ending;
 mod hand;
 mod laws;
 mod locating;
 mod opening;
+mod pair_calls;
+mod pairs;
 mod removing;
 mod replying;
 #[cfg(test)]
@@ -19,6 +23,7 @@ mod tests;
 
 pub use burying::bury;
 pub use calls::{add_vertex, has_vertex, remove_vertex};
+pub use edge_locating::{EdgeSought, seek_edge};
 pub use ending::{Begun, Settled, begin, finish, settle};
 pub use hand::Hand;
 pub use laws::{
@@ -27,3 +32,4 @@ pub use laws::{
 };
 pub use locating::{Located, Sought, locate, seek};
 pub use opening::{HandCause, HandRefused};
+pub use pair_calls::has_edge;

@@ -2,14 +2,16 @@
 
 ghost use Rattle.std.specs.Prelude.{◌≡◌};
 ghost use Rattle.graph_kinds.specs.Answer.{plain};
-ghost use Rattle.graph_kinds.specs.declared.call.Call.TheVariants.{RemoveVertex};
-ghost use Rattle.graph_kinds.specs.declared.outcome.Outcome.TheVariants.{Absent, Again, Full};
+ghost use Rattle.graph_kinds.specs.declared.outcome.Outcome.TheVariants.{Again, Full};
 ghost use Rattle.core_stretches.specs.Holdings.{HasNoPass};
 ghost use Rattle.graph_updates.specs.Calls.{HasAnswered};
 ghost use Rattle.graph_updates.specs.Hands.{IsHandOf, IsInOrder};
-ghost use Rattle.graph_updates.specs.Replying.{HasEnded, IsDueAgain, IsDueAt, IsDueAtMark, IsDueByChange, IsDueForFull};
+ghost use Rattle.graph_updates.specs.Pairs.{lack_outcome};
+ghost use Rattle.graph_updates.specs.Replying.{HasEnded, IsDueAgain, IsDueAt, IsDueAtEdgeMark, IsDueAtMark};
+ghost use Rattle.graph_updates.specs.Replying.{IsDueByChange, IsDueForFull, IsDueLacking};
 
 use crate::hand::Hand;
+use crate::pairs::Lack;
 use graph_kinds::{Call, Class, Outcome};
 use graph_table::{GraphTable, Token};
 use packed_link::Life;
@@ -188,36 +190,95 @@ pub(crate) fn reply_again(
     Outcome::Again
 }
 
-/// Answers Absent to the removal of a vertex that was found, right after the first mark of its life.
-pub(crate) fn reply_behind_mark(
+/// Answers a call that left the graph, right after the first mark of a vertex life that it found.
+pub(crate) fn reply_after_mark(
     table: &GraphTable,
     hand: &mut Hand,
     entered: &Entered,
-    key: u32,
+    call: &Call,
     tries: u32,
+    outcome: Outcome,
     life: Life,
 ) -> Outcome
     requires hand { IsHandOf table.now hand.old }
     requires order { IsInOrder entered.now }
     requires ended { HasEnded entered.now hand.old }
-    requires due { IsDueAtMark key entered.now.token.view hand.old.token.view life }
+    requires due { IsDueAtMark call.now outcome entered.now.token.view hand.old.token.view life }
     ensures hand { IsHandOf table.now hand.new }
     ensures order { IsInOrder hand.new }
     ensures closed { HasNoPass hand.new.token.view }
-    ensures outcome { result ≡ Absent }
-    ensures answered { HasAnswered (RemoveVertex key) tries (plain Absent) entered.now hand.new }
+    ensures outcome { result ≡ outcome }
+    ensures answered { HasAnswered call.now tries (plain outcome) entered.now hand.new }
 {
-    let call = Call::RemoveVertex { key };
     let token = &mut hand.token;
     let start = &entered.token;
-    table.reply_at_mark(
-        token,
-        &call,
-        tries,
-        Outcome::Absent,
-        Class::Silent,
-        start,
-        life,
-    );
-    Outcome::Absent
+    table.reply_after_mark(token, call, tries, outcome, start, life);
+    outcome
+}
+
+/// Answers a call that left the graph, right after the first mark of an edge life that it found.
+pub(crate) fn reply_after_edge_mark(
+    table: &GraphTable,
+    hand: &mut Hand,
+    entered: &Entered,
+    call: &Call,
+    tries: u32,
+    outcome: Outcome,
+    edge: Life,
+) -> Outcome
+    requires hand { IsHandOf table.now hand.old }
+    requires order { IsInOrder entered.now }
+    requires ended { HasEnded entered.now hand.old }
+    requires due { IsDueAtEdgeMark call.now outcome entered.now.token.view hand.old.token.view edge }
+    ensures hand { IsHandOf table.now hand.new }
+    ensures order { IsInOrder hand.new }
+    ensures closed { HasNoPass hand.new.token.view }
+    ensures outcome { result ≡ outcome }
+    ensures answered { HasAnswered call.now tries (plain outcome) entered.now hand.new }
+{
+    let token = &mut hand.token;
+    let start = &entered.token;
+    table.reply_after_edge_mark(token, call, tries, outcome, start, edge);
+    outcome
+}
+
+/// Answers a call on a pair that left the graph, by what the pair lacked: NoVertex or NoEdge.
+pub(crate) fn reply_lacking(
+    table: &GraphTable,
+    hand: &mut Hand,
+    entered: &Entered,
+    call: &Call,
+    tries: u32,
+    lack: Lack,
+) -> Outcome
+    requires hand { IsHandOf table.now hand.old }
+    requires order { IsInOrder entered.now }
+    requires ended { HasEnded entered.now hand.old }
+    requires due { IsDueLacking call.now entered.now.token.view hand.old.token.view lack }
+    ensures hand { IsHandOf table.now hand.new }
+    ensures order { IsInOrder hand.new }
+    ensures closed { HasNoPass hand.new.token.view }
+    ensures outcome { result ≡ lack_outcome lack }
+    ensures answered { HasAnswered call.now tries (plain (lack_outcome lack)) entered.now hand.new }
+{
+    match lack {
+        Lack::Key(gap) => {
+            let place = gap.moment();
+            reply(table, hand, entered, call, tries, Outcome::NoVertex, place)
+        }
+        Lack::Vertex(life) => {
+            reply_after_mark(table, hand, entered, call, tries, Outcome::NoVertex, life)
+        }
+        Lack::Edge(gap) => {
+            let place = gap.moment();
+            reply(table, hand, entered, call, tries, Outcome::NoEdge, place)
+        }
+        Lack::Stale(seen) => {
+            let place = &seen.moment;
+            reply(table, hand, entered, call, tries, Outcome::NoEdge, place)
+        }
+        Lack::Marked(edge) => {
+            reply_after_edge_mark(table, hand, entered, call, tries, Outcome::NoEdge, edge)
+        }
+    }
 }

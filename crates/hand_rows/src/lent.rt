@@ -11,7 +11,7 @@ ghost use Rattle.graph_table.specs.Tokens.{IsOf};
 ghost use Rattle.graph_updates.specs.Hands.{IsHandOf, IsInOrder};
 ghost use Rattle.hand_rows.specs.Lent.{IsLentOpen, IsFilledFor, MatchLooked};
 
-use graph_kinds::{Call, Class, Outcome};
+use graph_kinds::{Call, Outcome};
 use graph_table::{Fresh, GraphTable, Token};
 use graph_updates::{Begun, Hand, begin};
 use node_arena::{Taken, fill_vertex, take};
@@ -99,15 +99,7 @@ pub fn mark_or_answer(table: &GraphTable, token: &mut Token, key: u32, life: Lif
     match mark(table, token, life) {
         Marked::Won => false,
         Marked::Was => {
-            table.reply_at_mark(
-                token,
-                &call,
-                1,
-                Outcome::Absent,
-                Class::Silent,
-                &begun,
-                life,
-            );
+            table.reply_after_mark(token, &call, 1, Outcome::Absent, &begun, life);
             true
         }
     }

@@ -7,7 +7,8 @@ use crate::{
 use graph_kinds::Outcome;
 use graph_table::GraphTable;
 use graph_updates::{
-    Begun, Hand, HandCause, Settled, add_vertex, begin, finish, has_vertex, remove_vertex, settle,
+    Begun, Hand, HandCause, Settled, add_vertex, begin, finish, has_edge, has_vertex,
+    remove_vertex, settle,
 };
 use packed_link::Layout;
 use vertex_list::{Found, Linked};
@@ -26,6 +27,25 @@ fn one_hand_answers_as_the_graph_of_one_caller(rt: HostRuntime) {
     assert_eq!(rt; has_vertex(&table, &mut hand, 5, 1), Outcome::No);
     assert_eq!(rt; hand.uses(), 6);
     assert!(rt; !hand.has_spare());
+}
+
+#[test]
+fn a_pair_is_looked_up_by_both_its_keys(rt: HostRuntime) {
+    let (table, token) = GraphTable::new(rt.alloc(), Layout::new(1, 8, 1)).expect(&rt, "memory");
+    let Ok(mut hand) = Hand::new(rt.alloc(), &table, token) else {
+        panic!(rt; "a hand")
+    };
+    assert_eq!(rt; has_edge(&table, &mut hand, 5, 6, 1), Outcome::NoVertex);
+    assert_eq!(rt; add_vertex(&table, &mut hand, 5, 1), Outcome::Added);
+    assert_eq!(rt; has_edge(&table, &mut hand, 5, 6, 1), Outcome::NoVertex);
+    assert_eq!(rt; has_edge(&table, &mut hand, 6, 5, 1), Outcome::NoVertex);
+    assert_eq!(rt; has_edge(&table, &mut hand, 5, 5, 1), Outcome::NoEdge);
+    assert_eq!(rt; add_vertex(&table, &mut hand, 6, 1), Outcome::Added);
+    assert_eq!(rt; has_edge(&table, &mut hand, 5, 6, 1), Outcome::NoEdge);
+    assert_eq!(rt; has_edge(&table, &mut hand, 6, 5, 1), Outcome::NoEdge);
+    assert_eq!(rt; remove_vertex(&table, &mut hand, 5, 1), Outcome::Removed(0));
+    assert_eq!(rt; has_edge(&table, &mut hand, 5, 6, 1), Outcome::NoVertex);
+    assert_eq!(rt; hand.uses(), 10);
 }
 
 #[test]

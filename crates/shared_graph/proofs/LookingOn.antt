@@ -13,7 +13,7 @@ use Rattle.core_rule.specs.declared.view.View.{View}
 use Rattle.core_rule.proofs.AlikeViews.{retired_alike}
 use Rattle.core_stretches.specs.Holdings.{HasNoPass}
 use Rattle.core_stretches.specs.Makes.{Makes}
-use Rattle.core_stretches.proofs.MakesTell.{makes_goes, makes_later}
+use Rattle.core_stretches.proofs.MakesTell.{makes_goes, makes_later, makes_leaves}
 use Rattle.epoch_limbo.specs.Limbos.{LimboValue}
 use Rattle.graph_table.specs.Tokens.{IsOf, RipeValue, TableValue, TokenValue}
 use Rattle.graph_updates.specs.Hands.{HandValue, HasItsNodes, HoldsNoOther, HoldsSpare, IsHandOf, IsInOrder}
@@ -110,13 +110,13 @@ module _ (g : TableValue) (h : HandValue) (t : TokenValue) (k : IsHandOf g h) (o
   mid_order : HasNoPass v → IsInOrder h → IsInOrder (seeing h t mid)
   mid_order c o =
       let nodes : HasItsNodes (seeing h t mid) = nodes_go g h (seeing h t mid) k refl parts o.nodes in
-      let stretch : LeavesGraph 0 0 v mid = record {
+      let stretch : LeavesGraph false 0 0 v mid = record {
         own = [];
         makes = mid_makes;
-        leaves = tt;
+        leaves = λ z. makes_leaves v mid [] z tt mid_makes;
         takes = omega arith;
         shifts = omega arith;
-        raised = refl;
+        raised = λ _. refl;
       } in
       let due = due_closed mid (mid_closed c) in
       order_goes h (seeing h t mid) 0 0 k.of.layout stretch nodes (omega arith) (omega (arith, due)) o.uses o
@@ -129,6 +129,9 @@ module _ (g : TableValue) (h : HandValue) (t : TokenValue) (k : IsHandOf g h) (o
         taken = m.taken;
         moved = m.moved;
         uses = m.uses;
+        again = m.again;
+        given_up = m.given_up;
+        raised = m.raised;
         nodes = record {
           spent = record { each = m.nodes.spent.each };
           fresh = sight_other v t.view h.spare m.nodes.fresh;

@@ -1,4 +1,4 @@
-use Rattle.std.proofs.Common.{ℕ, arith, subst}
+use Rattle.std.proofs.Common.{ℕ, arith, subst, false}
 use Rattle.graph_updates.specs.Parts.{Fell}
 use Rattle.graph_updates.proofs.AddingAddsUp.{added_since, fell_since_first, full_since, goes_on_none, grows_since}
 use Rattle.graph_updates.proofs.AddingAddsUp.{leaves_made, on_since}
@@ -11,7 +11,7 @@ loop-moment-init c =
     record {
       adding = record {
         hand = c.requires.hand;
-        on = goes_on_none c.args.table.now h c.requires.hand c.requires.nodes;
+        on = goes_on_none false c.args.table.now h c.requires.hand c.requires.nodes;
         left = c.requires.some;
         fell = fell_none h.token.view.number h.token.view.front h.token.view.front;
       };
@@ -26,7 +26,7 @@ try_add-requires-clause-limit c =
     let h = c.args.hand.now in
     let k = c.loop-moment.hand in
     let on = c.loop-moment.invariant.adding.on in
-    let m = leaves_made on.taken 0 h.token.view k.token.view on.stretch in
+    let m = leaves_made false on.taken 0 h.token.view k.token.view on.stretch in
     let low = c.requires.limit in
     let few = on.spares in
     omega (arith, m, low, few)

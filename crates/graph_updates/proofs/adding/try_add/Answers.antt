@@ -1,4 +1,4 @@
-use Rattle.std.proofs.Common.{ap, arith}
+use Rattle.std.proofs.Common.{ap, arith, false}
 use Rattle.graph_updates.specs.Parts.{may_take}
 use Rattle.graph_updates.proofs.AddingAddsUp.{helped_on, leaves_made, tried_since}
 use Rattle.graph_updates.proofs.PartsLeave.{helps_leave}
@@ -19,7 +19,7 @@ returns-in-Here-clause-tried c =
     let k = c.find.new.hand in
     let e = c.in-Here.ensures in
     let n = c.requires.nodes in
-    (helped_on h k n e.helped, e.sought)
+    (helped_on false h k n e.helped, e.sought)
 
 pub returns-in-Lost-clause-pass : goal.returns-in-Lost-clause-pass
 returns-in-Lost-clause-pass c =
@@ -35,7 +35,7 @@ returns-in-Lost-clause-tried c =
     let k = c.find.new.hand in
     let e = c.in-Lost.ensures in
     let n = c.requires.nodes in
-    (helped_on h k n e.helped, e.sought)
+    (helped_on false h k n e.helped, e.sought)
 
 pub place_at-requires-clause-pass : goal.place_at-requires-clause-pass
 place_at-requires-clause-pass c =
@@ -59,7 +59,7 @@ place_at-requires-clause-limit c =
     let k = c.find.new.hand in
     let e = c.in-Gone.ensures in
     let n = c.requires.nodes in
-    let m = leaves_made 0 0 h.token.view k.token.view (helps_leave h.token.view k.token.view e.helped.helped.only) in
+    let m = leaves_made false 0 0 h.token.view k.token.view (helps_leave false h.token.view k.token.view e.helped.helped.only) in
     let low = c.requires.limit in
     let same = ap may_take e.helped.spare in
     omega (arith, m, low, same)

@@ -1,4 +1,4 @@
-use Rattle.std.proofs.Common.{◌≡◌, ◌-◌, ℕ, ap, arith, sym, subst}
+use Rattle.std.proofs.Common.{◌≡◌, ◌-◌, ℕ, ap, arith, sym, subst, false}
 use Rattle.graph_updates.specs.contracts.hand.Hand.{the_view}
 use Rattle.core_rule.specs.Stretches.{HasPass}
 use Rattle.graph_table.specs.Tokens.{TokenValue}
@@ -222,7 +222,7 @@ returns-in-Gone-clause-removed c =
     let opened : HasPass k.token.view = helps_pass o.token.view k.token.view c.requires.hand.of.layout
     e.helped.helped.only c.requires.pass in
     let n : HasItsNodes k = e.helped.nodes c.requires.nodes in
-    (helped_on o k c.requires.nodes e.helped, e.located.1)
+    (helped_on false o k c.requires.nodes e.helped, e.located.1)
 
 pub returns-clause-pass : goal.returns-clause-pass
 returns-clause-pass c =
@@ -246,7 +246,7 @@ returns-clause-removed c =
     let n : HasItsNodes k = e.helped.nodes c.requires.nodes in
     let same : c.locate.new.lost ≡ c.args.tries = e.located in
     let number = helped_number o k e.helped in (
-      helped_on o k c.requires.nodes e.helped,
+      helped_on false o k c.requires.nodes e.helped,
       subst (λ (m : ℕ). Fell m k.token.view.number o.token.view.front k.token.view.front) same
           (subst (λ (i : ℕ). Fell c.locate.new.lost i o.token.view.front k.token.view.front) (sym number)
           (lost_all c.locate.new.lost o.token.view.number o k e.fell)),

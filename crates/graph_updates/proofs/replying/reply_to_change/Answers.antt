@@ -11,6 +11,7 @@ use Rattle.graph_updates.proofs.EnteredHands.{began}
 use Rattle.graph_updates.proofs.EntriesRight.{carried_makes, change_ends}
 use Rattle.graph_updates.proofs.OwnChanges.{at_until}
 use Rattle.graph_updates.proofs.replying.reply_to_change.Goals as goal
+use Rattle.std.proofs.Common.{true}
 
 pub reply-requires-clause-start : goal.reply-requires-clause-start
 reply-requires-clause-start c =
@@ -34,7 +35,7 @@ reply-requires-clause-place c = λ other.
     let hand = subst (λ (h : HandValue). IsHandOf c.args.table.now h) (sym c.hand.view_is) c.requires.hand in
     let layout = subst IsLayout (makes_later old.token.view m _
     (carried_makes c.args.call.now 1 3 old.token.view m at d.stretch)).sizes hand.of.layout in
-    prefix_length at m.front (at_until c.args.call.now 1 3 old.token.view m at layout d.stretch)
+    prefix_length at m.front (at_until true c.args.call.now 1 3 old.token.view m at layout d.stretch)
 
 module _ (c : goal.After-reply) where
   ends : HasReplied c.args.table.now c.args.call.now c.args.tries (plain c.args.outcome) c.args.entered.now

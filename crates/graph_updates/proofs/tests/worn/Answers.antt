@@ -13,10 +13,14 @@ returns-clause-order c =
     let taken = h.taken in
     let moved = h.moved in
     let uses = h.uses in
+    let given_up = h.given_up in
     record {
       book = h.book;
       taken = omega (arith, taken, uses);
       moved = omega (arith, moved, uses);
       uses = omega arith;
+      again = h.again;
+      given_up = omega (arith, given_up, uses);
+      raised = h.raised;
       nodes = record { spent = h.nodes.spent; fresh = h.nodes.fresh };
     }
