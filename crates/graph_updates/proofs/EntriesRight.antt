@@ -15,7 +15,7 @@ use Rattle.graph_kinds.proofs.PlainAnswers.{not_again, not_full, not_overtaken, 
 use Rattle.packed_link.specs.Layout.{Sizes, IsLayout}
 use Rattle.packed_link.specs.declared.link.Life.{Life}
 use Rattle.core_journal.specs.declared.event.Event.{Event}
-use Rattle.core_journal.specs.Event.{moves, pops}
+use Rattle.core_journal.specs.Event.{moves, pops, raises}
 use Rattle.core_journal.specs.Foreign.{foreign}
 use Rattle.core_journal.specs.GraphOf.{changes, graph_of}
 use Rattle.core_journal.specs.Passing.{changes_made}
@@ -85,7 +85,7 @@ module _ (g : Graph) (call : Call) (reply : Answer) (is : reply ≡ answer g cal
   no_change h = ap is_change outcome_is ∙ h
 
 -- a prefix is one of each front that is as long
-prefix_within : (short long : List Event) (n : ℕ) → IsPrefix short long → length short ≤ n → IsPrefix short
+pub prefix_within : (short long : List Event) (n : ℕ) → IsPrefix short long → length short ≤ n → IsPrefix short
     (take n long)
 prefix_within [] long n p low = record { rest = take n long; whole = refl }
 prefix_within (e ∷ es) [] n p low = let w = p.whole in absurd (cc)
@@ -113,17 +113,20 @@ pub carried_makes : (call : Call) (a b : ℕ) (v w : View) (at : List Event) (h 
 carried_makes call a b v w at h = makes_chain v h.before w h.first.own (h.event ∷ [] ++ h.last.own) h.first.makes
     (makes_chain h.before h.done w (h.event ∷ []) h.last.own h.makes h.last.makes)
 
-few_carried : (call : Call) (v w : View) (at : List Event) (h : CarriesOutBy true call 1 3 v w at)
-    → AreFew (all_own call 1 3 v w at h)
-few_carried call v w at h =
-    let p = kinds_both pops h.first.own (h.event ∷ [] ++ h.last.own) in
-    let s = kinds_both moves h.first.own (h.event ∷ [] ++ h.last.own) in
-    let no_pop = ap (λ (b : Bool). cond {A = ℕ} b 1 0) h.unlike.0 in
-    let no_move = ap (λ (b : Bool). cond {A = ℕ} b 1 0) h.unlike.1.0 in
-    let ft = h.first.takes in
-    let fs = h.first.shifts in
-    let lt = h.last.takes in
-    let ls = h.last.shifts in
+-- the token made few events of some kinds in a stretch with one event of none of them
+pub few_parts : (v before done w : View) (event : Event) (first : LeavesGraph true 1 0 v before)
+    (last : LeavesGraph true 0 3 done w)
+    → (pops event.kind ≡ false) × ((moves event.kind ≡ false) × (raises event.kind ≡ false))
+    → AreFew (first.own ++ (event ∷ [] ++ last.own))
+few_parts v before done w event first last unlike =
+    let p = kinds_both pops first.own (event ∷ [] ++ last.own) in
+    let s = kinds_both moves first.own (event ∷ [] ++ last.own) in
+    let no_pop = ap (λ (b : Bool). cond {A = ℕ} b 1 0) unlike.0 in
+    let no_move = ap (λ (b : Bool). cond {A = ℕ} b 1 0) unlike.1.0 in
+    let ft = first.takes in
+    let fs = first.shifts in
+    let lt = last.takes in
+    let ls = last.shifts in
     record {
       takes = omega (arith, p, no_pop, ft, lt);
       shifts = omega (arith, s, no_move, fs, ls);
@@ -307,21 +310,21 @@ module _ (g : TableValue) (old now : HandValue) (t : TokenValue) (hand : IsHandO
       place_ends d.stretch call tries (plain outcome) start (before_edge_mark x m.front + 1) is_start r
       (omega (arith, number, since)) (omega (arith, number, short)) given.reply given.stays
 
-  -- a call that changed the graph
-  module _ (call : Call) (tries : ℕ) (outcome : Outcome) (start : ℕ) (at : List Event)
-      (is_start : start ≡ length v.front) (d : IsDueByChange call outcome v m at)
-      (r : Replied m (entry_of call tries (plain outcome) Own start (length at - 1)) w) where
+  -- a call that was carried out
+  module _ (call : Call) (tries : ℕ) (reply : Answer) (start : ℕ) (at : List Event)
+      (is_start : start ≡ length v.front) (stretch : CarriesOutBy true call 1 3 v m at)
+      (r : Replied m (entry_of call tries reply Own start (length at - 1)) w) (no_again : reply.outcome ≢ Again) where
     abbrev past : List Event
-    past = d.stretch.carries.past
+    past = stretch.carries.past
 
     abbrev own : List Event
-    own = all_own call 1 3 v m at d.stretch
+    own = all_own call 1 3 v m at stretch
 
     abbrev entry : Entry
-    entry = entry_by call tries (plain outcome) Own start (length at - 1) w.front
+    entry = entry_by call tries reply Own start (length at - 1) w.front
 
     makes : Makes v own m
-    makes = carried_makes call 1 3 v m at d.stretch
+    makes = carried_makes call 1 3 v m at stretch
 
     layout_v : IsLayout v.sizes
     layout_v = subst IsLayout (makes_later v m own makes).sizes hand.of.layout
@@ -333,64 +336,66 @@ module _ (g : TableValue) (old now : HandValue) (t : TokenValue) (hand : IsHandO
       order = order;
       ended = ended;
       makes = makes;
-      few = few_carried call v m at d.stretch;
+      few = few_parts v stretch.before stretch.done m stretch.event stretch.first stretch.last stretch.unlike;
     }
 
     number : w.number ≡ v.number
-    number = end_number g old now t own came call tries (plain outcome) Own start (length at - 1) r
+    number = end_number g old now t own came call tries reply Own start (length at - 1) r
 
     -- the entry stands at the event
     place_is : entry.place ≡ length past
     place_is =
-        let told = place_told outcome (length at - 1) (length w.front)
-        (no_again (graph_of past) call (plain outcome) d.reply) in
-        let n = at_length true call 1 3 v m at layout_v d.stretch in
+        let told = place_told reply.outcome (length at - 1) (length w.front) no_again in
+        let n = at_length true call 1 3 v m at layout_v stretch in
         omega (arith, told, n)
 
     before_end : length past < length w.front
-    before_end = get_short w.front (length past) d.stretch.event
-        (event_at true call 1 3 v m at layout_v d.stretch w.front r.grows)
+    before_end = get_short w.front (length past) stretch.event
+        (event_at true call 1 3 v m at layout_v stretch w.front r.grows)
 
     count : changes_made w.number w.front ≡ changes_made v.number v.front + 1
     count =
         let looked : OwnEvents Leaves m w = record {
           each = (own_look Leaves m (unbooked m w)
-              (reply_steps m (entry_of call tries (plain outcome) Own start (length at - 1)) w hand.numbered
+              (reply_steps m (entry_of call tries reply Own start (length at - 1)) w hand.numbered
               hand.of.sound r)).each;
         } in
         left_count m w r.grows (number ∙ sym (makes_later v m own makes).number) looked
-        ∙ carried_count true call 1 3 v m at layout_v d.stretch
+        ∙ carried_count true call 1 3 v m at layout_v stretch
 
     own_count : changes_made v.number w.front ≡ changes_made v.number v.front + 1
     own_count = ap (λ (n : ℕ). changes_made n w.front) (sym number) ∙ count
 
     taken_is : take entry.place w.front ≡ past
     taken_is = ap (λ (n : ℕ). take n w.front) place_is
-        ∙ event_past true call 1 3 v m at layout_v d.stretch w.front r.grows
+        ∙ event_past true call 1 3 v m at layout_v stretch w.front r.grows
 
-    own_right : RightOwn w.front w.number entry
-    own_right = record {
-      event = d.stretch.event;
+    taken_past : graph_at w.front entry.place ≡ graph_of past
+    taken_past = ap graph_of taken_is
+
+    own_right : OwnReply reply.outcome w.front w.number entry stretch.event → RightOwn w.front w.number entry
+    own_right told = record {
+      event = stretch.event;
       own = record {
-        at = subst (λ (n : ℕ). slice_get w.front n ≡ Some d.stretch.event) (sym place_is)
-            (event_at true call 1 3 v m at layout_v d.stretch w.front r.grows);
-        by = event_by true call 1 3 v m at layout_v d.stretch w.front r.grows ∙ sym number;
-        changing = subst (λ (n : ℕ). changes (take n w.front) d.stretch.event ≡ true) (sym place_is)
-            (event_turns true call 1 3 v m at layout_v d.stretch w.front r.grows);
-        leads = subst (λ (j : List Event). graph_of (j ++ d.stretch.event ∷ []) ≡ after (graph_of j) call)
-            (sym taken_is) (ap graph_of (sym d.stretch.carries.front) ∙ d.stretch.carries.leads);
+        at = subst (λ (n : ℕ). slice_get w.front n ≡ Some stretch.event) (sym place_is)
+            (event_at true call 1 3 v m at layout_v stretch w.front r.grows);
+        by = event_by true call 1 3 v m at layout_v stretch w.front r.grows ∙ sym number;
+        changing = subst (λ (n : ℕ). changes (take n w.front) stretch.event ≡ true) (sym place_is)
+            (event_turns true call 1 3 v m at layout_v stretch w.front r.grows);
+        leads = subst (λ (j : List Event). graph_of (j ++ stretch.event ∷ []) ≡ after (graph_of j) call)
+            (sym taken_is) (ap graph_of (sym stretch.carries.front) ∙ stretch.carries.leads);
       };
-      reply = own_reply outcome w.front w.number entry d.stretch.event
-          (no_overtaken (graph_of past) call (plain outcome) d.reply)
-          (d.reply ∙ ap (λ (j : List Event). answer (graph_of j) call) (sym taken_is));
+      reply = told;
     }
 
-    pub change_ends : HasReplied g call tries (plain outcome) old (with_token now t)
-    change_ends =
-        let since = prefix_length v.front past (past_since true call 1 3 v m at layout_v d.stretch) in
+    pub own_ends : reply.outcome ≢ Worn → (reply.outcome ≢ Overtaken → is_change reply.outcome ≡ true)
+        → OwnReply reply.outcome w.front w.number entry stretch.event
+        → HasReplied g call tries reply old (with_token now t)
+    own_ends unworn does told =
+        let since = prefix_length v.front past (past_since true call 1 3 v m at layout_v stretch) in
         let short = before_end in
         let is = place_is in
-        call_ends g old now t own came call tries (plain outcome) Own start (length at - 1) r is_start
+        call_ends g old now t own came call tries reply Own start (length at - 1) r is_start
         (record {
           frame = record {
             apart = omega (arith, is_start);
@@ -399,13 +404,29 @@ module _ (g : TableValue) (old now : HandValue) (t : TokenValue) (hand : IsHandO
             within = omega arith;
             before = λ h. omega (arith, is, short);
           };
-          right = own_right;
+          right = own_right told;
           only = λ p event far stands by turns. record {
             class = refl;
-            place = is ∙ sym (only_there true call 1 3 v m at layout_v d.stretch w.front r.grows own_count p event far
+            place = is ∙ sym (only_there true call 1 3 v m at layout_v stretch w.front r.grows own_count p event far
                 stands by turns);
           };
-          unworn = no_worn (graph_of past) call (plain outcome) d.reply;
+          unworn = unworn;
           changed = let more = count in omega (arith, more);
-          told = λ _. sym d.changes;
+          told = λ other. sym (does other);
         })
+
+  -- a call that changed the graph is answered as the graph gives it before its event
+  pub change_ends : (call : Call) (tries : ℕ) (outcome : Outcome) (start : ℕ) (at : List Event)
+      → start ≡ length v.front → (d : IsDueByChange call outcome v m at)
+      → Replied m (entry_of call tries (plain outcome) Own start (length at - 1)) w
+      → HasReplied g call tries (plain outcome) old (with_token now t)
+  change_ends call tries outcome start at is_start d r =
+      let before : Graph = graph_of d.stretch.carries.past in
+      let going = no_again before call (plain outcome) d.reply in
+      own_ends call tries (plain outcome) start at is_start d.stretch r going
+      (no_worn before call (plain outcome) d.reply) (λ _. d.changes)
+      (own_reply outcome w.front w.number
+      (entry_by call tries (plain outcome) Own start (length at - 1) w.front) d.stretch.event
+      (no_overtaken before call (plain outcome) d.reply)
+      (d.reply ∙ ap (λ (x : Graph). answer x call)
+      (sym (taken_past call tries (plain outcome) start at is_start d.stretch r going))))

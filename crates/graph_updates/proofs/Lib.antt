@@ -5,11 +5,14 @@ pub mod BurialLists
 pub mod BurialSteps
 pub mod CallsEnd
 pub mod CallsGo
+pub mod EdgeMarkingTells
+pub mod EdgeRemovingTells
 pub mod EdgeSeekingSteps
 pub mod EndingTells
 pub mod EndsTell
 pub mod EnteredHands
 pub mod EntriesRight
+pub mod ExchangesEnd
 pub mod GivingTells
 pub mod HandsHelp
 pub mod HandsStay
@@ -17,6 +20,7 @@ pub mod LocatingTells
 pub mod LookingTells
 pub mod MarkPlaces
 pub mod NewHands
+pub mod Overtaking
 pub mod OwnChanges
 pub mod PairAnswers
 pub mod PairsTell

@@ -22,11 +22,11 @@ use Rattle.core_lists.proofs.MarksTakeAway.{mark_gone}
 use Rattle.core_stretches.specs.Moments.{Has, HoldsBetween}
 use Rattle.graph_table.specs.Table.{before_edge_mark, before_mark}
 
-first_false : (a b : Bool) → (a || b) ≡ false → a ≡ false
+pub first_false : (a b : Bool) → (a || b) ≡ false → a ≡ false
 first_false false b h = refl
 first_false true b h = absurd (cc)
 
-second_false : (a b : Bool) → (a || b) ≡ false → b ≡ false
+pub second_false : (a b : Bool) → (a || b) ≡ false → b ≡ false
 second_false false b h = h
 second_false true b h = absurd (cc)
 
@@ -62,7 +62,7 @@ edge_before_is x (d ∷ ds) (suc n) e at cuts life none =
     ap (λ (b : Bool). cond {A = ℕ} b 0 (1 + before_edge_mark x ds)) not_here ∙ omega (arith, more)
 
 -- a test that an element passes
-any_here : (test : Event → Bool) (journal : List Event) (n : ℕ) (e : Event) → slice_get journal n ≡ Some e
+pub any_here : (test : Event → Bool) (journal : List Event) (n : ℕ) (e : Event) → slice_get journal n ≡ Some e
     → test e ≡ true → list_any test journal ≡ true
 any_here test [] n e at h = absurd (cc)
 any_here test (d ∷ ds) zero e at h =

@@ -20,7 +20,7 @@ use Rattle.core_journal.proofs.Regular.{changes_yes}
 use Rattle.core_rule.specs.Stretches.{Leaves, Own}
 use Rattle.core_rule.specs.Views.{Steps}
 use Rattle.core_rule.specs.declared.view.View.{View}
-use Rattle.core_rule.proofs.OwnStretch.{own_look}
+use Rattle.core_rule.proofs.OwnStretch.{own_chain, own_event, own_look}
 use Rattle.core_rule.proofs.ViewShows.{step_view}
 use Rattle.core_stretches.specs.Makes.{Makes}
 use Rattle.core_stretches.specs.Moments.{Carries}
@@ -56,8 +56,9 @@ left_count v w p number o = ap (λ (n : ℕ). changes_made n w.front) number
 pub leaves_own : (r : Bool) (a b : ℕ) (v w : View) → IsLayout v.sizes → LeavesGraph r a b v w → Own Leaves v w
 leaves_own r a b v w z h = h.leaves z
 
-module _ (before done : View) (call : Call) (event : Event) (makes : Makes before (event ∷ []) done)
-    (c : Carries call event done) where
+-- an own event with which a front ends stands behind a past in which no other own one stands since the view before it
+module _ (before done : View) (event : Event) (makes : Makes before (event ∷ []) done) (past : List Event)
+    (front : done.front ≡ past ++ event ∷ []) (by : event.caller ≡ done.number) where
   -- the view right after the event, and the steps to it and from it
   abbrev then : View
   then = makes.steps.0
@@ -74,8 +75,8 @@ module _ (before done : View) (call : Call) (event : Event) (makes : Makes befor
   then_length : length then.front ≡ length step.grown + 1
   then_length = ap length step.front ∙ length-append step.grown (event ∷ [])
 
-  done_length : length done.front ≡ length c.past + 1
-  done_length = ap length c.front ∙ length-append c.past (event ∷ [])
+  done_length : length done.front ≡ length past + 1
+  done_length = ap length front ∙ length-append past (event ∷ [])
 
   same_number : done.number ≡ before.number
   same_number = (makes_later before done (event ∷ []) makes).number
@@ -84,41 +85,41 @@ module _ (before done : View) (call : Call) (event : Event) (makes : Makes befor
   then_number = (step_view before then (Some event) step).1
 
   -- the event is the last of the view's front
-  last_at : slice_get done.front (length c.past) ≡ Some event
-  last_at = subst (λ (l : List Event). slice_get l (length c.past) ≡ Some event) (sym c.front)
-      (get_here c.past event [])
+  pub last_at : slice_get done.front (length past) ≡ Some event
+  last_at = subst (λ (l : List Event). slice_get l (length past) ≡ Some event) (sym front)
+      (get_here past event [])
 
-  past_length : length c.past ≡ length step.grown
+  past_length : length past ≡ length step.grown
   past_length =
       let longer = prefix_length then.front done.front done_later in
       let n = then_length in
       let m = done_length in
       ⊎_elim
-      (λ (low : length c.past < length then.front). omega (arith, low, longer, n, m))
-      (λ (high : length then.front ≤ length c.past). absurd ((own_look (λ _ _. ⊥) then done look).each (length c.past)
-      event high last_at (c.by ∙ (same_number ∙ sym then_number))))
-      (cases_lt (length c.past) (length then.front))
+      (λ (low : length past < length then.front). omega (arith, low, longer, n, m))
+      (λ (high : length then.front ≤ length past). absurd ((own_look (λ _ _. ⊥) then done look).each (length past)
+      event high last_at (by ∙ (same_number ∙ sym then_number))))
+      (cases_lt (length past) (length then.front))
 
-  past_is : c.past ≡ step.grown
+  past_is : past ≡ step.grown
   past_is =
       let p = done_later in
-      let low : length c.past ≤ length then.front = omega (arith, past_length, then_length) in
+      let low : length past ≤ length then.front = omega (arith, past_length, then_length) in
       let short : length step.grown ≤ length (step.grown ++ event ∷ []) = omega (
         arith,
         length-append step.grown
             (event ∷ []),
       ) in
-      sym (take_here c.past (event ∷ []))
-      ∙ (ap (take (length c.past)) (sym c.front ∙ sym p.whole)
-      ∙ (take_front then.front p.rest (length c.past) low
+      sym (take_here past (event ∷ []))
+      ∙ (ap (take (length past)) (sym front ∙ sym p.whole)
+      ∙ (take_front then.front p.rest (length past) low
       ∙ (ap (λ (n : ℕ). take n then.front) past_length
       ∙ (ap (take (length step.grown)) step.front ∙ take_here step.grown (event ∷ [])))))
 
   -- the view with the front right before the event
   abbrev pub until : View
-  until = record before { front = c.past }
+  until = record before { front = past }
 
-  pub until_grows : IsPrefix before.front c.past
+  pub until_grows : IsPrefix before.front past
   until_grows = subst (IsPrefix before.front) (sym past_is) step.reaches.front
 
   -- no own event stands between
@@ -129,9 +130,17 @@ module _ (before done : View) (call : Call) (event : Event) (makes : Makes befor
         (subst (λ (l : List Event). slice_get l k ≡ Some e) past_is at) by);
   }
 
-  pub past_within : IsPrefix c.past done.front
-  past_within = record { rest = event ∷ []; whole = sym c.front }
+  pub past_within : IsPrefix past done.front
+  past_within = record { rest = event ∷ []; whole = sym front }
 
+  -- if it leaves the graph, all own events up to it do
+  pub leaves_there : changes past event ≡ false → Own Leaves before done
+  leaves_there none = own_chain Leaves before then done then_number done_later
+      (own_event Leaves before then event step (subst (λ (l : List Event). changes l event ≡ false) past_is none))
+      (own_look Leaves then done look)
+
+module _ (before done : View) (call : Call) (event : Event) (makes : Makes before (event ∷ []) done)
+    (c : Carries call event done) where
   pub turned : changes c.past event ≡ true
   turned = changes_yes c.past event (λ same. altered (graph_of c.past) call c.alters
       (sym c.leads ∙ (ap graph_of c.front ∙ same)))
@@ -139,12 +148,13 @@ module _ (before done : View) (call : Call) (event : Event) (makes : Makes befor
   -- one change more
   pub one_count : changes_made done.number done.front ≡ changes_made before.number before.front + 1
   one_count =
-      let by : event.caller ≡ before.number = c.by ∙ same_number in
+      let by : event.caller ≡ before.number = c.by ∙ same_number before done event makes c.past c.front c.by in
       let one : changes_made before.number (c.past ++ event ∷ []) ≡ changes_made before.number c.past + 1 = passing_one
       (is_own_change before.number) c.past event (own_change before.number c.past event by turned) in
       let until_same : changes_made before.number c.past ≡ changes_made before.number before.front = left_count before
-      until until_grows refl until_leaves in
-      ap (λ (n : ℕ). changes_made n done.front) same_number
+      (until before done event makes c.past c.front c.by) (until_grows before done event makes c.past c.front c.by) refl
+      (until_leaves before done event makes c.past c.front c.by) in
+      ap (λ (n : ℕ). changes_made n done.front) (same_number before done event makes c.past c.front c.by)
       ∙ (ap (changes_made before.number) c.front ∙ (one ∙ ap (λ (n : ℕ). n + 1) until_same))
 
 -- in a stretch that carries a call out the caller changed the graph once
@@ -155,11 +165,11 @@ module _ (r : Bool) (call : Call) (a b : ℕ) (v m : View) (at : List Event) (z 
 
   pub past_since : IsPrefix v.front h.carries.past
   past_since = prefix_trans v.front h.before.front h.carries.past first_later
-      (until_grows h.before h.done call h.event h.makes h.carries)
+      (until_grows h.before h.done h.event h.makes h.carries.past h.carries.front h.carries.by)
 
   pub past_until : IsPrefix h.carries.past m.front
   past_until = prefix_trans h.carries.past h.done.front m.front
-      (past_within h.before h.done call h.event h.makes h.carries)
+      (past_within h.before h.done h.event h.makes h.carries.past h.carries.front h.carries.by)
       (makes_later h.done m h.last.own h.last.makes).grows
 
   pub at_until : IsPrefix at m.front
@@ -194,7 +204,7 @@ module _ (r : Bool) (call : Call) (a b : ℕ) (v m : View) (at : List Event) (z 
     pub event_at : slice_get journal (length h.carries.past) ≡ Some h.event
     event_at = subst (λ (l : List Event). slice_get l (length h.carries.past) ≡ Some h.event) long.whole
         (get_front h.done.front long.rest (length h.carries.past) h.event
-        (last_at h.before h.done call h.event h.makes h.carries))
+        (last_at h.before h.done h.event h.makes h.carries.past h.carries.front h.carries.by))
 
     pub event_past : take (length h.carries.past) journal ≡ h.carries.past
     event_past =

@@ -3,7 +3,10 @@ pub mod Burying
 pub mod Calls
 pub mod EdgeLocating
 pub mod EdgeLooking
+pub mod EdgeRaises
+pub mod EdgeRemoving
 pub mod Ending
+pub mod Exchanges
 pub mod Hands
 pub mod Lending
 pub mod Locating

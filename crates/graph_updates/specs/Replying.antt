@@ -13,9 +13,11 @@ use Rattle.core_journal.specs.Right.{NoneFree}
 use Rattle.core_rule.specs.declared.view.View.{View}
 use Rattle.core_stretches.specs.Holdings.{HasNoPass}
 use Rattle.core_stretches.specs.Moments.{Has, HoldsBetween}
+use Rattle.graph_updates.specs.Exchanges.{IsCallOn, IsOvertakenOn}
 use Rattle.graph_updates.specs.Hands.{HandValue, HasItsNodes}
 use Rattle.graph_updates.specs.Pairs.{LacksBy, MatchLack, lack_outcome}
 use Rattle.graph_updates.specs.Parts.{CarriesOutBy, Fell, LeavesGraph, RaisesDone}
+use Rattle.graph_updates.specs.declared.pairs.Ends.{Ends}
 use Rattle.graph_updates.specs.declared.pairs.Lack.{Lack}
 
 -- a call that began at one hand has come to its end but for the reply: its pass is closed, the hand has its nodes, it
@@ -86,3 +88,10 @@ pub record IsDueLacking (call : Call) (v w : View) (lack : Lack) : Type 0 where
   pub to : ℕ
   pub lacks : MatchLack lack from to v w
   pub gives : (journal : List Event) → LacksBy lack from to journal → GivesAnswer call (lack_outcome lack) journal
+
+-- a call on an edge won its exchange, and one of its ends is over
+pub record IsDueOvertaken (call : Call) (v w : View) (at : List Event) (ends : Ends) : Type 0 where
+  pub from : ℕ
+  pub to : ℕ
+  pub call_is : IsCallOn call from to
+  pub on : IsOvertakenOn call from to ends 1 3 v w at

@@ -9,6 +9,7 @@ mod burying;
 mod calls;
 mod edge_locating;
 mod edge_looking;
+mod edge_removing;
 mod ending;
 mod hand;
 mod laws;
@@ -32,4 +33,4 @@ pub use laws::{
 };
 pub use locating::{Located, Sought, locate, seek};
 pub use opening::{HandCause, HandRefused};
-pub use pair_calls::has_edge;
+pub use pair_calls::{has_edge, remove_edge};

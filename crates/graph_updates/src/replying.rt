@@ -2,16 +2,16 @@
 
 ghost use Rattle.std.specs.Prelude.{◌≡◌};
 ghost use Rattle.graph_kinds.specs.Answer.{plain};
-ghost use Rattle.graph_kinds.specs.declared.outcome.Outcome.TheVariants.{Again, Full};
+ghost use Rattle.graph_kinds.specs.declared.outcome.Outcome.TheVariants.{Again, Full, Overtaken};
 ghost use Rattle.core_stretches.specs.Holdings.{HasNoPass};
 ghost use Rattle.graph_updates.specs.Calls.{HasAnswered};
 ghost use Rattle.graph_updates.specs.Hands.{IsHandOf, IsInOrder};
 ghost use Rattle.graph_updates.specs.Pairs.{lack_outcome};
 ghost use Rattle.graph_updates.specs.Replying.{HasEnded, IsDueAgain, IsDueAt, IsDueAtEdgeMark, IsDueAtMark};
-ghost use Rattle.graph_updates.specs.Replying.{IsDueByChange, IsDueForFull, IsDueLacking};
+ghost use Rattle.graph_updates.specs.Replying.{IsDueByChange, IsDueForFull, IsDueLacking, IsDueOvertaken};
 
 use crate::hand::Hand;
-use crate::pairs::Lack;
+use crate::pairs::{Ends, Lack};
 use graph_kinds::{Call, Class, Outcome};
 use graph_table::{GraphTable, Token};
 use packed_link::Life;
@@ -281,4 +281,32 @@ pub(crate) fn reply_lacking(
             reply_after_edge_mark(table, hand, entered, call, tries, Outcome::NoEdge, edge)
         }
     }
+}
+
+/// Answers Overtaken to a call that won its exchange on an edge, one of whose ends is over by now: at the exchange, or at
+/// the mark of an end if that came first.
+pub(crate) fn reply_overtaken(
+    table: &GraphTable,
+    hand: &mut Hand,
+    entered: &Entered,
+    call: &Call,
+    tries: u32,
+    ends: Ends,
+    exchange: &Snapshot<Token>,
+) -> Outcome
+    requires hand { IsHandOf table.now hand.old }
+    requires order { IsInOrder entered.now }
+    requires ended { HasEnded entered.now hand.old }
+    requires due { IsDueOvertaken call.now entered.now.token.view hand.old.token.view exchange.now.value.view.front
+        ends }
+    ensures hand { IsHandOf table.now hand.new }
+    ensures order { IsInOrder hand.new }
+    ensures closed { HasNoPass hand.new.token.view }
+    ensures outcome { result ≡ Overtaken }
+    ensures answered { HasAnswered call.now tries (plain Overtaken) entered.now hand.new }
+{
+    let token = &mut hand.token;
+    let start = &entered.token;
+    table.reply_overtaken(token, call, tries, start, exchange, ends.from, ends.to);
+    Outcome::Overtaken
 }

@@ -7,7 +7,7 @@ use crate::{
 use graph_kinds::Outcome;
 use graph_table::GraphTable;
 use graph_updates::{
-    Begun, Hand, HandCause, Settled, add_vertex, begin, finish, has_edge, has_vertex,
+    Begun, Hand, HandCause, Settled, add_vertex, begin, finish, has_edge, has_vertex, remove_edge,
     remove_vertex, settle,
 };
 use packed_link::Layout;
@@ -36,6 +36,7 @@ fn a_pair_is_looked_up_by_both_its_keys(rt: HostRuntime) {
         panic!(rt; "a hand")
     };
     assert_eq!(rt; has_edge(&table, &mut hand, 5, 6, 1), Outcome::NoVertex);
+    assert_eq!(rt; remove_edge(&table, &mut hand, 5, 6, 1), Outcome::NoVertex);
     assert_eq!(rt; add_vertex(&table, &mut hand, 5, 1), Outcome::Added);
     assert_eq!(rt; has_edge(&table, &mut hand, 5, 6, 1), Outcome::NoVertex);
     assert_eq!(rt; has_edge(&table, &mut hand, 6, 5, 1), Outcome::NoVertex);
@@ -43,9 +44,11 @@ fn a_pair_is_looked_up_by_both_its_keys(rt: HostRuntime) {
     assert_eq!(rt; add_vertex(&table, &mut hand, 6, 1), Outcome::Added);
     assert_eq!(rt; has_edge(&table, &mut hand, 5, 6, 1), Outcome::NoEdge);
     assert_eq!(rt; has_edge(&table, &mut hand, 6, 5, 1), Outcome::NoEdge);
+    assert_eq!(rt; remove_edge(&table, &mut hand, 6, 5, 1), Outcome::NoEdge);
+    assert_eq!(rt; remove_edge(&table, &mut hand, 5, 5, 1), Outcome::NoEdge);
     assert_eq!(rt; remove_vertex(&table, &mut hand, 5, 1), Outcome::Removed(0));
     assert_eq!(rt; has_edge(&table, &mut hand, 5, 6, 1), Outcome::NoVertex);
-    assert_eq!(rt; hand.uses(), 10);
+    assert_eq!(rt; hand.uses(), 13);
 }
 
 #[test]
