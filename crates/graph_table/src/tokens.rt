@@ -103,7 +103,8 @@ impl GraphTable {
 
     /// Adds a silent entry without keys whose place is right after another caller's event: the first mark of a vertex
     /// life that stands in the token's front. In O(1), by one load; it makes no event. The entry starts where the token
-    /// stood at `start`, and ends at the length of the new front. Start and life are for contracts alone. For the caller
+    /// stood at `start`, and ends at the length of the new front. Start and life are for contracts alone. For the
+    /// caller
     /// that finds a vertex marked, not by itself: no moment of its own lies there.
     pub fn reply_after_mark(
         &self,
@@ -186,7 +187,8 @@ impl GraphTable {
     /// an edge between two vertex lives as the last event of the front at `exchange`, and by now one of the two is
     /// marked. Where neither was marked before the exchange, the entry is an own one and stands at the exchange; else
     /// it's a late one and stands at the first mark of either. It starts where the token stood at `start`, and ends at
-    /// the length of the new front. All but the call and its tries are for contracts alone: a caller that finds a vertex
+    /// the length of the new front. All but the call and its tries are for contracts alone: a caller that finds a
+    /// vertex
     /// marked can't tell which came first.
     pub fn reply_overtaken(
         &self,

@@ -335,7 +335,8 @@ module _ (old begun now : HandValue) (o : IsInOrder old) (few : old.uses < 2 ^ 3
       (RemoveVertex key) 0 now.token.view m.value.view.front h.carries
   removing_moves (removing.WasMarked y) key tries h = may_move old begun.token.view o few opened false h.on.taken
       now.token.view h.on.stretch
-  removing_moves (removing.Gone q) key tries h = may_move old begun.token.view o few opened false h.0.taken now.token.view
+  removing_moves (removing.Gone q) key tries h = may_move old begun.token.view o few opened false h.0.taken
+      now.token.view
       h.0.stretch
   removing_moves removing.Again key tries h = may_move old begun.token.view o few opened false h.0.taken now.token.view
       h.0.stretch

@@ -1,4 +1,5 @@
--- What marking an edge tells for which its source's counter was raised: what the hand keeps, what the caller raised, and
+-- What marking an edge tells for which its source's counter was raised: what the hand keeps, what the caller raised,
+-- and
 -- what fell.
 use Rattle.std.proofs.Common.{◌≡◌, ◌≢◌, ℕ, zero, suc, ◌<◌, Bool, true, false, List, [], ◌∷◌, ◌++◌, length}
 use Rattle.std.proofs.Common.{None, Some, inl, refl, sym, ap, ◌∙◌, subst, arith}
@@ -223,7 +224,8 @@ module _ (source : Life) (edge : Edge) (moment : List Event) (v t u : View) (fou
       let to_there = prefix_trans start v.front there.front to_v (step_view v there (Some raise_of) step).4 in
       let to_u = prefix_trans start there.front u.front to_there grows in
       let first = once_stays v.number again [] start v.front before step.reaches.front none_before o in
-      let one : RaisesOnce start (before ++ raise_of ∷ []) v.number again (edge.life ∷ []) = once_raise v.number again []
+      let one : RaisesOnce start (before ++ raise_of ∷ []) v.number again (edge.life ∷ []) = once_raise v.number again
+      []
       start before raise_of edge.life to_before (not_over start p live) (none_of (λ (y : Life). edge.life ≢ y)) first in
       let raised : RaisesOnce start there.front v.number again (edge.life ∷ []) = subst
       (λ (l : List Event). RaisesOnce start l v.number again (edge.life ∷ [])) (sym step.front) one in
@@ -299,7 +301,9 @@ module _ (g : TableValue) (h : HandValue) (t u : TokenValue) (source : Life) (s 
       (((λ is. absurd (cc)), (λ is. absurd (cc))), tt)
       (edge_place_not_third true v _ source.index of.of.layout seen.position, tt) whole seen in
       let changed = seen_changed u.view source s.edge moment now.layout now.sound.kept later dead in
-      record { least = change_counts moment u.view.front u.view.number (link_at u.view.sizes s.edge.life.index) changed }
+      record {
+        least = change_counts moment u.view.front u.view.number (link_at u.view.sizes s.edge.life.index) changed;
+      }
 
   as_seen : IsEdgeMarked r t.view u.view → IsEdgeMarked (record { source = source; edge = s.edge }) t.view u.view
   as_seen w =

@@ -36,7 +36,8 @@ use Rattle.edge_list.proofs.EdgesTellPairs.{has_pair, pair_gone}
 use Rattle.graph_table.specs.Tokens.{TableValue, TokenValue}
 use Rattle.graph_updates.specs.EdgeLooking.{LacksWith}
 use Rattle.graph_updates.specs.EdgeRaises.{HasRaised, RaisesKept}
-use Rattle.graph_updates.specs.EdgeRemoving.{IsEdgeRemoved, IsMarkedOnce, IsPairSeen, MatchEdgeRemoveTried, MatchPairMarked}
+use Rattle.graph_updates.specs.EdgeRemoving.{IsEdgeRemoved, IsMarkedOnce, IsPairSeen, MatchEdgeRemoveTried}
+use Rattle.graph_updates.specs.EdgeRemoving.{MatchPairMarked}
 use Rattle.graph_updates.specs.EdgeRemoving.{GoesOnBare, RaisesSince, WasMarkedOnce}
 use Rattle.graph_updates.specs.Exchanges.{IsOnPair, IsOvertakenBy}
 use Rattle.graph_updates.specs.Hands.{HandValue, HasItsNodes, IsHandOf}
@@ -47,9 +48,11 @@ use Rattle.graph_updates.specs.declared.pairs.Lack.{Lack}
 use Rattle.graph_updates.specs.declared.pairs.Lack.TheVariants as lacks
 use Rattle.graph_updates.specs.declared.edge_removing.EdgeRemoveTried.{EdgeRemoveTried}
 use Rattle.graph_updates.specs.declared.edge_removing.EdgeRemoveTried.TheVariants as tried
-use Rattle.graph_updates.proofs.AddingAddsUp.{fell_since, goes_on_chain, helped_on, leaves_grows, leaves_none, leaves_number}
+use Rattle.graph_updates.proofs.AddingAddsUp.{fell_since, goes_on_chain, helped_on, leaves_grows, leaves_none}
+use Rattle.graph_updates.proofs.AddingAddsUp.{leaves_number}
 use Rattle.graph_updates.proofs.EndsTell.{mark_later}
-use Rattle.graph_updates.proofs.LocatingTells.{between_earlier, between_later, fell_as, fell_both, fell_none, helped_grows}
+use Rattle.graph_updates.proofs.LocatingTells.{between_earlier, between_later, fell_as, fell_both, fell_none}
+use Rattle.graph_updates.proofs.LocatingTells.{helped_grows}
 use Rattle.graph_updates.proofs.PairsTell.{from_linked, lack_told, linked_since, located_grows, present_then}
 use Rattle.graph_updates.proofs.PairsTell.{to_linked, unmarked_since}
 use Rattle.graph_updates.proofs.PartsLeave.{helps_leave, leaves_chain}
@@ -262,7 +265,8 @@ module _ (a b : ℕ) (ends : Ends) (s : EdgeSighting) (old h : HandValue) (q : I
                 last = helps_leave true k.token.view n.token.view then.helped.only;
               };
               from_then = e.from_then;
-              from_there = between_later (Has a ends.from) old.token.view.front q.mid.front mo.before.front e.from_then up
+              from_there = between_later (Has a ends.from) old.token.view.front q.mid.front mo.before.front e.from_then
+                  up
                   e.from_there;
               to_then = e.to_then;
               to_there = between_later (Has b ends.to) old.token.view.front q.mid.front mo.before.front e.to_then up
@@ -301,8 +305,10 @@ module _ (a b : ℕ) (ends : Ends) (s : EdgeSighting) (old h : HandValue) (q : I
             to = key_of_life (take (n + 1) now.front) ends.to b (present_then q.mid.front (take (n + 1) now.front)
                 now.front behind (prefix_take now.front (n + 1)) ends.to b tk to);
             none = g.gone a b
-                (present_then q.mid.front (take n now.front) now.front up_to (prefix_take now.front n) ends.from a fk from)
-                (ap (present_key (take n now.front)) q.target ∙ present_then q.mid.front (take n now.front) now.front up_to
+                (present_then q.mid.front (take n now.front) now.front up_to (prefix_take now.front n) ends.from a fk
+                from)
+                (ap (present_key (take n now.front)) q.target ∙ present_then q.mid.front (take n now.front) now.front
+                up_to
                 (prefix_take now.front n) ends.to b tk to);
           };
         }
@@ -316,7 +322,8 @@ module _ (a b : ℕ) (ends : Ends) (s : EdgeSighting) (old h : HandValue) (q : I
         let all = prefix_trans q.mid.front k.token.view.front n.token.view.front
         (prefix_trans q.mid.front h.token.view.front k.token.view.front on_to later) more in (
           goes_on_chain true old k n so_far (helped_on true k n w.on.nodes then),
-          lack_told a b old.token.view q.mid n.token.view ends q.ends_are all k.token.view l (lacks.Marked s.edge.life) told
+          lack_told a b old.token.view q.mid n.token.view ends q.ends_are all k.token.view l (lacks.Marked s.edge.life)
+              told
               (λ from to. pair_cut_later a b old.token.view k.token.view n.token.view s.edge.life more
               (was_cut w from to)),
         )
@@ -372,7 +379,8 @@ pub since_then : (source : Life) (moment : List Event) (old mid new : HandValue)
     → RaisesSince source moment old.token.view new.token.view
 since_then source moment old mid new r h = record {
   each = λ start again early live o. kept again
-      ((raised_left 0 0 mid.token.view new.token.view (helps_leave false mid.token.view new.token.view h.helped.only)).each
+      ((raised_left 0 0 mid.token.view new.token.view
+      (helps_leave false mid.token.view new.token.view h.helped.only)).each
       again (r.each start again early live o));
 }
   where
@@ -457,7 +465,8 @@ lost_more first lost old mid new low h on grows f one =
     (helped_grows old mid h) grows f one_here)
 
 -- and where it wasn't
-pub lost_same : (n : ℕ) (old mid new : HandValue) → HasHelped old mid → IsPrefix mid.token.view.front new.token.view.front
+pub lost_same : (n : ℕ) (old mid new : HandValue) → HasHelped old mid → IsPrefix mid.token.view.front
+    new.token.view.front
     → Fell n old.token.view.number old.token.view.front mid.token.view.front
     → Fell n old.token.view.number old.token.view.front new.token.view.front
 lost_same n old mid new h grows f =
@@ -508,10 +517,12 @@ module _ (a b : ℕ) (old now new : HandValue) (on : GoesOnBare old now) where
             last = k.last;
           };
           from_then = o.from_then;
-          from_there = between_earlier (Has a ends.from) old.token.view.front now.token.view.front k.before.front o.from_then
+          from_there = between_earlier (Has a ends.from) old.token.view.front now.token.view.front k.before.front
+              o.from_then
               p o.from_there;
           to_then = o.to_then;
-          to_there = between_earlier (Has b ends.to) old.token.view.front now.token.view.front k.before.front o.to_then p
+          to_there = between_earlier (Has b ends.to) old.token.view.front now.token.view.front k.before.front o.to_then
+              p
               o.to_there;
           marked = o.marked;
         };

@@ -105,7 +105,8 @@ few_left : (v w : View) (h : LeavesGraph true 1 3 v w) → AreFew h.own
 few_left v w h = record { takes = h.takes; shifts = h.shifts }
 
 -- the events of a stretch that carries a call out
-abbrev pub all_own : (call : Call) (a b : ℕ) (v w : View) (at : List Event) → CarriesOutBy true call a b v w at → List Event
+abbrev pub all_own : (call : Call) (a b : ℕ) (v w : View) (at : List Event) → CarriesOutBy true call a b v w at → List
+    Event
 all_own call a b v w at h = h.first.own ++ (h.event ∷ [] ++ h.last.own)
 
 pub carried_makes : (call : Call) (a b : ℕ) (v w : View) (at : List Event) (h : CarriesOutBy true call a b v w at)

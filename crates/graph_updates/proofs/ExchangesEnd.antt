@@ -68,7 +68,8 @@ module _ (call : Call) (a b taken : ℕ) (ends : Ends) (u v w x : View) (at : Li
           from_there = between_earlier (Has a ends.from) u.front v.front h.exchange.before.front h.from_then starts
               h.from_there;
           to_then = h.to_then;
-          to_there = between_earlier (Has b ends.to) u.front v.front h.exchange.before.front h.to_then starts h.to_there;
+          to_there = between_earlier (Has b ends.to) u.front v.front h.exchange.before.front h.to_then starts
+              h.to_there;
           marked = ⊎_elim (λ is. inl (marked_later ends.from is)) (λ is. inr (marked_later ends.to is)) h.marked;
         };
       }

@@ -109,5 +109,8 @@ order_helped g old new of opened h order =
     let due_new = due_open w (helps_pass v w of.of.layout h.helped.only opened) in
     let uses = h.uses in
     let most = order.uses in
-    order_goes old new 0 0 of.of.layout (helps_leave false v w h.helped.only) (h.nodes order.nodes) (omega (arith, uses))
+    order_goes old new 0 0 of.of.layout (helps_leave false v w h.helped.only) (h.nodes order.nodes) (omega (
+      arith,
+      uses,
+    ))
     (omega (arith, uses, due, due_new)) (omega (arith, uses, most)) order

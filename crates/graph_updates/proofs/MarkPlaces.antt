@@ -1,4 +1,5 @@
--- The place of an entry that is told of the first mark of a life: right after that mark. Behind that of a vertex its key
+-- The place of an entry that is told of the first mark of a life: right after that mark. Behind that of a vertex its
+-- key
 -- is gone.
 use Rattle.std.proofs.Common.{◌≡◌, ℕ, zero, suc, ◌+◌, ◌≤◌, ◌&&◌, ◌||◌, Bool, true, false, cond, List, [], ◌∷◌}
 use Rattle.std.proofs.Common.{length, take, Some, refl, ap, ap₂, ◌∙◌, subst, arith}

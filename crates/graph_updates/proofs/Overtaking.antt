@@ -397,7 +397,8 @@ module _ (g : TableValue) (old now : HandValue) (t : TokenValue) (hand : IsHandO
       late_right =
           let p = prefix_within end_marked.then w.front k (prefix_trans end_marked.then m.front w.front then_m r.grows)
           then_low in
-          let low = prefix_length v.front past (prefix_trans v.front x.before.front past first_later.grows past_since) in
+          let low = prefix_length v.front past (prefix_trans v.front x.before.front past first_later.grows past_since)
+          in
           record {
             reply = refl;
             pair = on_edge call d.from d.to d.call_is;
@@ -520,7 +521,8 @@ module _ (g : TableValue) (old now : HandValue) (t : TokenValue) (hand : IsHandO
             (cond (ltb (before_either_mark ends.from ends.to m.front) (length at - 1)) Late Own) start n) w) place r))
         by false h =
             let less = ltb-false (before_either_mark ends.from ends.to m.front) (length at - 1) h in
-            let place : min (before_either_mark ends.from ends.to m.front) (length at - 1) ≡ length at - 1 = min-eq_right
+            let place : min (before_either_mark ends.from ends.to m.front) (length at - 1) ≡ length at - 1 =
+            min-eq_right
             less in
             own_done (omega (arith, less, k_is, q_is))
             (subst (λ (c : Class). Replied m (entry_of call tries (plain Overtaken) c start (length at - 1)) w)

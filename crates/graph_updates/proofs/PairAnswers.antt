@@ -1,5 +1,6 @@
 -- What the calls on a pair are answered, by what the graph has or lacks of it.
-use Rattle.std.proofs.Common.{◌≡◌, ◌⊎◌, ℕ, ◌^◌, ◌<◌, ◌≤◌, ◌&&◌, Bool, true, false, cond, List, [], ◌∷◌, Option, sym, ap, ap₂, ◌∙◌}
+use Rattle.std.proofs.Common.{◌≡◌, ◌⊎◌, ℕ, ◌^◌, ◌<◌, ◌≤◌, ◌&&◌, Bool, true, false, cond, List, [], ◌∷◌, Option, sym, ap}
+use Rattle.std.proofs.Common.{ap₂, ◌∙◌}
 use Rattle.std.proofs.Common.{⊎_elim, refl}
 use Rattle.graph_kinds.specs.Answer.{alters, answer, by_weight, is_change, on_keys, plain}
 use Rattle.graph_kinds.specs.Graph.{Graph, has, weight_of}

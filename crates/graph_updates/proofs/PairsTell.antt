@@ -1,5 +1,6 @@
 -- What a pair has or lacks at a moment: its ends were linked before and aren't marked later, so both are present there.
-use Rattle.std.proofs.Common.{◌≡◌, ◌≢◌, ◌⊎◌, ℕ, ◌&&◌, Bool, true, false, cond, List, Some, None, inl, inr, refl, sym, ap}
+use Rattle.std.proofs.Common.{◌≡◌, ◌≢◌, ◌⊎◌, ℕ, ◌&&◌, Bool, true, false, cond, List, Some, None, inl, inr, refl, sym}
+use Rattle.std.proofs.Common.{ap}
 use Rattle.std.proofs.Common.{◌∙◌, subst, ⊎_elim}
 use Rattle.graph_kinds.specs.Graph.{weight_of}
 use Rattle.packed_link.specs.Layout.{IsLayout}

@@ -23,7 +23,8 @@ raised_none v w own makes none = record {
       later.number in
       let same : made raises v.number w.front ≡ made raises v.number v.front = omega (arith, count, none, named) in
       let stays = once_stays v.number again [] v.front v.front w.front later.grows same h in
-      let done = once_done v.number again [] v.front w.front later.grows (λ i d low. absurd (omega (arith, low))) stays in
+      let done = once_done v.number again [] v.front w.front later.grows (λ i d low. absurd (omega (arith, low)))
+      stays in
       subst (λ (n : ℕ). RaisesOnce w.front w.front n (again + 0) []) (sym later.number)
       (subst (λ (n : ℕ). RaisesOnce w.front w.front v.number n []) (omega arith) done);
 }
@@ -69,7 +70,8 @@ module _ (a : ℕ) (u v w x : View) (o : IsOpened u v) (f : LeavesGraph false 0 
 
   pub raised_carried : (call : Call) (at : List Event) → CarriesOutBy false call a 0 v w at → RaisesDone 1 u x
   raised_carried call at h =
-      let one = raised_none h.before h.done (h.event ∷ []) h.makes (ap (λ (b : Bool). cond {A = ℕ} b 1 0 + 0) h.unlike.1.1)
+      let one = raised_none h.before h.done (h.event ∷ []) h.makes (ap (λ (b : Bool). cond {A = ℕ} b 1 0 + 0)
+      h.unlike.1.1)
       in
       let until = raised_chain 0 0 u v h.before opened (raised_left a 0 v h.before h.first) in
       let since = raised_chain 0 0 h.done w x (raised_left 0 0 h.done w h.last) (raised_left 0 1 w x f) in

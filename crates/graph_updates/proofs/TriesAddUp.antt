@@ -53,7 +53,8 @@ cut_later old new p x n h =
       at = subst (λ (l : List Event). slice_get l n ≡ Some h.event) p.whole (get_front old p.rest n h.event h.at);
       cuts = h.cuts;
       life = h.life;
-      uncut = subst (λ (l : List Event). edge_marked l x ≡ false) (taken_same old new p n (omega (arith, short))) h.uncut;
+      uncut = subst (λ (l : List Event). edge_marked l x ≡ false) (taken_same old new p n (omega (arith, short)))
+          h.uncut;
     }
 
 -- and what it lacks by a view it lacks by a later one

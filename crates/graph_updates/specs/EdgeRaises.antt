@@ -1,4 +1,5 @@
--- What a call on an edge keeps of its raises: it raises once for each edge, and marks or replaces that edge, but for the
+-- What a call on an edge keeps of its raises: it raises once for each edge, and marks or replaces that edge, but for
+-- the
 -- last one at most.
 use Rattle.std.specs.Prelude.{ℕ, ◌≤◌, ◌^◌, List, [], ◌∷◌, Option, None, Some}
 use Rattle.packed_link.specs.declared.link.Life.{Life}

@@ -44,8 +44,8 @@ pub record GoesOnBare (old new : HandValue) : Type 0 where
   pub nodes : HasItsNodes new
   pub uses : new.uses ≡ old.uses
 
--- an edge of a source was marked by the hand's last event, which takes its pair from the graph if both ends are present;
--- what it made before that leaves the graph
+-- an edge of a source was marked by the hand's last event, which takes its pair from the graph if both ends are
+-- present; what it made before that leaves the graph
 pub record IsMarkedOnce (source : Life) (edge : Edge) (old new : HandValue) : Type 0 where
   pub before : View
   pub found : ℕ

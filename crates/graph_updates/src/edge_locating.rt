@@ -28,7 +28,8 @@ pub enum EdgeSought {
 
 /// Walks the list of a vertex that this pass met to a key, from its second word: O(edges before the key). A marked edge
 /// on the way is unlinked and put into the limbo, and the walk goes on from the word before it. `Frozen` comes only
-/// if the second word was loaded marked; then the vertex is marked. `Lost` comes only if another caller changed the word
+/// if the second word was loaded marked; then the vertex is marked. `Lost` comes only if another caller changed the
+/// word
 /// before a marked edge since this call loaded it. It ends, since each edge that it unlinks is one more node spent in
 /// this pass.
 pub fn seek_edge(

@@ -26,8 +26,8 @@ use graph_table::{GraphTable, Token};
 use packed_link::Life;
 use std::snapshot::Snapshot;
 
-/// What one try to remove an edge came to: this call marked it, with its weight and the token's moment right after that;
-/// it did, and one of the ends is over; what the pair lacks; a lost try; or no try is left.
+/// What one try to remove an edge came to: this call marked it, with its weight and the token's moment right after
+/// that; it did, and one of the ends is over; what the pair lacks; a lost try; or no try is left.
 #[derive(Drop)]
 pub enum EdgeRemoveTried {
     Marked(u32, Snapshot<Token>),

@@ -52,7 +52,8 @@ pub enum PairFound {
     Lost,
 }
 
-/// What a pair lacks, with what shows it: a key, by a position of its list or by the mark of its vertex; or the edge, by
+/// What a pair lacks, with what shows it: a key, by a position of its list or by the mark of its vertex; or the edge,
+/// by
 /// a position of the source's list, by an edge to an earlier life of the target's key, or by the mark of the edge.
 #[derive(Drop)]
 pub enum Lack {
@@ -158,7 +159,8 @@ pub(crate) fn locate_ends(
 }
 
 /// Walks the source's list for the edge of a pair whose ends were located. An edge to another life of the target's key
-/// has that life's link loaded: if it's alive, the located target is over. `Over` comes too if the list is closed, since
+/// has that life's link loaded: if it's alive, the located target is over. `Over` comes too if the list is closed,
+/// since
 /// then the source is over.
 pub(crate) fn find_pair(table: &GraphTable, hand: &mut Hand, ends: Ends, to: u32) -> PairFound
     requires hand { IsHandOf table.now hand.old }

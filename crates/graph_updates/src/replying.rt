@@ -283,7 +283,8 @@ pub(crate) fn reply_lacking(
     }
 }
 
-/// Answers Overtaken to a call that won its exchange on an edge, one of whose ends is over by now: at the exchange, or at
+/// Answers Overtaken to a call that won its exchange on an edge, one of whose ends is over by now: at the exchange,
+/// or at
 /// the mark of an end if that came first.
 pub(crate) fn reply_overtaken(
     table: &GraphTable,

@@ -59,7 +59,8 @@ place_at-requires-clause-limit c =
     let k = c.find.new.hand in
     let e = c.in-Gone.ensures in
     let n = c.requires.nodes in
-    let m = leaves_made false 0 0 h.token.view k.token.view (helps_leave false h.token.view k.token.view e.helped.helped.only) in
+    let m = leaves_made false 0 0 h.token.view k.token.view (helps_leave false h.token.view k.token.view
+    e.helped.helped.only) in
     let low = c.requires.limit in
     let same = ap may_take e.helped.spare in
     omega (arith, m, low, same)

@@ -114,7 +114,8 @@ reply-requires-clause-ended c =
       left = search rules;
       closed = search rules;
       nodes = search rules;
-      raised = raised_call c.in-There.ensures.added.0.taken u v w x opened c.finish.ensures.finished.stretch c.in-There.ensures.added.0.stretch;
+      raised = raised_call c.in-There.ensures.added.0.taken u v w x opened c.finish.ensures.finished.stretch
+          c.in-There.ensures.added.0.stretch;
       uses = search rules;
     }
 
@@ -130,7 +131,8 @@ reply_full-requires-clause-ended c =
       left = search rules;
       closed = search rules;
       nodes = search rules;
-      raised = raised_call c.in-Full.ensures.added.on.taken u v w x opened c.finish.ensures.finished.stretch c.in-Full.ensures.added.on.stretch;
+      raised = raised_call c.in-Full.ensures.added.on.taken u v w x opened c.finish.ensures.finished.stretch
+          c.in-Full.ensures.added.on.stretch;
       uses = search rules;
     }
 
@@ -146,6 +148,7 @@ reply_again-requires-clause-ended c =
       left = search rules;
       closed = search rules;
       nodes = search rules;
-      raised = raised_call c.in-Again.ensures.added.0.taken u v w x opened c.finish.ensures.finished.stretch c.in-Again.ensures.added.0.stretch;
+      raised = raised_call c.in-Again.ensures.added.0.taken u v w x opened c.finish.ensures.finished.stretch
+          c.in-Again.ensures.added.0.stretch;
       uses = search rules;
     }

@@ -7,7 +7,8 @@ use Rattle.core_stretches.specs.Moments.{Lacks}
 use Rattle.epoch_limbo.specs.Passes.{IsOpened}
 use Rattle.graph_updates.specs.Hands.{HandValue}
 use Rattle.graph_updates.specs.Replying.{IsDueAt}
-use Rattle.graph_updates.proofs.CallsGo.{absent_where, due_again, due_at, due_at_mark, due_by_change, gives_absent, goes_few}
+use Rattle.graph_updates.proofs.CallsGo.{absent_where, due_again, due_at, due_at_mark, due_by_change, gives_absent}
+use Rattle.graph_updates.proofs.CallsGo.{goes_few}
 use Rattle.graph_updates.proofs.CallsGo.{removing_moves, was_removed}
 use Rattle.graph_updates.proofs.calls.remove_vertex.Goals as goal
 use Rattle.std.proofs.Common.{rules}
@@ -27,7 +28,8 @@ reply_to_change-requires-clause-due c =
     let opened = subst (λ (h : HandValue). IsOpened h.token.view v) (sym c.by-entered.ensures)
     c.in_default.ensures.begun.1.opened in
     let h = c.in-Marked.ensures.removed.carries in
-    due_by_change false (RemoveVertex c.args.key) (Removed 0) 0 u v w x c.in-Marked.moment.value.view.front (omega arith)
+    due_by_change false (RemoveVertex c.args.key) (Removed 0) 0 u v w x c.in-Marked.moment.value.view.front (omega
+    arith)
     opened h c.finish.ensures.finished.stretch refl
     (was_removed c.args.key (graph_of h.carries.past) h.carries.alters)
 
@@ -100,7 +102,8 @@ reply_after_mark-requires-clause-ended c =
       left = search rules;
       closed = search rules;
       nodes = search rules;
-      raised = raised_call c.in-WasMarked.ensures.removed.on.taken u v w x opened c.finish.ensures.finished.stretch c.in-WasMarked.ensures.removed.on.stretch;
+      raised = raised_call c.in-WasMarked.ensures.removed.on.taken u v w x opened c.finish.ensures.finished.stretch
+          c.in-WasMarked.ensures.removed.on.stretch;
       uses = search rules;
     }
 
@@ -116,7 +119,8 @@ reply-requires-clause-ended c =
       left = search rules;
       closed = search rules;
       nodes = search rules;
-      raised = raised_call c.in-Gone.ensures.removed.0.taken u v w x opened c.finish.ensures.finished.stretch c.in-Gone.ensures.removed.0.stretch;
+      raised = raised_call c.in-Gone.ensures.removed.0.taken u v w x opened c.finish.ensures.finished.stretch
+          c.in-Gone.ensures.removed.0.stretch;
       uses = search rules;
     }
 
@@ -132,6 +136,7 @@ reply_again-requires-clause-ended c =
       left = search rules;
       closed = search rules;
       nodes = search rules;
-      raised = raised_call c.in-Again.ensures.removed.0.taken u v w x opened c.finish.ensures.finished.stretch c.in-Again.ensures.removed.0.stretch;
+      raised = raised_call c.in-Again.ensures.removed.0.taken u v w x opened c.finish.ensures.finished.stretch
+          c.in-Again.ensures.removed.0.stretch;
       uses = search rules;
     }

@@ -8,7 +8,8 @@ use Rattle.graph_updates.specs.contracts.hand.Hand.{the_view}
 use Rattle.graph_updates.specs.EdgeRemoving.{MatchMarkedOnce, RaisesSince}
 use Rattle.graph_updates.specs.Hands.{HandValue, HasItsNodes, IsHandOf}
 use Rattle.graph_updates.proofs.AddingTries.{with_spare}
-use Rattle.graph_updates.proofs.EdgeMarkingTells.{few_raises, keeps_goes, keeps_hand, keeps_nodes, keeps_pass, marked_once}
+use Rattle.graph_updates.proofs.EdgeMarkingTells.{few_raises, keeps_goes, keeps_hand, keeps_nodes, keeps_pass}
+use Rattle.graph_updates.proofs.EdgeMarkingTells.{marked_once}
 use Rattle.graph_updates.proofs.EdgeMarkingTells.{marking_keeps, marking_raises}
 use Rattle.graph_updates.proofs.edge_removing.mark_once.Goals as goal
 

@@ -63,7 +63,8 @@ returns-in-Both-clause-marked c = λ old a b q.
     let all = has_helped_chain k l n c.check_ends-alive.ensures.helped c.find_edge.ensures.helped in
     let at : c.of-moment.result.value.view.front ≡ k.token.view.front = ap (λ (t : TokenValue). t.view.front)
     c.of-moment.ensures ∙ ap (λ (o : HandValue). o.token.view.front) c.hand.view_is in
-    won_removed a b c.args.ends c.args.seen.now old h q k e.goes.grows e.hand.of.layout e.hand.of.sound.kept e.marked n all
+    won_removed a b c.args.ends c.args.seen.now old h q k e.goes.grows e.hand.of.layout e.hand.of.sound.kept e.marked n
+    all
     (all.nodes e.nodes) c.of-moment.result.value at c.in-Both.ensures.alive.0 c.in-Both.ensures.alive.1
 
 pub returns-in-Over-clause-pass : goal.returns-in-Over-clause-pass
@@ -92,7 +93,8 @@ returns-in-Over-clause-marked c = λ old a b q.
     let all = has_helped_chain k l n c.check_ends-alive.ensures.helped c.find_edge.ensures.helped in
     let at : c.of-moment.result.value.view.front ≡ k.token.view.front = ap (λ (t : TokenValue). t.view.front)
     c.of-moment.ensures ∙ ap (λ (o : HandValue). o.token.view.front) c.hand.view_is in
-    won_overtaken a b c.args.ends c.args.seen.now old h q k e.goes.grows e.hand.of.layout e.hand.of.sound.kept e.marked n
+    won_overtaken a b c.args.ends c.args.seen.now old h q k e.goes.grows e.hand.of.layout e.hand.of.sound.kept e.marked
+    n
     all (all.nodes e.nodes) c.of-moment.result.value at
     (over_either c.args.ends c.in-Over.field-0 l.token.view n.token.view (helped_grows l n c.find_edge.ensures.helped)
     c.in-Over.ensures.alive)
@@ -118,7 +120,8 @@ returns-in-Replaced-clause-marked c = λ old a b q.
     let h = c.args.hand.now in
     let k = c.mark_once.new.hand in
     let e = c.in-Replaced.ensures in
-    replaced_lost a b c.args.ends c.args.seen.now old h q k e.goes.grows e.hand.of.layout e.hand.of.sound.kept e.marked.0
+    replaced_lost a b c.args.ends c.args.seen.now old h q k e.goes.grows e.hand.of.layout e.hand.of.sound.kept
+    e.marked.0
     e.marked.1
 
 pub returns-in-Both-clause-grows : goal.returns-in-Both-clause-grows

@@ -92,7 +92,8 @@ pub returns-in-Gone-clause-grows : goal.returns-in-Gone-clause-grows
 returns-in-Gone-clause-grows c =
     let h = c.args.hand.now in
     let n = c.lack_with-in-Gone.new.hand in
-    helped_grows h n (has_helped_chain h c.find_pair.new.hand n c.find_pair.ensures.helped c.lack_with-in-Gone.ensures.helped)
+    helped_grows h n (has_helped_chain h c.find_pair.new.hand n c.find_pair.ensures.helped
+    c.lack_with-in-Gone.ensures.helped)
 
 pub returns-in-Gone-clause-raised : goal.returns-in-Gone-clause-raised
 returns-in-Gone-clause-raised c =

@@ -85,9 +85,11 @@ loop-weight-preserved c =
         pass = c.in-Lost.ensures.pass;
         on = trying_on true g c.args.tries c.loop-weight.lost h k l i on;
         left = e.1;
-        fell = trying_fell true g c.args.tries c.loop-weight.lost h k l i c.try_remove.new.lost c.in-Lost.ensures.lost on
+        fell = trying_fell true g c.args.tries c.loop-weight.lost h k l i c.try_remove.new.lost c.in-Lost.ensures.lost
+            on
             c.in-Lost.ensures.fell;
       };
       bare = bare_chain h k l c.loop-weight.invariant.bare e.0;
-      raised = kept_chain h.token.view k.token.view l.token.view c.loop-weight.invariant.raised c.in-Lost.ensures.raised;
+      raised = kept_chain h.token.view k.token.view l.token.view c.loop-weight.invariant.raised
+          c.in-Lost.ensures.raised;
     }

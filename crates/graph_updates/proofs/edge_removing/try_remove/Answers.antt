@@ -2,7 +2,8 @@ use Rattle.std.proofs.Common.{◌+◌, ◌-◌, true, subst, sym}
 use Rattle.graph_updates.specs.EdgeRemoving.{MatchEdgeRemoveTried}
 use Rattle.graph_updates.specs.declared.edge_removing.EdgeRemoveTried.{EdgeRemoveTried}
 use Rattle.graph_updates.proofs.AddingAddsUp.{helped_on}
-use Rattle.graph_updates.proofs.EdgeRemovingTells.{bare_on, helped_raised, kept_helped, kept_since, lost_more, lost_same}
+use Rattle.graph_updates.proofs.EdgeRemovingTells.{bare_on, helped_raised, kept_helped, kept_since, lost_more}
+use Rattle.graph_updates.proofs.EdgeRemovingTells.{lost_same}
 use Rattle.graph_updates.proofs.EdgeRemovingTells.{marked_tried}
 use Rattle.graph_updates.proofs.LookingTells.{still_less}
 use Rattle.graph_updates.proofs.PairsTell.{key_lacks, to_linked}

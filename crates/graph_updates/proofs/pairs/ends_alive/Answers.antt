@@ -2,7 +2,8 @@ use Rattle.std.proofs.Common.{[], inl, inr, refl}
 use Rattle.core_journal.specs.Life.{vertex_marked}
 use Rattle.core_stretches.proofs.MakesAddUp.{makes_chain}
 use Rattle.core_stretches.proofs.MakesTell.{makes_later}
-use Rattle.graph_updates.proofs.EndsTell.{key_later, mark_later, marked_over, met_linked, unmarked_alive, unmarked_before}
+use Rattle.graph_updates.proofs.EndsTell.{key_later, mark_later, marked_over, met_linked, unmarked_alive}
+use Rattle.graph_updates.proofs.EndsTell.{unmarked_before}
 use Rattle.graph_updates.proofs.pairs.ends_alive.Goals as goal
 
 pub is_alive-from-requires-clause-linked : goal.is_alive-from-requires-clause-linked

@@ -5,7 +5,8 @@ use Rattle.graph_updates.specs.EdgeLocating.{WasEdgeHere}
 use Rattle.graph_updates.specs.Hands.{HandValue, IsHandOf}
 use Rattle.graph_updates.specs.Parts.{HasHelped}
 use Rattle.graph_updates.specs.contracts.hand.Hand.{the_view}
-use Rattle.graph_updates.proofs.EndsTell.{found_later, key_later, looked, looked_helped, looked_of, marked_over, other_over}
+use Rattle.graph_updates.proofs.EndsTell.{found_later, key_later, looked, looked_helped, looked_of, marked_over}
+use Rattle.graph_updates.proofs.EndsTell.{other_over}
 use Rattle.graph_updates.proofs.EndsTell.{told_apart, unmarked_alive}
 use Rattle.graph_updates.proofs.HandsHelp.{has_helped_chain}
 use Rattle.graph_updates.proofs.LocatingTells.{helped_grows}
@@ -75,7 +76,8 @@ returns-then-is_alive-clause-found c =
     c.if-is_alive.true in (
       inr refl,
       other_over w.sizes c.is_alive.ensures.table.layout w.front c.is_alive.ensures.table.sound.kept s.edge.target
-          c.args.ends.to c.args.to target live to (told_apart s.edge.target c.args.ends.to c.eq.result c.eq.ensures c.if-eq.false),
+          c.args.ends.to c.args.to target live to (told_apart s.edge.target c.args.ends.to c.eq.result c.eq.ensures
+          c.if-eq.false),
     )
 
 pub returns-clause-found : goal.returns-clause-found

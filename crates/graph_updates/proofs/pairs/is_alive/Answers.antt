@@ -8,12 +8,15 @@ use Rattle.graph_updates.proofs.pairs.is_alive.Goals as goal
 
 pub link_at-requires : goal.link_at-requires
 link_at-requires c =
-    let there = key_there c.args.token.now.view.sizes c.args.token.now.view.front c.requires.table.sound.kept c.args.life
+    let there = key_there c.args.token.now.view.sizes c.args.token.now.view.front c.requires.table.sound.kept
+    c.args.life
     c.requires.linked.0 c.requires.linked.1 in
-    subst (λ (s : Sizes). c.args.life.index < s.nodes) (c.requires.table.sizes ∙ sym c.layout-layout.ensures.sizes) there
+    subst (λ (s : Sizes). c.args.life.index < s.nodes) (c.requires.table.sizes ∙ sym c.layout-layout.ensures.sizes)
+    there
 
 pub returns-then-marked-clause-makes : goal.returns-then-marked-clause-makes
-returns-then-marked-clause-makes c = makes_look c.args.token.now.view c.load.new.token.view c.link_at.result c.load.result
+returns-then-marked-clause-makes c = makes_look c.args.token.now.view c.load.new.token.view c.link_at.result
+    c.load.result
     c.requires.number c.requires.table.sound c.load.ensures.looked
 
 pub returns-clause-makes : goal.returns-clause-makes
