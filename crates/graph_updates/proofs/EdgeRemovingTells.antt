@@ -2,7 +2,7 @@
 -- overtaken; and if another caller marked the edge, the pair lacks it right after that mark.
 use Rattle.std.proofs.Common.{◌≡◌, ◌≢◌, ◌⊎◌, ℕ, ◌+◌, ◌-◌, ◌≤◌, ◌&&◌, Bool, true, false, cond, List, [], ◌∷◌}
 use Rattle.std.proofs.Common.{None, Option, Some, take, inl, inr, refl, sym, ap, ap₂, ◌∙◌, subst, arith, append-nil}
-use Rattle.std.specs.Prelude.{option_and_then, option_map, slice_get}
+use Rattle.std.specs.Prelude.{option_and_then, option_map}
 use mathlib.Core.List.{append_cancel_right}
 use Rattle.graph_kinds.specs.Answer.{answer, by_weight, plain}
 use Rattle.graph_kinds.specs.Graph.{Graph, has, weight_of}
@@ -15,11 +15,9 @@ use Rattle.core_counts.proofs.RaisesOfEdges.{once_done, once_stays}
 use Rattle.core_journal.specs.declared.event.Event.{Event}
 use Rattle.core_journal.specs.Event.{raises}
 use Rattle.core_journal.specs.GraphOf.{both, ends_of, graph_of, present_key}
-use Rattle.core_journal.specs.Life.{edge_marked, key_of, vertex_marked}
-use Rattle.core_journal.specs.Marks.{IsCutOf}
+use Rattle.core_journal.specs.Life.{key_of, vertex_marked}
 use Rattle.core_journal.specs.Prefix.{IsPrefix}
-use Rattle.core_journal.proofs.Lists.{get_front, get_short, prefix_length, prefix_snoc, prefix_take, prefix_trans}
-use Rattle.core_journal.proofs.Lists.{take_front}
+use Rattle.core_journal.proofs.Lists.{prefix_length, prefix_snoc, prefix_take, prefix_trans}
 use Rattle.core_journal.proofs.LivesOf.{key_of_life, present_is}
 use Rattle.core_kept.specs.Counts.{made}
 use Rattle.core_kept.specs.Kept.{IsKept}
@@ -41,7 +39,7 @@ use Rattle.graph_updates.specs.EdgeRemoving.{MatchPairMarked}
 use Rattle.graph_updates.specs.EdgeRemoving.{GoesOnBare, RaisesSince, WasMarkedOnce}
 use Rattle.graph_updates.specs.Exchanges.{IsOnPair, IsOvertakenBy}
 use Rattle.graph_updates.specs.Hands.{HandValue, HasItsNodes, IsHandOf}
-use Rattle.graph_updates.specs.Pairs.{AreEnds, IsPairCut, LacksPair, MatchLack}
+use Rattle.graph_updates.specs.Pairs.{AreEnds, IsPairCut, MatchLack}
 use Rattle.graph_updates.specs.Parts.{Fell, GoesOnBy, HasHelped, LeavesGraph, may_take}
 use Rattle.graph_updates.specs.declared.pairs.Ends.{Ends}
 use Rattle.graph_updates.specs.declared.pairs.Lack.{Lack}
@@ -55,6 +53,7 @@ use Rattle.graph_updates.proofs.LocatingTells.{between_earlier, between_later, f
 use Rattle.graph_updates.proofs.LocatingTells.{helped_grows}
 use Rattle.graph_updates.proofs.PairsTell.{from_linked, lack_told, linked_since, located_grows, present_then}
 use Rattle.graph_updates.proofs.PairsTell.{to_linked, unmarked_since}
+use Rattle.graph_updates.proofs.TriesAddUp.{pair_cut_later}
 use Rattle.graph_updates.proofs.PartsLeave.{helps_leave, leaves_chain}
 use Rattle.graph_updates.proofs.RaisesAddUp.{raised_left}
 
@@ -170,32 +169,6 @@ module _ (a b : ℕ) (source : Life) (edge : Edge) (h k : HandValue) (mo : IsMar
         (key_of_life past edge.target b to_there)
         (has_pair done.sizes z past kept_past source edge a b mo.unmarked from_there to_there) in
         reply ∙ ap (λ (l : List Event). answer (graph_of l) (RemoveEdge a b)) (sym same)
-
--- an edge's first mark is one later
-cut_later : (front journal : List Event) (x : Life) (n : ℕ) → IsPrefix front journal → IsCutOf front x n
-    → IsCutOf journal x n
-cut_later front journal x n p c =
-    let short = get_short front n c.event c.at in
-    record {
-      event = c.event;
-      at = subst (λ (l : List Event). slice_get l n ≡ Some c.event) p.whole (get_front front p.rest n c.event c.at);
-      cuts = c.cuts;
-      life = c.life;
-      uncut = ap (λ (l : List Event). edge_marked l x) (ap (take n) (sym p.whole) ∙ take_front front p.rest n
-          (omega (arith, short))) ∙ c.uncut;
-    }
-
-pub pair_cut_later : (a b : ℕ) (v w u : View) (x : Life) → IsPrefix w.front u.front → IsPairCut a b v w x
-    → IsPairCut a b v u x
-pair_cut_later a b v w u x p h =
-    let short = get_short w.front h.number h.cut.event h.cut.at in
-    record {
-      number = h.number;
-      since = h.since;
-      cut = cut_later w.front u.front x h.number p h.cut;
-      lacks = subst (LacksPair a b) (sym (take_front w.front p.rest (h.number + 1) (omega (arith, short)))
-          ∙ ap (take (h.number + 1)) p.whole) h.lacks;
-    }
 
 -- the edge of a pair was seen and is to be marked
 module _ (a b : ℕ) (ends : Ends) (s : EdgeSighting) (old h : HandValue) (q : IsPairSeen a b ends s old h) where

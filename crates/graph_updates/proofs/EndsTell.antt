@@ -102,15 +102,6 @@ pub mark_later : (v w : View) → IsPrefix v.front w.front → (x : Life) → ve
 mark_later v w p x h = subst (λ (l : List Event). vertex_marked l x ≡ true) p.whole
     (any_more (λ (e : Event). marks_vertex e.kind && same_life x e.life) v.front p.rest h)
 
--- what isn't marked later wasn't before
-pub unmarked_before : (v w : View) → IsPrefix v.front w.front → (x : Life) → vertex_marked w.front x ≡ false
-    → vertex_marked v.front x ≡ false
-unmarked_before v w p x h = by (vertex_marked v.front x) refl
-  where
-    by : (b : Bool) → vertex_marked v.front x ≡ b → vertex_marked v.front x ≡ false
-    by true is = let t = mark_later v w p x is in absurd (cc)
-    by false is = is
-
 alive_is : (b : Bool) → true ≡ not b → b ≡ false
 alive_is true h = absurd (cc)
 alive_is false h = refl

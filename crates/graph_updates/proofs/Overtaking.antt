@@ -31,7 +31,7 @@ use Rattle.core_journal.specs.Right.{IsEdgeCall, IsMarkedAfter, RightLate}
 use Rattle.core_journal.proofs.Bridge.{regular_at}
 use Rattle.core_journal.proofs.FirstMarks.{first_mark}
 use Rattle.core_journal.proofs.KeptLives.{key_more}
-use Rattle.core_journal.proofs.Lists.{any_more, get_back, get_front, get_short, prefix_length, prefix_refl, prefix_take}
+use Rattle.core_journal.proofs.Lists.{get_back, get_front, get_short, prefix_length, prefix_refl, prefix_take}
 use Rattle.core_journal.proofs.Lists.{prefix_trans, take_front, take_here}
 use Rattle.core_journal.proofs.LivesOf.{present_is}
 use Rattle.core_journal.proofs.Regular.{changes_not}
@@ -57,6 +57,7 @@ use Rattle.graph_updates.proofs.CallsEnd.{HasCome, HasReplied, call_ends, end_gr
 use Rattle.graph_updates.proofs.CallsEnd.{with_token}
 use Rattle.graph_updates.proofs.EntriesRight.{few_parts, own_ends, prefix_within}
 use Rattle.graph_updates.proofs.MarkPlaces.{any_here, before_is, first_false, second_false}
+use Rattle.graph_updates.proofs.PairsTell.{unmarked_since}
 use Rattle.graph_updates.proofs.OwnChanges.{last_at, leaves_own, leaves_there, left_count, past_within, until_grows}
 
 -- the first mark of a life that's unmarked at the end of a prefix comes no earlier
@@ -113,16 +114,6 @@ mark_behind x short journal k e p at marks life none = ⊎_elim
     absurd (true≢false (sym marked ∙ none)))
     (λ (high : length short ≤ k). high)
     (cases_lt k (length short))
-
--- a life that's unmarked at the end of a journal is unmarked at the end of each prefix
-still_unmarked : (x : Life) (short long : List Event) → IsPrefix short long → vertex_marked long x ≡ false
-    → vertex_marked short x ≡ false
-still_unmarked x short long p none = by (vertex_marked short x) refl
-  where
-    by : (b : Bool) → vertex_marked short x ≡ b → b ≡ false
-    by false h = refl
-    by true h = absurd (true≢false (sym (subst (λ (l : List Event). vertex_marked l x ≡ true) p.whole
-        (any_more (λ (e : Event). marks_vertex e.kind && same_life x e.life) short p.rest h)) ∙ none))
 
 -- an event on an edge marks no vertex
 edge_no_mark : (k : Kind) (past : List Event) (e link : Event) → edge_by k past e ≡ Some link → marks_vertex k ≡ false
@@ -439,7 +430,8 @@ module _ (g : TableValue) (old now : HandValue) (t : TokenValue) (hand : IsHandO
     -- behind it
     module _ (late : q ≤ k) (told : Replied m (entry_of call tries (plain Overtaken) Own start (length at - 1)) w) where
       unmarked : (y : Life) → vertex_marked (take k m.front) y ≡ false → vertex_marked past y ≡ false
-      unmarked y none = still_unmarked y past (take k m.front) (prefix_within past m.front k past_m late) none
+      unmarked y none = unmarked_since past (take k m.front)
+          (prefix_within past m.front k past_m late) y none
 
       present : (y : Life) (key : ℕ) (then : List Event) → HoldsBetween v.front x.before.front (Has key y) then
           → vertex_marked (take k m.front) y ≡ false → present_key past y ≡ Some key

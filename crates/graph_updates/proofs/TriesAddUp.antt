@@ -14,7 +14,7 @@ use Rattle.core_rule.specs.declared.view.View.{View}
 use Rattle.core_stretches.specs.Moments.{Has}
 use Rattle.graph_table.specs.Tokens.{TableValue}
 use Rattle.graph_updates.specs.Hands.{HandValue, HasItsNodes, IsHandOf}
-use Rattle.graph_updates.specs.Pairs.{LacksEnd, LacksPair, MatchLack}
+use Rattle.graph_updates.specs.Pairs.{IsPairCut, LacksEnd, LacksPair, MatchLack}
 use Rattle.graph_updates.specs.Parts.{Fell, GoesOnBy}
 use Rattle.graph_updates.specs.declared.pairs.Lack.{Lack}
 use Rattle.graph_updates.specs.declared.pairs.Lack.TheVariants as lacks
@@ -57,6 +57,18 @@ cut_later old new p x n h =
           h.uncut;
     }
 
+-- an edge that was marked, with its place, by a later view
+pub pair_cut_later : (a b : ℕ) (v w x : View) (y : Life) → IsPrefix w.front x.front → IsPairCut a b v w y
+    → IsPairCut a b v x y
+pair_cut_later a b v w x y p h =
+    let short = get_short w.front h.number h.cut.event h.cut.at in
+    record {
+      number = h.number;
+      since = h.since;
+      cut = cut_later w.front x.front p y h.number h.cut;
+      lacks = subst (LacksPair a b) (taken_same w.front x.front p (h.number + 1) (omega (arith, short))) h.lacks;
+    }
+
 -- and what it lacks by a view it lacks by a later one
 pub lack_later : (a b : ℕ) (v w x : View) → IsPrefix w.front x.front → (l : Lack) → MatchLack l a b v w
     → MatchLack l a b v x
@@ -72,14 +84,7 @@ lack_later a b v w x p (lacks.Vertex y) h = record {
 lack_later a b v w x p (lacks.Edge q) h = between_later (LacksPair a b) v.front w.front x.front q.moment p h
 lack_later a b v w x p (lacks.Stale s) h =
     between_later (LacksPair a b) v.front w.front x.front s.moment.value.view.front p h
-lack_later a b v w x p (lacks.Marked y) h =
-    let short = get_short w.front h.number h.cut.event h.cut.at in
-    record {
-      number = h.number;
-      since = h.since;
-      cut = cut_later w.front x.front p y h.number h.cut;
-      lacks = subst (LacksPair a b) (taken_same w.front x.front p (h.number + 1) (omega (arith, short))) h.lacks;
-    }
+lack_later a b v w x p (lacks.Marked y) h = pair_cut_later a b v w x y p h
 
 -- so many tries were lost since a call began to try
 pub record IsTrying (r : Bool) (g : TableValue) (tries lost : ℕ) (old now : HandValue) : Type 0 where

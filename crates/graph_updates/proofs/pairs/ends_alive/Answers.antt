@@ -3,7 +3,7 @@ use Rattle.core_journal.specs.Life.{vertex_marked}
 use Rattle.core_stretches.proofs.MakesAddUp.{makes_chain}
 use Rattle.core_stretches.proofs.MakesTell.{makes_later}
 use Rattle.graph_updates.proofs.EndsTell.{key_later, mark_later, marked_over, met_linked, unmarked_alive}
-use Rattle.graph_updates.proofs.EndsTell.{unmarked_before}
+use Rattle.graph_updates.proofs.PairsTell.{unmarked_since}
 use Rattle.graph_updates.proofs.pairs.ends_alive.Goals as goal
 
 pub is_alive-from-requires-clause-linked : goal.is_alive-from-requires-clause-linked
@@ -56,6 +56,7 @@ returns-clause-alive c =
     c.is_alive-from.ensures.alive c.if-not-from.false in
     let to = unmarked_alive c.is_alive-to.result (vertex_marked w.front c.args.ends.to) c.is_alive-to.ensures.alive
     c.if-not-to.false in (
-      unmarked_before v m first c.args.ends.from from,
-      unmarked_before v m first c.args.ends.to (unmarked_before m w second c.args.ends.to to),
+      unmarked_since v.front m.front first c.args.ends.from from,
+      unmarked_since v.front m.front first c.args.ends.to
+          (unmarked_since m.front w.front second c.args.ends.to to),
     )
