@@ -1,5 +1,5 @@
 -- A hand that looks on is one of its table still, in order, with its pass closed.
-use Rattle.std.proofs.Common.{◌≡◌, ℕ, [], None, Some, Option, append-nil, refl, sym, ap}
+use Rattle.std.proofs.Common.{◌≡◌, ℕ, false, [], None, Some, Option, append-nil, refl, sym, ap}
 use Rattle.std.proofs.Common.{◌∙◌, subst, arith}
 use Rattle.packed_link.specs.declared.link.Life.{Life}
 use Rattle.core_journal.specs.State.{Pass}
