@@ -1,6 +1,7 @@
 -- What verify's loads show of a row, and what its verdict tells then.
 use Rattle.std.proofs.Common.{◌≡◌, ℕ, zero, suc, ◌+◌, ◌<◌, ◌≤◌, true, List, [], ◌∷◌, length, take, Some, sym}
-use Rattle.std.proofs.Common.{append-nil, ap, ap₂, ◌∙◌, subst, arith}
+use Rattle.std.proofs.Common.{append-nil, ap, ap₂, ◌∙◌, subst, arith, ⊎_elim}
+use Rattle.std.proofs.lemmas.Bool.{cases_lt}
 use Rattle.std.specs.Prelude.{drop, slice_get}
 use Rattle.packed_link.specs.Link.{mark_of, tag_of}
 use Rattle.packed_link.specs.Layout.{IsLayout, Sizes, link_at, second_at, third_at}
@@ -11,9 +12,8 @@ use Rattle.scan_record.proofs.Edges.{length-edges_of, get_or-edges_of}
 use Rattle.core_journal.specs.declared.event.Event.{Event}
 use Rattle.core_journal.specs.Machine.{word_at}
 use Rattle.core_journal.specs.Prefix.{IsPrefix}
-use Rattle.core_journal.specs.Reuse.{pass_in}
-use Rattle.core_journal.proofs.Lists.{prefix_trans}
-use Rattle.core_rule.specs.Plays.{IsSound, Looked}
+use Rattle.core_journal.proofs.Lists.{get_back, prefix_trans}
+use Rattle.core_rule.specs.Plays.{Looked}
 use Rattle.core_rule.specs.declared.view.View.{View}
 use Rattle.core_journal.specs.Foreign.{IsForeign}
 use Rattle.core_scans.specs.Differing.{DiffersNow}
@@ -22,7 +22,7 @@ use Rattle.core_scans.specs.Walking.{AreRowsSame, IsRowAgain}
 use Rattle.core_scans.proofs.DifferingWasChanged.{differs_foreign}
 use Rattle.core_scans.proofs.FrontsKeepLives.{get_at}
 use Rattle.core_scans.proofs.HeldIsThePart.{inside, same_part}
-use Rattle.core_scans.proofs.OnlyLooking.{looks_by_view, looks_until}
+use Rattle.core_scans.proofs.OnlyLooking.{looks_until}
 use Rattle.core_scans.proofs.VerifyGoesOn.{counted_later, head_again, row_counted, row_same, same_later}
 use Rattle.core_scans.proofs.VerifyGoesOn.{again_later}
 use Rattle.tree_scan.specs.Verdicts.{IsFallenRow, IsFilledScan, IsPartAt}
@@ -79,34 +79,38 @@ row_found sizes s k old head links counted now p q r t word again counter tag li
     row_same sizes s end now k (same_later sizes s end old now behind k same)
     (counted_later sizes s end counted now t row done) tag live
 
--- a token that made nothing since only looked
-looks_on : (v w : View) (start : List Event) → Makes v [] w → v.last ≤ length start
-    → (pass_in v.sizes start v.number).is_open ≡ true → OnlyLooks v.sizes v.number start w.front
-looks_on v w start made last opened =
+-- a token that only looked since a front, and made nothing since, only looked
+pub looks_on : (v w : View) (start : List Event) → Makes v [] w → OnlyLooks v.sizes v.number start v.front
+    → OnlyLooks v.sizes v.number start w.front
+looks_on v w start made looks =
     let a = made.steps in
+    let p = (makes_later v w [] made).grows in
     let front : w.front ≡ a.grown = a.front ∙ append-nil a.grown in
     record {
       kept = a.kept;
-      opened = opened;
+      opened = looks.opened;
       quiet = record {
-        none = λ k e far at. a.reaches.quiet.none k e (omega (arith, last, far))
-            (subst (λ (j : List Event). slice_get j k ≡ Some e) front at);
+        none = λ k e far at by. ⊎_elim
+            (λ (low : k < length v.front). looks.quiet.none k e far (sym (get_back v.front p.rest k low)
+            ∙ subst (λ (j : List Event). slice_get j k ≡ Some e) (sym p.whole) at) by)
+            (λ (high : length v.front ≤ k). a.reaches.quiet.none k e
+            (let o = a.reaches.old in omega (arith, o, high))
+            (subst (λ (j : List Event). slice_get j k ≡ Some e) front at) by)
+            (cases_lt k (length v.front));
       };
     }
 
 -- what verify loads is inside of the table
-pub inside_table : (v : View) (start end : List Event) (s : ScanValue) → IsSound v → v.numbered ≡ true → IsScan s
-    → IsFilledScan v start end s → IsInside v.sizes s
-inside_table v start end s sound has is f =
-    let looks = looks_by_view v sound has start f.quiet f.opened in
-    inside v.sizes v.number start end s (looks_until v.sizes v.number start end v.front looks f.until).kept is
-    f.collected
+pub inside_table : (v : View) (start end : List Event) (s : ScanValue) → IsScan s → IsFilledScan v start end s
+    → IsInside v.sizes s
+inside_table v start end s is f = inside v.sizes v.number start end s
+    (looks_until v.sizes v.number start end v.front f.looks f.until).kept is f.collected
 
 -- all rows were found the same
 pub same_told : (v w : View) (start end : List Event) (s : ScanValue) → IsLayout v.sizes → Makes v [] w → IsScan s
     → IsFilledScan v start end s → AreRowsSame v.sizes end w.front s (length s.rows) → IsPartAt end s
 same_told v w start end s z made is f same =
-    let looks = looks_on v w start made f.quiet f.opened in
+    let looks = looks_on v w start made f.looks in
     let p = prefix_trans end v.front w.front f.until (makes_later v w [] made).grows in
     let q = same_part v.sizes z v.number start end w.front s looks p is f.collected same in
     record { complete = q.0; root = q.1; part = q.2 }
@@ -116,7 +120,7 @@ pub differs_told : (v w : View) (start end : List Event) (s : ScanValue) (k : �
     → k < length s.rows → IsFilledScan v start end s → DiffersNow v.sizes s w.front (row_at s k)
     → IsFallenRow w start s k
 differs_told v w start end s k z made low f other =
-    let looks = looks_on v w start made f.quiet f.opened in
+    let looks = looks_on v w start made f.looks in
     let later = makes_later v w [] made in
     let p = prefix_trans end v.front w.front f.until later.grows in
     let foreign = differs_foreign v.sizes z v.number start end w.front s looks p (row_at s k) (f.collected.rows k low)

@@ -1,15 +1,14 @@
 -- What verify asks of a scan, and what its answers tell.
-use Rattle.std.specs.Prelude.{◌≡◌, ℕ, ◌+◌, ◌<◌, ◌≤◌, Bool, true, false, List, length}
+use Rattle.std.specs.Prelude.{◌≡◌, ℕ, ◌+◌, ◌<◌, Bool, true, false, List, length}
 use Rattle.graph_kinds.specs.Graph.{has}
 use Rattle.graph_kinds.specs.Part.{part}
 use Rattle.core_journal.specs.declared.event.Event.{Event}
 use Rattle.core_journal.specs.Foreign.{IsForeign}
 use Rattle.core_journal.specs.GraphOf.{graph_of}
 use Rattle.core_journal.specs.Prefix.{IsPrefix}
-use Rattle.core_journal.specs.Reuse.{pass_in}
 use Rattle.core_rule.specs.declared.view.View.{View}
 use Rattle.core_scans.specs.Differing.{DiffersNow, HasOtherLink}
-use Rattle.core_scans.specs.Seen.{HasCollected}
+use Rattle.core_scans.specs.Seen.{HasCollected, OnlyLooks}
 use Rattle.core_scans.specs.Walking.{AreRowsSame, IsRowAgain}
 use Rattle.packed_link.specs.Layout.{Sizes}
 use Rattle.scan_record.specs.Asked.{root_of}
@@ -18,13 +17,12 @@ use Rattle.scan_record.specs.ScanGraph.{graph_of_scan}
 use Rattle.tree_scan.specs.declared.again.Verdict.{Verdict}
 use Rattle.tree_scan.specs.declared.again.Verdict.TheVariants.{Same, Differs}
 
--- a scan was filled by a collect that ended at a front, in a pass that was open at an earlier front, where its root was
--- found; the token made no event since that one
+-- a scan was filled by a collect that ended at a front; at an earlier front, where its root was found, the pass was
+-- open, and the token only looked since
 pub record IsFilledScan (v : View) (start end : List Event) (s : ScanValue) : Type 0 where
   pub collected : HasCollected v.sizes v.number start end s
   pub until : IsPrefix end v.front
-  pub opened : (pass_in v.sizes start v.number).is_open ≡ true
-  pub quiet : v.last ≤ length start
+  pub looks : OnlyLooks v.sizes v.number start v.front
 
 -- a scan is complete, its root is in the graph of a front, and its graph is the part of that graph reached from it
 pub record IsPartAt (end : List Event) (s : ScanValue) : Type 0 where

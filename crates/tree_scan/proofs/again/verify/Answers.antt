@@ -21,8 +21,8 @@ loop-row-init c = record {
 
 pub is_row_same-requires-clause-inside : goal.is_row_same-requires-clause-inside
 is_row_same-requires-clause-inside c = subst (λ (z : Sizes). IsInside z c.args.scan.now) c.requires.table.sizes
-    (inside_table c.args.token.now.view c.requires.filled.0 c.requires.filled.1 c.args.scan.now c.requires.table.sound
-    c.requires.number c.vertices-rows.ensures.valid c.requires.filled.2)
+    (inside_table c.args.token.now.view c.requires.filled.0 c.requires.filled.1 c.args.scan.now
+    c.vertices-rows.ensures.valid c.requires.filled.2)
 
 pub returns-then-not-is_row_same-clause-makes : goal.returns-then-not-is_row_same-clause-makes
 returns-then-not-is_row_same-clause-makes c = makes_chain c.args.token.now.view c.loop-row.token.view
