@@ -2,5 +2,7 @@
 #![tactic(auto)]
 
 mod again;
+mod collecting;
 
 pub use again::{Verdict, verify};
+pub use collecting::collect;
