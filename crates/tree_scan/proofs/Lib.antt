@@ -1,1 +1,2 @@
 pub mod RowsAgain
+pub mod EdgesLoaded
