@@ -1,2 +1,3 @@
 pub mod RowsAgain
 pub mod EdgesLoaded
+pub mod TargetsLoaded
