@@ -1,3 +1,4 @@
 pub mod RowsAgain
 pub mod EdgesLoaded
 pub mod TargetsLoaded
+pub mod EdgesRecorded

@@ -117,11 +117,15 @@ fn collect_edge(table: &GraphTable, token: &mut Token, scan: &mut Scan, at: u64)
     ensures stands { (start : List Event) (steps : ℕ) → IsAtEdge token.old.view start scan.old at steps
         → IsAtEdge token.new.view start scan.new result (steps + 1) }
 {
+    prove!(scan.edges() <= scan.nodes());
     let edge = load_edge(table, token, at);
     let link = edge.row.link;
     match aim_of(table, token, scan, edge) {
         Aim::Replaced => {}
-        Aim::Target(target) => scan.push_edge(EdgeRow { target, ..edge.row }),
+        Aim::Target(target) => {
+            prove!(scan.edges() < scan.nodes());
+            scan.push_edge(EdgeRow { target, ..edge.row });
+        }
     }
     link
 }
