@@ -2,3 +2,4 @@ pub mod RowsAgain
 pub mod EdgesLoaded
 pub mod TargetsLoaded
 pub mod EdgesRecorded
+pub mod ListsWalked
