@@ -3,3 +3,4 @@ pub mod EdgesLoaded
 pub mod TargetsLoaded
 pub mod EdgesRecorded
 pub mod ListsWalked
+pub mod RowsCollected
