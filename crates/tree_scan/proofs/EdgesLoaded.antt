@@ -1,7 +1,6 @@
 -- What the words of an edge tell that were loaded one after another.
-use Rattle.std.proofs.Common.{◌≡◌, ℕ, ◌<◌, ◌≤◌, ◌^◌, [], true, Some, None, inl, inr, ⊎_elim, refl, sym, ap, ap₂, ◌∙◌, subst}
-use Rattle.std.proofs.Common.{arith}
-use Rattle.packed_link.specs.Link.{index_of, tag_of, nowhere}
+use Rattle.std.proofs.Common.{◌≡◌, ℕ, ◌<◌, ◌≤◌, ◌^◌, [], true, Some, None, inl, inr, ⊎_elim, sym, ap, ap₂, ◌∙◌, subst}
+use Rattle.packed_link.specs.Link.{index_of, tag_of}
 use Rattle.packed_link.specs.Layout.{IsLayout, Sizes, key_at, link_at, second_at, third_at}
 use Rattle.packed_link.specs.declared.link.Life.{Life}
 use Rattle.core_journal.specs.declared.event.Event.{Event}
@@ -11,7 +10,7 @@ use Rattle.core_kept.proofs.Contents.{contents}
 use Rattle.core_kept.proofs.MetWords.{met_used}
 use Rattle.core_kept.specs.Kept.{IsKept}
 use Rattle.core_rule.specs.Fronts.{MetEdge, key_in}
-use Rattle.core_rule.specs.Plays.{IsSound, Looked}
+use Rattle.core_rule.specs.Plays.{Looked}
 use Rattle.core_rule.specs.Views.{GoesOn, IsEdgeBehind}
 use Rattle.core_rule.specs.declared.view.View.{View}
 use Rattle.core_rule.proofs.ShownTargets.{edge_words_still, target_shown}
@@ -19,11 +18,9 @@ use Rattle.core_rule.proofs.ViewShows.{edge_link_shown, edge_shown, edge_still, 
 use Rattle.core_scans.proofs.FrontsKeepLives.{some_is}
 use Rattle.core_stretches.proofs.MakesAddUp.{makes_look}
 use Rattle.core_stretches.proofs.MakesTell.{makes_goes}
-use Rattle.core_stretches.proofs.WordsLeadOn.{goes_sizes, kept_before}
+use Rattle.core_stretches.proofs.WordsLeadOn.{goes_sizes}
 use Rattle.graph_table.specs.Tokens.{TableValue, TokenValue, IsOf}
-use Rattle.scan_record.specs.declared.rows.EdgeRow.{EdgeRow}
 use Rattle.tree_scan.specs.Collects.{IsEdgeTold, LeadsInside}
-use Rattle.tree_scan.specs.declared.collecting.LoadedEdge.{LoadedEdge}
 
 -- a word was loaded at a later view of the same pass
 pub record HasLoaded (v w : View) (place found : ℕ) : Type 0 where

@@ -1,5 +1,5 @@
 -- One edge of collect: it's recorded with its target, or passed over.
-use Rattle.std.proofs.Common.{◌≡◌, ◌≢◌, ◌⊎◌, inl, inr, ⊎_elim, ℕ, ◌+◌, ◌-◌, ◌<◌, ◌≤◌, List, [], ◌∷◌, All, get_or}
+use Rattle.std.proofs.Common.{◌≡◌, ◌≢◌, ⊎_elim, ℕ, ◌+◌, ◌-◌, ◌<◌, ◌≤◌, List, [], ◌∷◌, All, get_or}
 use Rattle.std.proofs.Common.{Option, Some, length, length-append, take, drop, refl, sym, ap, ◌∙◌, subst, arith}
 use Rattle.std.proofs.Math.ListN.{length-set}
 use Rattle.graph_kinds.specs.History.{Every}
@@ -9,14 +9,12 @@ use Rattle.packed_link.specs.declared.link.Life.{Life}
 use Rattle.core_journal.specs.declared.event.Event.{Event}
 use Rattle.core_journal.specs.Machine.{word_at}
 use Rattle.core_journal.proofs.Lists.{every_map}
-use Rattle.core_kept.specs.Kept.{IsKept, IsQuiet}
 use Rattle.core_rule.specs.Fronts.{key_in}
 use Rattle.core_rule.specs.Views.{GoesOn}
 use Rattle.core_rule.specs.declared.view.View.{View}
-use Rattle.core_rule.proofs.ViewShows.{key_still}
 use Rattle.core_scans.specs.Seen.{IsTargetSeen, OnlyLooks}
 use Rattle.core_scans.specs.Walking.{AreRowsMet, AreRowsReached, IsEdgeLoaded, IsFoundReplaced, IsLonger, IsMore}
-use Rattle.core_scans.specs.Walking.{IsNextEdge, IsWithin, last_row}
+use Rattle.core_scans.specs.Walking.{IsNextEdge, last_row}
 use Rattle.core_scans.proofs.EdgeSteps.{edge_passed, edge_recorded}
 use Rattle.core_scans.proofs.FrontsKeepLives.{every_at, get_at}
 use Rattle.core_scans.proofs.PushesKeepLives.{more_chain, more_edge, more_same, more_vertex}

@@ -1,5 +1,5 @@
 -- The walk of a row's list, edge by edge.
-use Rattle.std.proofs.Common.{◌≡◌, ◌≢◌, ℕ, ◌+◌, ◌<◌, ◌≤◌, true, [], List, refl, ap, ◌∙◌, arith}
+use Rattle.std.proofs.Common.{◌≡◌, ◌≢◌, ℕ, ◌+◌, ◌<◌, true, [], List, refl, ap, ◌∙◌, arith}
 use Rattle.packed_link.specs.Link.{index_of, nowhere}
 use Rattle.packed_link.specs.Layout.{Sizes}
 use Rattle.core_journal.specs.declared.event.Event.{Event}

@@ -1,11 +1,10 @@
 -- Collect begins with its root, goes from row to row, and is at its end when all rows were started.
-use Rattle.std.proofs.Common.{◌≡◌, ℕ, ◌+◌, ◌<◌, ◌≤◌, ◌^◌, true, [], List, Some, length, refl, sym, ap, ◌∙◌, subst}
+use Rattle.std.proofs.Common.{◌≡◌, ℕ, ◌+◌, ◌<◌, ◌≤◌, ◌^◌, [], List, Some, length, refl, sym, ap, ◌∙◌, subst}
 use Rattle.std.proofs.Common.{arith}
 use Rattle.std.proofs.Math.ListN.{length-set}
 use Rattle.packed_link.specs.Layout.{IsLayout, Sizes, key_at, second_at, third_at}
 use Rattle.packed_link.specs.declared.link.Life.{Life}
 use Rattle.core_journal.specs.declared.event.Event.{Event}
-use Rattle.core_journal.specs.GraphOf.{present_key}
 use Rattle.core_journal.specs.Machine.{word_at}
 use Rattle.core_journal.proofs.Lists.{prefix_refl, prefix_trans}
 use Rattle.core_kept.proofs.Contents.{contents}
@@ -16,17 +15,17 @@ use Rattle.core_rule.specs.Views.{GoesOn}
 use Rattle.core_rule.specs.declared.view.View.{View}
 use Rattle.core_rule.proofs.ViewShows.{key_still, vertex_still}
 use Rattle.core_scans.specs.Walking.{AreRowsReached, IsMore}
-use Rattle.core_scans.proofs.PushesKeepLives.{more_chain, more_started, root_key}
+use Rattle.core_scans.proofs.PushesKeepLives.{root_key}
 use Rattle.core_scans.proofs.PushesKeepRows.{reached_started}
 use Rattle.core_scans.proofs.RowSteps.{between_done, between_first, row_started}
 use Rattle.core_stretches.specs.Makes.{Makes}
 use Rattle.core_stretches.proofs.MakesAddUp.{makes_chain}
-use Rattle.core_stretches.proofs.MakesTell.{makes_goes, makes_later}
+use Rattle.core_stretches.proofs.MakesTell.{makes_later}
 use Rattle.core_stretches.proofs.WordsLeadOn.{goes_sizes}
 use Rattle.graph_table.specs.Tokens.{TableValue, TokenValue, IsOf}
 use Rattle.scan_record.specs.Scan.{IsScan, ScanValue, empty_scan, row_at, with_started, with_vertex}
 use Rattle.scan_record.proofs.Starts.{started_row}
-use Rattle.tree_scan.specs.Collects.{IsAtEdge, IsAtRow, IsCollectedFrom, IsGrown, IsRootFound}
+use Rattle.tree_scan.specs.Collects.{IsAtEdge, IsAtRow, IsCollectedFrom, IsRootFound}
 use Rattle.tree_scan.proofs.EdgesLoaded.{HasLoaded}
 use Rattle.tree_scan.proofs.EdgesRecorded.{looks_later}
 

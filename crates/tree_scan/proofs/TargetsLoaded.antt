@@ -1,7 +1,7 @@
 -- What the link of a target tells that was loaded, and what goes on over it.
-use Rattle.std.proofs.Common.{◌≡◌, ◌≢◌, ◌⊎◌, inl, inr, ⊎_elim, ℕ, ◌<◌, ◌-◌, true, [], List, Some, length, sym, ap, ◌∙◌}
+use Rattle.std.proofs.Common.{◌≡◌, ◌≢◌, ◌⊎◌, inl, inr, ⊎_elim, ℕ, ◌<◌, ◌-◌, true, List, Some, length, sym, ap, ◌∙◌}
 use Rattle.std.proofs.Common.{subst, arith}
-use Rattle.packed_link.specs.Link.{index_of, mark_of, tag_of}
+use Rattle.packed_link.specs.Link.{mark_of, tag_of}
 use Rattle.packed_link.specs.Layout.{IsLayout, Sizes, link_at}
 use Rattle.packed_link.specs.declared.link.Life.{Life}
 use Rattle.core_journal.specs.declared.event.Event.{Event}
@@ -12,9 +12,8 @@ use Rattle.core_journal.specs.Prefix.{IsPrefix}
 use Rattle.core_journal.specs.Reuse.{pass_in}
 use Rattle.core_journal.proofs.Lists.{prefix_trans}
 use Rattle.core_kept.specs.Kept.{IsKept}
-use Rattle.core_lists.proofs.LinkTellsPresence.{key_there, over}
+use Rattle.core_lists.proofs.LinkTellsPresence.{over}
 use Rattle.core_rule.specs.Fronts.{MetVertex, key_in}
-use Rattle.core_rule.specs.Plays.{Looked}
 use Rattle.core_rule.specs.Views.{GoesOn}
 use Rattle.core_rule.specs.declared.view.View.{View}
 use Rattle.core_scans.specs.Walking.{AreRowsMet, IsWithin}
@@ -24,10 +23,9 @@ use Rattle.core_scans.proofs.PushesKeepRows.{met_pushed, none_of_index}
 use Rattle.core_scans.proofs.RoomInScan.{room_for_row}
 use Rattle.core_scans.proofs.RowSteps.{met_later}
 use Rattle.core_stretches.proofs.WordsLeadOn.{goes_sizes}
-use Rattle.graph_table.specs.Tokens.{TableValue, TokenValue, IsOf}
 use Rattle.scan_record.specs.Scan.{IsScan, ScanValue, row_at, with_vertex}
 use Rattle.tree_scan.specs.Collects.{IsAtEdge}
-use Rattle.tree_scan.proofs.EdgesLoaded.{HasLoaded, first_loaded}
+use Rattle.tree_scan.proofs.EdgesLoaded.{HasLoaded}
 
 -- the front at which the root was found begins the view's
 pub from_start : (v : View) (start : List Event) (s : ScanValue) (at steps : ℕ) → IsWithin v start s at steps

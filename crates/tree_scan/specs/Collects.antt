@@ -1,5 +1,5 @@
 -- What collect asks of its root, what it leaves, and what it carries from load to load.
-use Rattle.std.specs.Prelude.{◌≡◌, ◌≢◌, ◌⊎◌, ℕ, ◌+◌, ◌<◌, ◌≤◌, Bool, true, false, Option, Some, None, List, length}
+use Rattle.std.specs.Prelude.{◌≡◌, ◌⊎◌, ℕ, ◌<◌, ◌≤◌, Bool, true, false, Option, Some, None, List, length}
 use Rattle.packed_link.specs.Layout.{Sizes}
 use Rattle.packed_link.specs.Link.{index_of}
 use Rattle.packed_link.specs.declared.link.Life.{Life}
@@ -13,7 +13,6 @@ use Rattle.core_rule.specs.declared.view.View.{View}
 use Rattle.core_scans.specs.Seen.{IsTargetSeen, OnlyLooks}
 use Rattle.core_scans.specs.Walking.{AreRowsReached, IsBetween, IsEdgeLoaded, IsFoundReplaced, IsMore, IsWithin}
 use Rattle.scan_record.specs.Asked.{root_of}
-use Rattle.scan_record.specs.declared.rows.EdgeRow.{EdgeRow}
 use Rattle.scan_record.specs.Scan.{IsScan, ScanValue, row_at, with_vertex}
 use Rattle.tree_scan.specs.Verdicts.{IsFilledScan}
 use Rattle.tree_scan.specs.declared.collecting.Aim.{Aim}

@@ -172,7 +172,13 @@ fn leads_to_its_key(table: &GraphTable, token: &mut Token, link: Link, key: u32)
 }
 
 /// The row of a target, which is added where it isn't there; none where that life is over.
-fn target_row(table: &GraphTable, token: &mut Token, scan: &mut Scan, target: Life, key: u32) -> Option<u32>
+fn target_row(
+    table: &GraphTable,
+    token: &mut Token,
+    scan: &mut Scan,
+    target: Life,
+    key: u32,
+) -> Option<u32>
     requires table { IsOf table.now token.old }
     requires number { token.old.view.numbered ≡ true }
     requires stands { IsInRow token.old.view scan.old }

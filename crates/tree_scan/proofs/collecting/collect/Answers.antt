@@ -1,5 +1,5 @@
-use Rattle.std.proofs.Common.{arith, refl, sym, ap, ◌∙◌, ◌≡◌, ◌<◌, ◌≤◌, ◌^◌, [], ℕ, length}
-use Rattle.packed_link.specs.Layout.{Sizes, key_at}
+use Rattle.std.proofs.Common.{arith, refl, ap, ◌∙◌, ◌<◌, ◌^◌, []}
+use Rattle.packed_link.specs.Layout.{key_at}
 use Rattle.core_stretches.proofs.MakesAddUp.{makes_look}
 use Rattle.core_stretches.proofs.MakesTell.{makes_later}
 use Rattle.scan_record.specs.Scan.{ScanValue, with_vertex}

@@ -1,5 +1,4 @@
-use Rattle.std.proofs.Common.{arith, sym, subst, ◌≡◌, ◌<◌, ◌+◌, [], ℕ, length}
-use Rattle.core_rule.specs.declared.view.View.{View}
+use Rattle.std.proofs.Common.{arith, sym, subst, ◌+◌, []}
 use Rattle.core_stretches.proofs.MakesAddUp.{makes_chain}
 use Rattle.scan_record.specs.Scan.{ScanValue}
 use Rattle.tree_scan.specs.Collects.{IsAtEdge, IsGrown}
@@ -28,7 +27,8 @@ prove-unreachable-requires-in-Target c =
     let h = edge_later v u z c.load_edge-edge.ensures.makes c.requires.stands.0 s c.args.at c.requires.stands.1
     c.requires.stands.2 in
     let room = room_pushed u w c.load_edge-edge.ensures.table.layout c.aim_of.ensures.makes s c.args.at
-    c.load_edge-edge.result c.requires.some c.load_edge-edge.ensures.told c.aim_of.new.scan c.in-Target.target c.in-Target.ensures.aim
+    c.load_edge-edge.result c.requires.some c.load_edge-edge.ensures.told c.aim_of.new.scan c.in-Target.target
+    c.in-Target.ensures.aim
     c.requires.stands.0 c.requires.stands.1 h c.edges.ensures.valid in
     omega (arith, room, c.if-prove-2.true, c.edges-in-Target.ensures.count, c.nodes-in-Target.ensures.count)
 
@@ -40,7 +40,8 @@ push_edge-requires-clause-target c =
     let s = c.args.scan.now in
     let z = c.requires.table.layout in
     target_inside u w c.load_edge-edge.ensures.table.layout c.aim_of.ensures.makes s c.args.at
-    c.load_edge-edge.result c.requires.some c.load_edge-edge.ensures.told c.aim_of.new.scan c.in-Target.target c.in-Target.ensures.aim
+    c.load_edge-edge.result c.requires.some c.load_edge-edge.ensures.told c.aim_of.new.scan c.in-Target.target
+    c.in-Target.ensures.aim
 
 pub push_edge-requires-clause-rising : goal.push_edge-requires-clause-rising
 push_edge-requires-clause-rising c =
@@ -52,7 +53,8 @@ push_edge-requires-clause-rising c =
     let h = edge_later v u z c.load_edge-edge.ensures.makes c.requires.stands.0 s c.args.at c.requires.stands.1
     c.requires.stands.2 in
     rising u w c.load_edge-edge.ensures.table.layout c.aim_of.ensures.makes s c.args.at
-    c.load_edge-edge.result c.requires.some c.load_edge-edge.ensures.told c.aim_of.new.scan c.in-Target.target c.in-Target.ensures.aim
+    c.load_edge-edge.result c.requires.some c.load_edge-edge.ensures.told c.aim_of.new.scan c.in-Target.target
+    c.in-Target.ensures.aim
     c.requires.stands.0 c.requires.stands.1 h
 
 pub returns-in-Replaced-clause-makes : goal.returns-in-Replaced-clause-makes
@@ -83,8 +85,10 @@ returns-in-Target-clause-grown c =
     let w = c.aim_of.new.token.view in
     let s = c.args.scan.now in
     let z = c.requires.table.layout in
-    subst (IsGrown s) (sym c.push_edge.ensures.pushed) (grown u w c.load_edge-edge.ensures.table.layout c.aim_of.ensures.makes s c.args.at
-    c.load_edge-edge.result c.requires.some c.load_edge-edge.ensures.told c.aim_of.new.scan c.in-Target.target c.in-Target.ensures.aim
+    subst (IsGrown s) (sym c.push_edge.ensures.pushed) (grown u w c.load_edge-edge.ensures.table.layout
+    c.aim_of.ensures.makes s c.args.at
+    c.load_edge-edge.result c.requires.some c.load_edge-edge.ensures.told c.aim_of.new.scan c.in-Target.target
+    c.in-Target.ensures.aim
     c.edges-in-Target.ensures.valid)
 
 pub returns-in-Target-clause-stands : goal.returns-in-Target-clause-stands
@@ -97,6 +101,8 @@ returns-in-Target-clause-stands c =
     λ start steps h.
     let e = edge_later v u z c.load_edge-edge.ensures.makes start s c.args.at steps h in
     subst (λ (y : ScanValue). IsAtEdge w start y c.load_edge-edge.result.row.link (steps + 1))
-    (sym c.push_edge.ensures.pushed) (recorded u w c.load_edge-edge.ensures.table.layout c.aim_of.ensures.makes s c.args.at
-    c.load_edge-edge.result c.requires.some c.load_edge-edge.ensures.told c.aim_of.new.scan c.in-Target.target c.in-Target.ensures.aim
+    (sym c.push_edge.ensures.pushed) (recorded u w c.load_edge-edge.ensures.table.layout c.aim_of.ensures.makes s
+    c.args.at
+    c.load_edge-edge.result c.requires.some c.load_edge-edge.ensures.told c.aim_of.new.scan c.in-Target.target
+    c.in-Target.ensures.aim
     c.edges-in-Target.ensures.valid start steps e (c.aim_of.ensures.met start c.args.at steps e))

@@ -1,4 +1,4 @@
-use Rattle.std.proofs.Common.{arith, sym, ap, ◌∙◌, ◌≡◌, ◌≢◌, ◌<◌}
+use Rattle.std.proofs.Common.{arith, sym, ap, ◌∙◌, ◌≢◌}
 use Rattle.packed_link.specs.Link.{index_of, nowhere}
 use Rattle.packed_link.specs.Layout.{Sizes}
 use Rattle.tree_scan.proofs.ListsWalked.{walk_done, walk_few, walk_first, walk_has, walk_next}
@@ -12,7 +12,8 @@ pub collect_edge-at-requires-clause-table : goal.collect_edge-at-requires-clause
 collect_edge-at-requires-clause-table c = c.loop-token.invariant.of
 
 pub collect_edge-at-requires-clause-number : goal.collect_edge-at-requires-clause-number
-collect_edge-at-requires-clause-number c = walk_has c.args.table.now c.args.token.now c.args.scan.now c.args.head c.loop-token.token
+collect_edge-at-requires-clause-number c = walk_has c.args.table.now c.args.token.now c.args.scan.now c.args.head
+    c.loop-token.token
     c.loop-token.scan c.loop-token.at c.loop-token.steps
     c.requires.number c.loop-token.invariant
 

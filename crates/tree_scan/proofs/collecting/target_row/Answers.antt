@@ -1,4 +1,4 @@
-use Rattle.std.proofs.Common.{rules, arith, inl, inr, refl, sym, subst, ap, ◌∙◌, ◌≡◌, ◌<◌, Some, None}
+use Rattle.std.proofs.Common.{rules, arith, inl, inr, refl, sym, subst, ap, ◌∙◌, ◌≡◌}
 use Rattle.packed_link.specs.Layout.{Sizes, link_at}
 use Rattle.packed_link.specs.Link.{mark_of, tag_of}
 use Rattle.core_lists.proofs.LinkTellsPresence.{key_there}
@@ -98,7 +98,9 @@ prove-unreachable-requires-in-None c =
     x.index c.link_at.ensures.place c.layout-layout.ensures.sizes c.requires.table.sizes refl) in
     let live : mark_of c.load.result ≡ 0 = search rules in
     let tag : tag_of c.load.result ≡ x.tag = sym c.tag.ensures.tag ∙ c.if-tag-target.false in
-    let room = row_room v w z x c.args.key c.load.result loaded c.requires.linked c.requires.stands.start c.args.scan.now c.requires.stands.at c.requires.stands.steps c.requires.stands.stands tag live c.in-None.ensures.none c.vertices-rows.ensures.valid in
+    let room = row_room v w z x c.args.key c.load.result loaded c.requires.linked c.requires.stands.start
+    c.args.scan.now c.requires.stands.at c.requires.stands.steps c.requires.stands.stands tag live
+    c.in-None.ensures.none c.vertices-rows.ensures.valid in
     omega (arith, room, c.if-prove-2.true, c.vertices-rows.ensures.count, c.nodes-in-None.ensures.count)
 
 pub push_vertex-requires-clause-absent : goal.push_vertex-requires-clause-absent
@@ -114,7 +116,8 @@ push_vertex-requires-clause-absent c =
     x.index c.link_at.ensures.place c.layout-layout.ensures.sizes c.requires.table.sizes refl) in
     let live : mark_of c.load.result ≡ 0 = search rules in
     let tag : tag_of c.load.result ≡ x.tag = sym c.tag.ensures.tag ∙ c.if-tag-target.false in
-    absent v w z x c.args.key c.load.result loaded c.requires.linked c.requires.stands.start c.args.scan.now c.requires.stands.at c.requires.stands.steps c.requires.stands.stands tag live c.in-None.ensures.none
+    absent v w z x c.args.key c.load.result loaded c.requires.linked c.requires.stands.start c.args.scan.now
+    c.requires.stands.at c.requires.stands.steps c.requires.stands.stands tag live c.in-None.ensures.none
 
 pub returns-in-Some-clause-met : goal.returns-in-Some-clause-met
 returns-in-Some-clause-met c =
