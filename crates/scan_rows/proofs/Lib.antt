@@ -1,0 +1,2 @@
+pub mod RootsFound
+pub mod UsesStay
