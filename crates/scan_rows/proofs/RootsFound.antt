@@ -13,11 +13,13 @@ use Rattle.core_rule.specs.Fronts.{key_in}
 use Rattle.core_rule.specs.Plays.{IsSound}
 use Rattle.core_rule.specs.Stretches.{HasPass}
 use Rattle.core_rule.specs.declared.view.View.{View}
+use Rattle.core_rule.proofs.OwnStretch.{goes_opened}
 use Rattle.core_rule.proofs.ViewShows.{key_shown}
 use Rattle.core_scans.specs.Seen.{OnlyLooks}
 use Rattle.core_scans.proofs.FrontsKeepLives.{key_on, some_is}
 use Rattle.core_scans.proofs.OnlyLooking.{looks_by_view, looks_until}
 use Rattle.core_stretches.specs.Makes.{Makes}
+use Rattle.core_stretches.proofs.MakesTell.{makes_goes}
 use Rattle.graph_table.specs.Tokens.{TableValue, TokenValue, IsOf}
 use Rattle.tree_scan.specs.Collects.{IsRootFound}
 use Rattle.tree_scan.proofs.EdgesRecorded.{looks_later}
@@ -61,3 +63,7 @@ root_found g t u key s of of' has opened made h =
         looks = looks_since u.view.sizes u.view.number t.view.front start u.view.front looks since f.there.until;
       };
     }
+
+-- a token that made no event is in its open pass still
+pub pass_on : (v w : View) → Makes v [] w → HasPass v → HasPass w
+pass_on v w made opened = goes_opened v w (makes_goes v w [] tt made) opened

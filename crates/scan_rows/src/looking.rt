@@ -39,6 +39,7 @@ pub fn record(table: &GraphTable, token: &mut Token, key: u32, scan: &mut Scan) 
     ensures table { IsOf table.now token.new }
     ensures makes { Makes token.old.view [] token.new.view }
     ensures room { scan.new.nodes ≡ scan.old.nodes }
+    ensures pass { HasPass token.new.view }
     ensures recorded { IfSome result (λ _. IsRecorded key token.old.view token.new.view scan.new) }
     ensures none { IsNone result → IsNotThere key token.old.view token.new.view }
 {
@@ -51,9 +52,11 @@ pub fn record(table: &GraphTable, token: &mut Token, key: u32, scan: &mut Scan) 
 pub fn check(table: &GraphTable, token: &mut Token, scan: &Scan) -> Verdict
     requires table { IsOf table.now token.old }
     requires number { token.old.view.numbered ≡ true }
+    requires pass { HasPass token.old.view }
     requires filled { IsFilledHere token.old.view scan.now }
     ensures table { IsOf table.now token.new }
     ensures makes { Makes token.old.view [] token.new.view }
+    ensures pass { HasPass token.new.view }
 {
     verify(table, token, scan)
 }
@@ -67,6 +70,7 @@ pub fn look_at(table: &GraphTable, token: &mut Token, key: u32, scan: &mut Scan)
     ensures table { IsOf table.now token.new }
     ensures makes { Makes token.old.view [] token.new.view }
     ensures room { scan.new.nodes ≡ scan.old.nodes }
+    ensures pass { HasPass token.new.view }
     ensures told { IfSome result (λ verdict. IsToldOf key verdict token.old.view token.new.view scan.new) }
     ensures none { IsNone result → IsNotThere key token.old.view token.new.view }
 {

@@ -2,6 +2,7 @@ use Rattle.std.proofs.Common.{[]}
 use Rattle.core_journal.proofs.Lists.{prefix_trans}
 use Rattle.core_stretches.proofs.MakesAddUp.{makes_chain}
 use Rattle.core_stretches.proofs.MakesTell.{makes_later}
+use Rattle.scan_rows.proofs.RootsFound.{pass_on}
 use Rattle.scan_rows.proofs.looking.look_at.Goals as goal
 
 pub returns-clause-makes : goal.returns-clause-makes
@@ -24,3 +25,7 @@ returns-clause-told c =
       root_is = r.collected.key_is;
       verdict_is = c.verify.ensures.verdict r.start u.front f;
     }
+
+pub returns-clause-pass : goal.returns-clause-pass
+returns-clause-pass c = pass_on c.record.new.token.view c.verify.new.token.view c.verify.ensures.makes
+    c.record.ensures.pass

@@ -1,5 +1,6 @@
 use Rattle.std.proofs.Common.{[]}
 use Rattle.core_stretches.proofs.MakesAddUp.{makes_chain}
+use Rattle.scan_rows.proofs.RootsFound.{pass_on}
 use Rattle.scan_rows.proofs.looking.record.Goals as goal
 
 pub returns-clause-makes : goal.returns-clause-makes
@@ -15,3 +16,12 @@ returns-clause-recorded c =
       since = f.since;
       collected = c.collect.ensures.filled f.start c.args.key f.found;
     }
+
+pub returns-clause-pass : goal.returns-clause-pass
+returns-clause-pass c = pass_on c.find_root.new.token.view c.collect.new.token.view c.collect.ensures.makes
+    (pass_on c.args.token.now.view c.find_root.new.token.view c.find_root.ensures.makes
+    c.requires.pass)
+
+pub returns-in_err-root-clause-pass : goal.returns-in_err-root-clause-pass
+returns-in_err-root-clause-pass c = pass_on c.args.token.now.view c.find_root.new.token.view c.find_root.ensures.makes
+    c.requires.pass
