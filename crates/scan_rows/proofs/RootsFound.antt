@@ -1,16 +1,14 @@
 -- A vertex that a walk came to may be a root, and a part that is recorded from it may be verified.
-use Rattle.std.proofs.Common.{◌≡◌, ℕ, ◌≤◌, true, [], List, Some, length, refl, sym, ap, ◌∙◌, subst, arith}
-use Rattle.packed_link.specs.Layout.{IsLayout, Sizes}
-use Rattle.packed_link.specs.declared.link.Life.{Life}
+use Rattle.std.proofs.Common.{◌≡◌, ℕ, true, [], List, Some, length, sym, ap, ◌∙◌, arith}
+use Rattle.packed_link.specs.Layout.{Sizes}
 use Rattle.core_journal.specs.declared.event.Event.{Event}
 use Rattle.core_journal.specs.GraphOf.{present_key}
 use Rattle.core_journal.specs.Prefix.{IsPrefix}
 use Rattle.core_journal.specs.State.{Pass}
-use Rattle.core_journal.proofs.Lists.{prefix_length, prefix_refl, prefix_trans}
+use Rattle.core_journal.proofs.Lists.{prefix_length, prefix_trans}
 use Rattle.core_journal.proofs.LivesOf.{present_is}
 use Rattle.core_kept.proofs.OwnFacts.{pass_stays}
 use Rattle.core_rule.specs.Fronts.{key_in}
-use Rattle.core_rule.specs.Plays.{IsSound}
 use Rattle.core_rule.specs.Stretches.{HasPass}
 use Rattle.core_rule.specs.declared.view.View.{View}
 use Rattle.core_rule.proofs.OwnStretch.{goes_opened}
@@ -21,7 +19,6 @@ use Rattle.core_scans.proofs.OnlyLooking.{looks_by_view, looks_until}
 use Rattle.core_stretches.specs.Makes.{Makes}
 use Rattle.core_stretches.proofs.MakesTell.{makes_goes}
 use Rattle.graph_table.specs.Tokens.{TableValue, TokenValue, IsOf}
-use Rattle.tree_scan.specs.Collects.{IsRootFound}
 use Rattle.tree_scan.proofs.EdgesRecorded.{looks_later}
 use Rattle.vertex_calls.specs.Causes.{IsWalked}
 use Rattle.vertex_list.specs.declared.walks.Found.TheVariants.{Here}

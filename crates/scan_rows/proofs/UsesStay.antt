@@ -1,5 +1,5 @@
 -- A token that made no event, or opened its pass, has used as much as before.
-use Rattle.std.proofs.Common.{◌≡◌, ℕ, [], ◌∷◌, List, arith}
+use Rattle.std.proofs.Common.{◌≡◌, List, arith}
 use Rattle.core_journal.specs.declared.event.Event.{Event}
 use Rattle.core_journal.specs.Event.{moves, pops, raises}
 use Rattle.core_rule.specs.declared.view.View.{View}

@@ -37,12 +37,7 @@ fn build(rt: &impl Abort, table: &GraphTable, token: &mut Token)
 }
 
 /// The scan has rows of these keys, and edges of these keys, weights and targets.
-fn expect_rows(
-    rt: &impl Abort,
-    scan: &Scan,
-    keys: &[u32],
-    edges: &[(u32, u32, Option<u32>)],
-) {
+fn expect_rows(rt: &impl Abort, scan: &Scan, keys: &[u32], edges: &[(u32, u32, Option<u32>)]) {
     let mut row = 0;
     for key in keys {
         assert!(rt; row < scan.vertices());
@@ -69,7 +64,10 @@ fn the_part_of_a_root_is_recorded_and_found_the_same(rt: HostRuntime) {
     build(&rt, &table, &mut token);
     let mut scan = Scan::new(rt.alloc(), 16).expect(&rt, "memory");
     assert_eq!(rt; look_at(&table, &mut token, 5, &mut scan), None);
-    assert_eq!(rt; look_at(&table, &mut token, 1, &mut scan), Some(Verdict::Same));
+    assert_eq!(rt;
+        look_at(&table, &mut token, 1, &mut scan),
+        Some(Verdict::Same)
+    );
     expect_rows(
         &rt,
         &scan,
@@ -93,25 +91,21 @@ fn an_edge_to_a_removed_vertex_has_no_target(rt: HostRuntime) {
     build(&rt, &table, &mut token);
     let _spent = remove(&table, &mut token, 3).expect(&rt, "removed");
     let mut scan = Scan::new(rt.alloc(), 16).expect(&rt, "memory");
-    assert_eq!(rt; look_at(&table, &mut token, 1, &mut scan), Some(Verdict::Same));
+    assert_eq!(rt;
+        look_at(&table, &mut token, 1, &mut scan),
+        Some(Verdict::Same)
+    );
     expect_rows(
         &rt,
         &scan,
         &[1, 2],
-        &[
-            (1, 9, Some(0)),
-            (2, 8, Some(1)),
-            (3, 7, None),
-            (3, 5, None),
-        ],
+        &[(1, 9, Some(0)), (2, 8, Some(1)), (3, 7, None), (3, 5, None)],
     );
 }
 
 #[test]
 fn a_replaced_edge_differs_and_is_passed_over_then(rt: HostRuntime) {
-    let (table, mut one) = GraphTable::new(rt.alloc(), Layout::new(3, 16, 1)).expect(
-        &rt, "memory",
-    );
+    let (table, mut one) = GraphTable::new(rt.alloc(), Layout::new(3, 16, 1)).expect(&rt, "memory");
     enter(&table, &mut one);
     let mut two = split_off(&table, &mut one);
     join_in(&table, &mut one);
@@ -126,7 +120,10 @@ fn a_replaced_edge_differs_and_is_passed_over_then(rt: HostRuntime) {
     assert_eq!(rt; check(&table, &mut three, &scan), Verdict::Differs(0));
     // The marked edge from 1 to 2 stays on the list, and so does the old one from 1 to 3.
     mark_edge(&table, &mut one, 1, 2).expect(&rt, "edge from 1 to 2");
-    assert_eq!(rt; look_at(&table, &mut three, 1, &mut scan), Some(Verdict::Same));
+    assert_eq!(rt;
+        look_at(&table, &mut three, 1, &mut scan),
+        Some(Verdict::Same)
+    );
     expect_rows(
         &rt,
         &scan,
