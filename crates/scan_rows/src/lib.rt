@@ -1,8 +1,8 @@
 //! Worked rows over the scan of the shared table: a part is recorded and verified, beside callers that mark and replace
 //! its edges.
 //!
-//! Each function meets the conditions of the next one, so they show that the conditions of `collect` and `verify` can be
-//! met. Nothing stands on this crate.
+//! Each function meets the conditions of the next one, so they show that the conditions of `collect` and `verify` can
+//! be met. Nothing stands on this crate.
 #![tactic(auto)]
 
 mod changing;
