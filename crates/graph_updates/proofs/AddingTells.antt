@@ -1,5 +1,5 @@
 -- What placing a node tells: where it comes from, that it's filled for its position, and what linking it came to.
-use Rattle.std.proofs.Common.{◌≡◌, ◌≢◌, ℕ, ◌+◌, ◌<◌, ◌≤◌, true, false, [], ◌∷◌, ◌++◌, length, None, Some}
+use Rattle.std.proofs.Common.{◌≡◌, ◌≢◌, ℕ, ◌+◌, ◌<◌, ◌≤◌, true, false, List, [], ◌∷◌, ◌++◌, length, None, Some}
 use Rattle.std.proofs.Common.{Option, inl, inr, refl, ap, subst, arith, ⊎_elim}
 use Rattle.packed_link.specs.Layout.{IsLayout, bucket_at, free_at}
 use Rattle.packed_link.specs.declared.link.Life.{Life}
@@ -9,6 +9,7 @@ use Rattle.core_journal.specs.Event.{pops}
 use Rattle.core_journal.specs.Prefix.{IsPrefix}
 use Rattle.core_journal.proofs.ForeignAddsUp.{adds_up}
 use Rattle.core_journal.proofs.Lists.{prefix_length}
+use Rattle.core_lists.specs.Changed.{IsChangedByAnother}
 use Rattle.core_lists.proofs.ChangedByAnother.{change_counts}
 use Rattle.core_rule.specs.Fronts.{IsVertexLink}
 use Rattle.core_rule.specs.OwnEvents.{link_vertex_event, pop_event}
@@ -100,26 +101,31 @@ linked_is v u w x p m first l moment = record {
   none = l.none;
 }
 
--- or it's handed back
-pub link_lost : (v u w : View) (x : Life) (p : PositionValue) → IsLayout u.sizes → Readies 0 v u → IsHeldFresh u x
-    → IsLost p u w → IsPlaceLost p.moment (Some x) v w (Some x)
-link_lost v u w x p z first held lost =
-    let later = makes_later u w [] lost.makes in
+-- or it's handed back: another caller changed a place since a moment
+pub place_lost : (v u w : View) (x : Life) (moment : List Event) (place : ℕ) → IsLayout u.sizes → Readies 0 v u
+    → IsHeldFresh u x → Makes u [] w → IsChangedByAnother moment w.front w.number place
+    → IsPlaceLost moment (Some x) v w (Some x)
+place_lost v u w x moment place z first held makes changed =
+    let later = makes_later u w [] makes in
     let t = first.takes in
-    let held_w : IsHeldFresh w x = spare_goes u w [] z lost.makes tt (Some x) held in
+    let held_w : IsHeldFresh w x = spare_goes u w [] z makes tt (Some x) held in
     record {
       taken = 0;
       first = record {
         own = first.own ++ [];
         are = every_both (λ (e : Event). IsReadying e.kind) first.own [] first.are tt;
-        makes = makes_chain v u w first.own [] first.makes lost.makes;
+        makes = makes_chain v u w first.own [] first.makes makes;
         takes = let s = kinds_both pops first.own [] in omega (arith, s, t);
       };
       spares = omega arith;
       held = held_w;
       other = only_fresh w x later.kept held_w;
-      fell = record { least = change_counts p.moment w.front w.number p.place lost.changed };
+      fell = record { least = change_counts moment w.front w.number place changed };
     }
+
+pub link_lost : (v u w : View) (x : Life) (p : PositionValue) → IsLayout u.sizes → Readies 0 v u → IsHeldFresh u x
+    → IsLost p u w → IsPlaceLost p.moment (Some x) v w (Some x)
+link_lost v u w x p z first held lost = place_lost v u w x p.moment p.place z first held lost.makes lost.changed
 
 -- one stretch that readies behind another
 pub readies_chain : (a b : ℕ) (u v w : View) → Readies a u v → Readies b v w → Readies (a + b) u w

@@ -9,7 +9,7 @@ use Rattle.core_journal.specs.Changes.{is_idle}
 use Rattle.core_journal.specs.Event.{moves, raises, unlinks}
 use Rattle.core_rule.specs.Stretches.{HasPass}
 use Rattle.core_rule.specs.declared.view.View.{View}
-use Rattle.core_stretches.specs.Makes.{IsGraphless, Makes, StaysInPass}
+use Rattle.core_stretches.specs.Makes.{IsGraphless, Makes, StaysInPass, of_kinds}
 use Rattle.core_stretches.proofs.MakesTell.{makes_leaves}
 use Rattle.core_stretches.proofs.MakesAddUp.{makes_chain}
 use Rattle.graph_table.specs.Tokens.{IsOf, TableValue, TokenValue}
@@ -67,6 +67,11 @@ readies_calm a v w r = every_map (λ (e : Event). IsReadying e.kind) IsCalm read
 pub readies_stays : (a : ℕ) (v w : View) → (r : Readies a v w) → Every StaysInPass r.own
 readies_stays a v w r = every_map (λ (e : Event). IsReadying e.kind) StaysInPass ready_stays r.own r.are
 
+-- and raises nothing
+pub readies_quiet : (a : ℕ) (v w : View) → (r : Readies a v w) → of_kinds raises r.own ≡ 0
+readies_quiet a v w r = no_kinds raises r.own (each_kind IsReadying (λ k. raises k ≡ false)
+    (λ k h. ⊎_elim (λ is. ap raises is) (λ is. ap raises is) h) r.own r.are)
+
 -- and leaves the graph
 pub readies_leave : (a : ℕ) (v w : View) → Readies a v w → LeavesGraph false a 0 v w
 readies_leave a v w r = record {
@@ -77,8 +82,7 @@ readies_leave a v w r = record {
   takes = r.takes;
   shifts = let n = no_kinds moves r.own (each_kind IsReadying (λ k. moves k ≡ false)
       (λ k h. ⊎_elim (λ is. ap moves is) (λ is. ap moves is) h) r.own r.are) in omega (arith, n);
-  raised = λ _. no_kinds raises r.own (each_kind IsReadying (λ k. raises k ≡ false)
-      (λ k h. ⊎_elim (λ is. ap raises is) (λ is. ap raises is) h) r.own r.are);
+  raised = λ _. readies_quiet a v w r;
 }
 
 -- all own events of placing a node that was linked

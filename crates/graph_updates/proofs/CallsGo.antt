@@ -283,6 +283,19 @@ module _ (r : Bool) (a : ℕ) (u v w x : View) (few : a ≤ 1) (o : IsOpened u v
     };
   }
 
+  pub due_for_full : (call : Call) (at then : List Event) → HoldsBetween v.front w.front (NeedsNode call) at
+      → HoldsBetween v.front w.front (NoneFree v.sizes) then → IsDueForFull call u x at
+  due_for_full call at then needs empty = record {
+    stretch = whole_leaves r a u v w x few o h f;
+    needs = between_wide (NeedsNode call) (NeedsNode call) u.front v.front w.front x.front at (λ j p. p) starts stops
+        needs;
+    then = then;
+    empty = subst (λ (s : Sizes). HoldsBetween u.front x.front (NoneFree s) then)
+        (makes_later u v (announce_event u o.epoch ∷ []) o.makes).sizes
+        (between_wide (NoneFree v.sizes) (NoneFree v.sizes) u.front v.front w.front x.front then (λ j p. p) starts
+        stops empty);
+  }
+
   pub due_at_mark : (call : Call) (outcome : Outcome) (key : ℕ) (y : Life) (at : List Event)
       → HoldsBetween v.front w.front (Has key y) at → vertex_marked w.front y ≡ true
       → ((journal : List Event) → has (graph_of journal) key ≡ false → GivesAnswer call outcome journal)

@@ -56,7 +56,7 @@ pub record KeepsHand (v w : View) : Type 0 where
   pub plain : Every (λ (e : Event). is_of_fresh e.kind ≡ false) own
   pub none : Every (λ (e : Event). e.kind ≢ PopFree) own
 
-keeps_chain : (u v w : View) → KeepsHand u v → KeepsHand v w → KeepsHand u w
+pub keeps_chain : (u v w : View) → KeepsHand u v → KeepsHand v w → KeepsHand u w
 keeps_chain u v w g h = record {
   own = g.own ++ h.own;
   makes = makes_chain u v w g.own h.own g.makes h.makes;
@@ -96,7 +96,7 @@ raise_keeps v t source edge r k = record {
 }
 
 -- and so is a mark
-mark_keeps : (m : EdgeMarked) (r : RaisedValue) (t u : View) → MatchEdgeMarked m r t u → KeepsHand t u
+pub mark_keeps : (m : EdgeMarked) (r : RaisedValue) (t u : View) → MatchEdgeMarked m r t u → KeepsHand t u
 mark_keeps Won r t u h = record {
   own = mark_edge_event t r.edge.life h.found ∷ [];
   makes = h.makes;
@@ -113,7 +113,7 @@ pub marking_keeps : (m : EdgeMarked) (source : Life) (edge : Edge) (r : RaisedVa
 marking_keeps m source edge r v t u k h = keeps_chain v t u (raise_keeps v t source edge r k) (mark_keeps m r t u h)
 
 -- the edge is marked by then
-won_marked : (r : RaisedValue) (t u : View) → IsEdgeMarked r t u → edge_marked u.front r.edge.life ≡ true
+pub won_marked : (r : RaisedValue) (t u : View) → IsEdgeMarked r t u → edge_marked u.front r.edge.life ≡ true
 won_marked r t u h =
     let e = mark_edge_event t r.edge.life h.found in
     let past = h.carries.past in
@@ -134,7 +134,7 @@ marked_then Was r t u h = h.marked
 marked_then Replaced r t u h = h.marked
 
 -- no raise follows
-mark_raises : (m : EdgeMarked) (r : RaisedValue) (t u : View) → MatchEdgeMarked m r t u
+pub mark_raises : (m : EdgeMarked) (r : RaisedValue) (t u : View) → MatchEdgeMarked m r t u
     → (more : List Event) × (Makes t more u × (of_kinds raises more ≡ 0))
 mark_raises Won r t u h = (mark_edge_event t r.edge.life h.found ∷ [], (h.makes, refl))
 mark_raises Was r t u h = ([], (h.makes, refl))

@@ -18,10 +18,13 @@ use Rattle.edge_list.specs.EdgeMarks.{RaisedValue}
 use Rattle.graph_updates.specs.EdgeRaises.{HasRaised, RaisesKept}
 use Rattle.graph_updates.specs.Exchanges.{ExchangesOn, IsCallOn, IsOvertakenOn}
 use Rattle.graph_updates.specs.Hands.{HandValue, IsInOrder}
-use Rattle.graph_updates.specs.Parts.{LeavesGraph, RaisesDone}
+use Rattle.graph_updates.specs.Parts.{LeavesGraph, RaisesDone, may_take}
 use Rattle.graph_updates.specs.Replying.{IsDueOvertaken}
 use Rattle.graph_updates.specs.declared.pairs.Ends.{Ends}
-use Rattle.graph_kinds.specs.declared.call.Call.TheVariants.{RemoveEdge}
+use Rattle.graph_kinds.specs.declared.call.Call.TheVariants.{AddEdge, RemoveEdge}
+use Rattle.graph_updates.specs.EdgeAdding.{MatchEdgeAdding}
+use Rattle.graph_updates.specs.declared.edge_adding.EdgeAdding.{EdgeAdding}
+use Rattle.graph_updates.specs.declared.edge_adding.EdgeAdding.TheVariants as adding
 use Rattle.graph_updates.specs.EdgeRemoving.{MatchEdgeRemoving}
 use Rattle.graph_updates.specs.declared.edge_removing.EdgeRemoving.{EdgeRemoving}
 use Rattle.graph_updates.specs.declared.edge_removing.EdgeRemoving.TheVariants as removing
@@ -128,3 +131,25 @@ unpairing_moves old begun now o few opened (removing.Lacks l) a b tries h = may_
     true h.0.taken now.token.view h.0.stretch
 unpairing_moves old begun now o few opened removing.Again a b tries h = may_move old begun.token.view o few opened true
     h.0.taken now.token.view h.0.stretch
+
+-- and after adding one
+pub pairing_moves : (old begun now : HandValue) → IsInOrder old → old.uses < 2 ^ 32
+    → IsOpened old.token.view begun.token.view → (r : EdgeAdding) (a b weight tries : ℕ)
+    → MatchEdgeAdding r a b weight tries begun now
+    → made moves now.token.view.number now.token.view.front < most_moves
+pairing_moves old begun now o few opened (adding.Done outcome m) a b weight tries h = may_move_carried old
+    begun.token.view o few opened true (AddEdge a b weight) (may_take begun.spare) now.token.view m.value.view.front
+    h.carries
+pairing_moves old begun now o few opened (adding.Overtaken ends m) a b weight tries h = may_move_exchanged old
+    begun.token.view o few opened (AddEdge a b weight) a b (may_take begun.spare) ends.from ends.to now.token.view
+    m.value.view.front h.on.exchange
+pairing_moves old begun now o few opened (adding.Present s) a b weight tries h = may_move old begun.token.view o few
+    opened true h.0.taken now.token.view h.0.stretch
+pairing_moves old begun now o few opened (adding.Lacks l) a b weight tries h = may_move old begun.token.view o few
+    opened true h.0.taken now.token.view h.0.stretch
+pairing_moves old begun now o few opened (adding.FullAtGap q) a b weight tries h = may_move old begun.token.view o few
+    opened true h.on.taken now.token.view h.on.stretch
+pairing_moves old begun now o few opened (adding.FullAtEdge s) a b weight tries h = may_move old begun.token.view o few
+    opened true h.on.taken now.token.view h.on.stretch
+pairing_moves old begun now o few opened adding.Again a b weight tries h = may_move old begun.token.view o few opened
+    true h.0.taken now.token.view h.0.stretch

@@ -5,8 +5,13 @@ pub mod BurialLists
 pub mod BurialSteps
 pub mod CallsEnd
 pub mod CallsGo
+pub mod EdgeAddingAddsUp
+pub mod EdgeChangingTells
+pub mod EdgeLinkingTells
 pub mod EdgeMarkingTells
+pub mod EdgeRaisesTell
 pub mod EdgeRemovingTells
+pub mod EdgeReplacingTells
 pub mod EdgeSeekingSteps
 pub mod EndingTells
 pub mod EndsTell
@@ -20,6 +25,7 @@ pub mod LocatingTells
 pub mod LookingTells
 pub mod MarkPlaces
 pub mod NewHands
+pub mod NodesReady
 pub mod Overtaking
 pub mod OwnChanges
 pub mod PairAnswers

@@ -1,14 +1,15 @@
 -- What the calls on a pair are answered, by what the graph has or lacks of it.
 use Rattle.std.proofs.Common.{◌≡◌, ◌⊎◌, ℕ, ◌^◌, ◌<◌, ◌≤◌, ◌&&◌, Bool, true, false, cond, List, [], ◌∷◌, Option, sym, ap}
-use Rattle.std.proofs.Common.{ap₂, ◌∙◌}
+use Rattle.std.proofs.Common.{ap₂, ◌∙◌, arith, ◌==◌}
 use Rattle.std.proofs.Common.{⊎_elim, refl}
-use Rattle.graph_kinds.specs.Answer.{alters, answer, by_weight, is_change, on_keys, plain}
+use Rattle.graph_kinds.specs.Answer.{alters, answer, by_weight, is_change, on_keys, plain, there_with}
 use Rattle.graph_kinds.specs.Graph.{Graph, has, weight_of}
 use Rattle.graph_kinds.specs.declared.answer.Answer.{Answer}
 use Rattle.graph_kinds.specs.declared.call.Call.{Call}
-use Rattle.graph_kinds.specs.declared.call.Call.TheVariants.{HasEdge, RemoveEdge}
+use Rattle.graph_kinds.specs.declared.call.Call.TheVariants.{AddEdge, HasEdge, RemoveEdge}
 use Rattle.graph_kinds.specs.declared.outcome.Outcome.{Outcome}
-use Rattle.graph_kinds.specs.declared.outcome.Outcome.TheVariants.{Edge, NoEdge, NoVertex, Removed}
+use Rattle.graph_kinds.specs.declared.outcome.Outcome.TheVariants.{Added, Changed, Edge, NoEdge, NoVertex, Present}
+use Rattle.graph_kinds.specs.declared.outcome.Outcome.TheVariants.{Removed}
 use Rattle.core_journal.specs.declared.event.Event.{Event}
 use Rattle.core_journal.specs.Event.{moves}
 use Rattle.core_journal.specs.GraphOf.{graph_of}
@@ -61,6 +62,34 @@ gives_edge a b weight journal h =
     gives_by (HasEdge a b) (Edge weight) journal
     (keys_both g a b (by_weight (weight_of g a b) Edge NoEdge) h.from h.to
     ∙ ap (λ (o : Option ℕ). by_weight o Edge NoEdge) h.weight_is) cc
+
+same_weight : (n : ℕ) → (n == n) ≡ true
+same_weight n = grind arith
+
+-- adding one that the graph has with this weight
+pub gives_present : (a b weight : ℕ) (journal : List Event) → HasPair a b weight journal
+    → GivesAnswer (AddEdge a b weight) (Present weight) journal
+unfolding answer
+gives_present a b weight journal h =
+    let g = graph_of journal in
+    gives_by (AddEdge a b weight) (Present weight) journal
+    (keys_both g a b (by_weight (weight_of g a b) (there_with weight) Added) h.from h.to
+    ∙ (ap (λ (o : Option ℕ). by_weight o (there_with weight) Added) h.weight_is
+    ∙ ap (λ (c : Bool). plain (cond c (Present weight) (Changed weight))) (same_weight weight))) cc
+
+-- or one of which it lacks a key
+pub add_lacking : (a b weight : ℕ) (journal : List Event) (l : Lack) → lack_outcome l ≡ NoVertex → LacksBy l a b journal
+    → GivesAnswer (AddEdge a b weight) (lack_outcome l) journal
+unfolding answer
+add_lacking a b weight journal (lacks.Key q) none h = gives_by (AddEdge a b weight) NoVertex journal
+    (keys_missing (graph_of journal) a b (by_weight (weight_of (graph_of journal) a b) (there_with weight) Added)
+    h.missing) cc
+add_lacking a b weight journal (lacks.Vertex x) none h = gives_by (AddEdge a b weight) NoVertex journal
+    (keys_missing (graph_of journal) a b (by_weight (weight_of (graph_of journal) a b) (there_with weight) Added)
+    h.missing) cc
+add_lacking a b weight journal (lacks.Edge q) none h = absurd (cc)
+add_lacking a b weight journal (lacks.Stale s) none h = absurd (cc)
+add_lacking a b weight journal (lacks.Marked x) none h = absurd (cc)
 
 -- a pair of which the graph lacks a key, and one that it lacks
 module _ (a b : ℕ) (journal : List Event) where

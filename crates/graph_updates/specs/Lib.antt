@@ -1,6 +1,9 @@
 pub mod Adding
 pub mod Burying
 pub mod Calls
+pub mod EdgeAdding
+pub mod EdgeChanging
+pub mod EdgeLinking
 pub mod EdgeLocating
 pub mod EdgeLooking
 pub mod EdgeRaises

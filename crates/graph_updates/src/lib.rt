@@ -7,6 +7,8 @@
 mod adding;
 mod burying;
 mod calls;
+mod edge_adding;
+mod edge_linking;
 mod edge_locating;
 mod edge_looking;
 mod edge_removing;
@@ -33,4 +35,4 @@ pub use laws::{
 };
 pub use locating::{Located, Sought, locate, seek};
 pub use opening::{HandCause, HandRefused};
-pub use pair_calls::{has_edge, remove_edge};
+pub use pair_calls::{add_edge, has_edge, remove_edge};
