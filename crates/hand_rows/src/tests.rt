@@ -7,8 +7,8 @@ use crate::{
 use graph_kinds::Outcome;
 use graph_table::GraphTable;
 use graph_updates::{
-    Begun, Hand, HandCause, Settled, add_vertex, begin, finish, has_edge, has_vertex, remove_edge,
-    remove_vertex, settle,
+    Begun, Hand, HandCause, Settled, add_edge, add_vertex, begin, finish, has_edge, has_vertex,
+    remove_edge, remove_vertex, settle,
 };
 use packed_link::Layout;
 use vertex_list::{Found, Linked};
@@ -49,6 +49,129 @@ fn a_pair_is_looked_up_by_both_its_keys(rt: HostRuntime) {
     assert_eq!(rt; remove_vertex(&table, &mut hand, 5, 1), Outcome::Removed(0));
     assert_eq!(rt; has_edge(&table, &mut hand, 5, 6, 1), Outcome::NoVertex);
     assert_eq!(rt; hand.uses(), 13);
+}
+
+#[test]
+fn an_edge_is_added_changed_and_removed(rt: HostRuntime) {
+    let (table, token) = GraphTable::new(rt.alloc(), Layout::new(1, 8, 1)).expect(&rt, "memory");
+    let Ok(mut hand) = Hand::new(rt.alloc(), &table, token) else {
+        panic!(rt; "a hand")
+    };
+    assert_eq!(rt; add_edge(&table, &mut hand, 1, 2, 5, 1), Outcome::NoVertex);
+    assert_eq!(rt; add_vertex(&table, &mut hand, 2, 1), Outcome::Added);
+    assert_eq!(rt; add_edge(&table, &mut hand, 1, 2, 5, 1), Outcome::NoVertex);
+    assert_eq!(rt; add_edge(&table, &mut hand, 2, 1, 5, 1), Outcome::NoVertex);
+    assert_eq!(rt; add_vertex(&table, &mut hand, 1, 1), Outcome::Added);
+    assert_eq!(rt; add_edge(&table, &mut hand, 1, 2, 5, 1), Outcome::Added);
+    assert_eq!(rt; has_edge(&table, &mut hand, 1, 2, 1), Outcome::Edge(5));
+    assert_eq!(rt; has_edge(&table, &mut hand, 2, 1, 1), Outcome::NoEdge);
+    assert_eq!(rt;
+        add_edge(&table, &mut hand, 1, 2, 5, 1),
+        Outcome::Present(5)
+    );
+    assert_eq!(rt;
+        add_edge(&table, &mut hand, 1, 2, 6, 1),
+        Outcome::Changed(5)
+    );
+    assert_eq!(rt; has_edge(&table, &mut hand, 1, 2, 1), Outcome::Edge(6));
+    assert_eq!(rt;
+        add_edge(&table, &mut hand, 1, 1, 4294967295, 1),
+        Outcome::Added
+    );
+    assert_eq!(rt;
+        has_edge(&table, &mut hand, 1, 1, 1),
+        Outcome::Edge(4294967295)
+    );
+    assert_eq!(rt;
+        remove_edge(&table, &mut hand, 1, 2, 1),
+        Outcome::Removed(6)
+    );
+    assert_eq!(rt; remove_edge(&table, &mut hand, 1, 2, 1), Outcome::NoEdge);
+    assert_eq!(rt; has_edge(&table, &mut hand, 1, 2, 1), Outcome::NoEdge);
+    assert_eq!(rt; add_edge(&table, &mut hand, 1, 2, 7, 1), Outcome::Added);
+    assert_eq!(rt; has_edge(&table, &mut hand, 1, 2, 1), Outcome::Edge(7));
+}
+
+// Rows 6 and 7: an edge to a removed vertex is no edge to its key's next life, and gives way to one.
+#[test]
+fn an_edge_to_an_earlier_life_of_its_key_gives_way(rt: HostRuntime) {
+    let (table, token) = GraphTable::new(rt.alloc(), Layout::new(1, 16, 1)).expect(&rt, "memory");
+    let Ok(mut hand) = Hand::new(rt.alloc(), &table, token) else {
+        panic!(rt; "a hand")
+    };
+    assert_eq!(rt; add_vertex(&table, &mut hand, 1, 1), Outcome::Added);
+    assert_eq!(rt; add_vertex(&table, &mut hand, 2, 1), Outcome::Added);
+    assert_eq!(rt; add_vertex(&table, &mut hand, 3, 1), Outcome::Added);
+    assert_eq!(rt; add_edge(&table, &mut hand, 1, 2, 5, 1), Outcome::Added);
+    assert_eq!(rt; add_edge(&table, &mut hand, 2, 3, 6, 1), Outcome::Added);
+    assert_eq!(rt; remove_vertex(&table, &mut hand, 2, 1), Outcome::Removed(0));
+    assert_eq!(rt; has_edge(&table, &mut hand, 1, 2, 1), Outcome::NoVertex);
+    assert_eq!(rt; add_vertex(&table, &mut hand, 2, 1), Outcome::Added);
+    assert_eq!(rt; has_edge(&table, &mut hand, 1, 2, 1), Outcome::NoEdge);
+    assert_eq!(rt; has_edge(&table, &mut hand, 2, 3, 1), Outcome::NoEdge);
+    assert_eq!(rt; add_edge(&table, &mut hand, 1, 2, 8, 1), Outcome::Added);
+    assert_eq!(rt; has_edge(&table, &mut hand, 1, 2, 1), Outcome::Edge(8));
+    assert_eq!(rt;
+        add_edge(&table, &mut hand, 1, 2, 9, 1),
+        Outcome::Changed(8)
+    );
+    assert_eq!(rt;
+        remove_edge(&table, &mut hand, 1, 2, 1),
+        Outcome::Removed(9)
+    );
+    assert_eq!(rt; remove_edge(&table, &mut hand, 1, 2, 1), Outcome::NoEdge);
+}
+
+#[test]
+fn a_full_table_answers_full_where_an_edge_needs_a_node(rt: HostRuntime) {
+    let (table, token) = GraphTable::new(rt.alloc(), Layout::new(1, 3, 1)).expect(&rt, "memory");
+    let Ok(mut hand) = Hand::new(rt.alloc(), &table, token) else {
+        panic!(rt; "a hand")
+    };
+    assert_eq!(rt; add_vertex(&table, &mut hand, 1, 1), Outcome::Added);
+    assert_eq!(rt; add_vertex(&table, &mut hand, 2, 1), Outcome::Added);
+    assert_eq!(rt; add_edge(&table, &mut hand, 1, 2, 5, 1), Outcome::Added);
+    assert_eq!(rt; add_edge(&table, &mut hand, 1, 2, 6, 1), Outcome::Full);
+    assert_eq!(rt;
+        add_edge(&table, &mut hand, 1, 2, 5, 1),
+        Outcome::Present(5)
+    );
+    assert_eq!(rt; add_edge(&table, &mut hand, 2, 1, 5, 1), Outcome::Full);
+    assert_eq!(rt; add_edge(&table, &mut hand, 2, 3, 5, 1), Outcome::NoVertex);
+    assert_eq!(rt; has_edge(&table, &mut hand, 1, 2, 1), Outcome::Edge(5));
+}
+
+// Two nodes more than vertices and edges are enough to change a weight again and again.
+#[test]
+fn a_replaced_edge_gives_its_node_back(rt: HostRuntime) {
+    let (table, token) = GraphTable::new(rt.alloc(), Layout::new(1, 5, 1)).expect(&rt, "memory");
+    let Ok(mut hand) = Hand::new(rt.alloc(), &table, token) else {
+        panic!(rt; "a hand")
+    };
+    assert_eq!(rt; add_vertex(&table, &mut hand, 1, 1), Outcome::Added);
+    assert_eq!(rt; add_vertex(&table, &mut hand, 2, 1), Outcome::Added);
+    assert_eq!(rt; add_edge(&table, &mut hand, 1, 2, 5, 1), Outcome::Added);
+    assert_eq!(rt;
+        add_edge(&table, &mut hand, 1, 2, 6, 1),
+        Outcome::Changed(5)
+    );
+    assert_eq!(rt;
+        add_edge(&table, &mut hand, 1, 2, 5, 1),
+        Outcome::Changed(6)
+    );
+    assert_eq!(rt;
+        add_edge(&table, &mut hand, 1, 2, 6, 1),
+        Outcome::Changed(5)
+    );
+    assert_eq!(rt;
+        add_edge(&table, &mut hand, 1, 2, 5, 1),
+        Outcome::Changed(6)
+    );
+    assert_eq!(rt;
+        add_edge(&table, &mut hand, 1, 2, 6, 1),
+        Outcome::Changed(5)
+    );
+    assert_eq!(rt; has_edge(&table, &mut hand, 1, 2, 1), Outcome::Edge(6));
 }
 
 #[test]
